@@ -1,0 +1,80 @@
+-- Laws of buffers: a copy in progress, a part that is lent on and comes back, one write behind another.
+use Prim.Native.Nat.{ℕ, _+_, _-_, _<_, _≤_}
+use mathlib.Core.Path.{_≡_, refl, sym, ap, _∙_}
+use mathlib.Core.List.{List, [], _∷_, _++_, append-assoc, append-nil}
+use native.Mathlib.Omega.{arith}
+use native.Mathlib.Numerals.{add-one}
+use native.Mathlib.Nat.{le-of-lt}
+use lib.ListN.{length, take, drop, set, getD, length-append, length-drop, length-take}
+use lib.Seq.{set-at, take-suc, append-snoc, length-take-le, take-all, drop-drop, take-at, drop-at, set-split, drop-length}
+use borrow.Rule.Slice.PartMut.{putMid, post-is}
+use Rattle.buffer.specs.Write.{over, overAt}
+use Rattle.buffer.proofs.Lists.{drop-step}
+
+-- a turn of a copy: the first i bytes of src stand in front of what out had behind them
+pub copy-step : (src out : List ℕ) (i : ℕ) → i < length src → i < length out
+    → set (take i src ++ drop i out) i (getD src i 0) ≡ take (i + 1) src ++ drop (i + 1) out
+copy-step src out i hs ho =
+    ap (λ (r : List ℕ). set (take i src ++ r) i (getD src i 0)) (drop-step out i 0 ho)
+    ∙ set-at (take i src) (getD out i 0) (drop (i + 1) out) (getD src i 0) i (length-take-le i src (le-of-lt hs))
+    ∙ sym (append-snoc (take i src) (getD src i 0) (drop (i + 1) out))
+    ∙ ap (λ (l : List ℕ). l ++ drop (i + 1) out) (sym (take-suc src i 0 hs) ∙ ap (λ (n : ℕ). take n src) (sym (add-one i)))
+
+-- the copy of a whole text
+pub copy-end : (src out : List ℕ) (i : ℕ) → i ≤ length src → length src ≤ i → take i src ++ drop i out ≡ over src out
+unfolding over
+copy-end src out i h k =
+    let e : i ≡ length src = omega arith in
+    rw e (ap (λ (l : List ℕ). l ++ drop (length src) out) (take-all (length src) src (omega arith)))
+
+-- a write that fits keeps the buffer's length
+pub length-over : (x d : List ℕ) → length x ≤ length d → length (over x d) ≡ length d
+unfolding over
+length-over x d h = simp (length-append, length-drop) (omega arith)
+
+-- the rest of a buffer, from o on: what is lent of it, and the buffer once it has come back as e
+pub rest-lent : {A : Type 0} (d : List A) (o : ℕ) → take (length d - o) (drop o d) ≡ drop o d
+rest-lent d o = take-all (length d - o) (drop o d) (rw (length-drop o d) (omega arith))
+
+pub rest-back : {A : Type 0} (d e : List A) (o : ℕ) → o ≤ length d → putMid o (length d - o) d e ≡ take o d ++ e
+rest-back {A} d e o h =
+    ap (λ (r : List A). take o d ++ (e ++ r)) (post-is o (length d) d h ∙ drop-length d)
+    ∙ ap (λ (r : List A). take o d ++ r) (append-nil e)
+
+pub length-overAt : (x d : List ℕ) (o : ℕ) → o + length x ≤ length d → length (overAt x d o) ≡ length d
+unfolding over overAt
+length-overAt x d o h = simp (length-append, length-take, length-drop) (omega arith)
+
+-- a write at the front is a write at place 0
+pub overAt-front : (x d : List ℕ) → overAt x d 0 ≡ over x d
+unfolding over overAt
+overAt-front x d = refl
+
+-- one byte stored
+pub overAt-byte : (d : List ℕ) (o b : ℕ) → o < length d → set d o b ≡ overAt (b ∷ []) d o
+unfolding over overAt
+overAt-byte d o b h =
+    set-split d o b h ∙ ap (λ (r : List ℕ). take o d ++ b ∷ r) (sym (drop-drop 1 o d ∙ ap (λ (n : ℕ). drop n d) (add-one o)))
+
+-- a write, then another right behind it, is the write of both
+pub overAt-both : (x y d : List ℕ) (o : ℕ) → o + length x ≤ length d → overAt y (overAt x d o) (o + length x) ≡ overAt (x ++ y) d o
+unfolding over overAt
+overAt-both x y d o h =
+    let rest : List ℕ = drop (length x) (drop o d) in
+    let front : List ℕ = take o d ++ x in
+    let size : length front ≡ o + length x = simp (length-append, length-take) (omega arith) in
+    let split : overAt x d o ≡ front ++ rest = sym (append-assoc (take o d) x rest) in
+    let len : length (x ++ y) ≡ length x + length y = length-append x y in
+    ap (λ (l : List ℕ). take (o + length x) l ++ over y (drop (o + length x) l)) split
+    ∙ ap (λ (l : List ℕ). l ++ over y (drop (o + length x) (front ++ rest))) (take-at front rest (o + length x) size)
+    ∙ ap (λ (l : List ℕ). front ++ over y l) (drop-at front rest (o + length x) size)
+    ∙ append-assoc (take o d) x (over y rest)
+    ∙ ap (λ (l : List ℕ). take o d ++ l)
+    (sym (append-assoc x y (drop (length y) rest))
+    ∙ ap (λ (l : List ℕ). (x ++ y) ++ l) (drop-drop (length y) (length x) (drop o d) ∙ ap (λ (n : ℕ). drop n (drop o d)) (sym len)))
+
+-- a write at the front of a rest that was lent, seen in the buffer once the rest is back
+pub rest-written : (x d e : List ℕ) (o : ℕ) → o ≤ length d → e ≡ over x (take (length d - o) (drop o d)) → putMid o (length d - o) d e ≡ overAt x d o
+unfolding over overAt
+rest-written x d e o h w =
+    rest-back d e o h ∙ ap (λ (l : List ℕ). take o d ++ l) (w ∙ ap (λ (l : List ℕ). over x l) (rest-lent d o))

@@ -1,0 +1,23 @@
+-- What a write leaves in a lent buffer.
+use Prim.Native.Nat.{ℕ, _+_}
+use mathlib.Core.Path.{_≡_}
+use mathlib.Core.List.{List, _++_}
+use lib.ListN.{length, take, drop}
+
+-- a buffer after `text` was written at its front: the bytes behind the text stay
+unfoldable pub over : List ℕ → List ℕ → List ℕ
+over text out = text ++ drop (length text) out
+
+-- a buffer after `text` was written at the place `at`: the bytes before and behind it stay
+unfoldable pub overAt : List ℕ → List ℕ → ℕ → List ℕ
+overAt text out at = take at out ++ over text (drop at out)
+
+-- a writer at the front returns the text's length
+pub record Written (text out : List ℕ) (r : ℕ) (left : List ℕ) : Type 0 where
+  pub count : r ≡ length text
+  pub bytes : left ≡ over text out
+
+-- a writer at a place returns the place behind the text
+pub record Pushed (text out : List ℕ) (at r : ℕ) (left : List ℕ) : Type 0 where
+  pub place : r ≡ at + length text
+  pub bytes : left ≡ overAt text out at
