@@ -1,0 +1,8 @@
+-- The laws of the crate `text`: each speaks of a definition, and belongs to no one function.
+pub mod Rows
+pub mod Encoding
+pub mod Pieces
+pub mod Prefix
+pub mod Sights
+pub mod Splits
+pub mod Spaces

@@ -1,0 +1,58 @@
+use Rattle.text.proofs.Prefix.{prefix-turn, prefix-stop, prefix-end}
+use Rattle.text.proofs.Pieces.{character-some, character-fits}
+use Rattle.text.specs.Decoding.{wellFormedLength}
+use native.Mathlib.Omega.{arith}
+use Prim.Native.Nat.{_+_, _≤_, _-_}
+use mathlib.Core.Path.{_≡_, sym, _∙_}
+use lib.ListN.{length, drop}
+use Rattle.text.proofs.utf8.well_formed_prefix.Statement.{statement}
+use Rattle.text.proofs.utf8.well_formed_prefix.Tie as tie
+
+abbrev Inv-loop : tie.InvT-loop
+Inv-loop s at₀ at = (at ≤ length s) × (at + wellFormedLength (drop at s) ≡ wellFormedLength s)
+
+abbrev μ-loop : tie.MeasureT-loop
+μ-loop s at₀ at = length s - at
+
+loop-holds : tie.Need-loop-holds Inv-loop μ-loop
+loop-holds c = (omega arith, omega arith)
+
+decode-requires : tie.Need-decode-requires Inv-loop μ-loop
+decode-requires c κs = tt
+
+enum-known-length : tie.Need-enum-known-length Inv-loop μ-loop
+enum-known-length c = c .match .keys1
+
+returns : tie.Need-returns Inv-loop μ-loop
+returns c = let e = prefix-stop _ _ (sym (c .before .decode .ensures)) (c .match .keys2) in omega (arith, c .before .before .before .loop .inv .1, e)
+
+add-at : tie.Need-add-at Inv-loop μ-loop
+add-at c = let f = character-fits (c .before .before .before .before .before .before .before .args .s .now) (c .before .before .before .before .before .loop .at) _ _ (sym (c .before .before .before .decode .ensures) ∙ c .before .length .given .1) in omega arith
+
+loop-less : tie.Need-loop-less Inv-loop μ-loop
+loop-less c =
+    let f = character-fits (c .before .before .before .before .before .before .before .args .s .now) (c .before .before .before .before .before .loop .at) _ _ (sym (c .before .before .before .decode .ensures) ∙ c .before .length .given .1) in
+    let g = character-some (drop (c .before .before .before .before .before .loop .at) (c .before .before .before .before .before .before .before .args .s .now)) _ _ (sym (c .before .before .before .decode .ensures) ∙ c .before .length .given .1) in omega arith
+
+loop-again : tie.Need-loop-again Inv-loop μ-loop
+loop-again c =
+    let f = character-fits (c .before .before .before .before .before .before .before .args .s .now) (c .before .before .before .before .before .loop .at) _ _ (sym (c .before .before .before .decode .ensures) ∙ c .before .length .given .1) in
+    (f, prefix-turn _ _ _ _ _ (sym (c .before .before .before .decode .ensures) ∙ c .before .length .given .1) (c .before .before .before .before .before .loop .inv .1))
+
+returns-2 : tie.Need-returns-2 Inv-loop μ-loop
+returns-2 c = let e = prefix-end (c .before .before .before .args .s .now) (c .before .loop .at) (c .loop-test .left) in omega (arith, c .before .loop .inv .1, e)
+
+pub well-formed-prefix-spec : {M : Type 1} → statement M
+well-formed-prefix-spec =
+    tie.close
+    (tie.spec
+    Inv-loop
+    μ-loop
+    loop-holds
+    decode-requires
+    enum-known-length
+    returns
+    add-at
+    loop-less
+    loop-again
+    returns-2)

@@ -1,0 +1,72 @@
+-- A text taken apart at white space: trimmed, blank, and the words between white space.
+use Prim.Native.Nat.{ℕ, _+_}
+use mathlib.Core.Bool.{Bool, true, false, cond, Bool·beq}
+use mathlib.Core.List.{List, [], _∷_, _++_, map}
+use lib.ListN.{length}
+use Rattle.text.specs.declared.apart.Word.{Word}
+use Rattle.text.specs.declared.apart.Word.the-variants.{At, Nothing}
+use Rattle.text.specs.declared.apart.Seen.{Seen}
+use Rattle.text.specs.declared.apart.Seen.the-variants.{Here, End}
+use Rattle.text.specs.Decoding.{Piece, character, stray, piecesOf, bytesOf, bytesAll}
+use Rattle.text.specs.Space.{isWhiteSpace}
+
+-- a stray byte is no white space
+abbrev pub white : Piece → Bool
+white (character code) = isWhiteSpace code
+white (stray b) = false
+
+-- what pieces begin with, as white space goes, and its length in bytes
+abbrev pub seenFirst : List Piece → Seen
+seenFirst [] = End
+seenFirst (p ∷ pieces) = Here (white p) (length (bytesOf p))
+
+-- the run that pieces begin with, of white space or of anything else, and what lies behind it
+unfoldable pub runOf : Bool → List Piece → List Piece
+runOf is [] = []
+runOf is (p ∷ pieces) = cond (Bool·beq (white p) is) (p ∷ runOf is pieces) []
+
+unfoldable pub behindRun : Bool → List Piece → List Piece
+behindRun is [] = []
+behindRun is (p ∷ pieces) = cond (Bool·beq (white p) is) (behindRun is pieces) (p ∷ pieces)
+
+-- without the white space that pieces end with
+abbrev pub beforeEnd : Piece → List Piece → List Piece
+beforeEnd p [] = cond (white p) [] (p ∷ [])
+beforeEnd p (q ∷ pieces) = p ∷ q ∷ pieces
+
+unfoldable pub trimEnd : List Piece → List Piece
+trimEnd [] = []
+trimEnd (p ∷ pieces) = beforeEnd p (trimEnd pieces)
+
+-- without the white space at either end
+unfoldable pub trimmed : List ℕ → List ℕ
+trimmed s = bytesAll (trimEnd (behindRun true (piecesOf s)))
+
+-- nothing but white space
+unfoldable pub allWhite : List Piece → Bool
+allWhite [] = true
+allWhite (p ∷ pieces) = cond (white p) (allWhite pieces) false
+
+unfoldable pub blank : List ℕ → Bool
+blank s = allWhite (piecesOf s)
+
+-- the words between white space: `word` has been read and not yet ended
+abbrev pub ended : List Piece → List (List Piece) → List (List Piece)
+ended [] words = words
+ended (p ∷ word) words = (p ∷ word) ∷ words
+
+unfoldable pub wordsAfter : List Piece → List Piece → List (List Piece)
+wordsAfter word [] = ended word []
+wordsAfter word (p ∷ pieces) = cond (white p) (ended word (wordsAfter [] pieces)) (wordsAfter (word ++ (p ∷ [])) pieces)
+
+unfoldable pub wordsBetween : List ℕ → List (List ℕ)
+wordsBetween s = map bytesAll (wordsAfter [] (piecesOf s))
+
+abbrev pub wordAt : ℕ → List Piece → Word
+wordAt start [] = Nothing
+wordAt start (p ∷ word) = At start (start + length (bytesAll (p ∷ word)))
+
+-- where the next word lies, given what is left of the text behind its first `at` bytes: behind the white space there, up to the next
+unfoldable pub nextWord : ℕ → List ℕ → Word
+nextWord at s =
+    wordAt (at + length (bytesAll (runOf true (piecesOf s)))) (runOf false (behindRun true (piecesOf s)))

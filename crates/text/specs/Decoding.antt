@@ -1,0 +1,98 @@
+-- The decoder after Unicode's Table 3-7, and a text read as pieces: its characters, and the bytes that belong to none.
+use Prim.Native.Nat.{ℕ, zero, suc, pred, _+_, _*_, _%_}
+use mathlib.Core.Bool.{Bool, false, cond}
+use mathlib.Core.List.{List, [], _∷_, _++_}
+use lib.Dec.{ltb, leb, eqb}
+use lib.ListN.{length, getD}
+use Rattle.text.specs.declared.utf8.Decoded.{Decoded}
+use Rattle.text.specs.declared.utf8.Decoded.the-variants.{Character, IllFormed, End}
+use Rattle.text.specs.Unicode.{encode}
+
+-- the least and the greatest second byte after a first byte (Table 3-7, its second column)
+unfoldable pub leastSecond : ℕ → ℕ
+leastSecond a = cond (eqb a 0xE0) 0xA0 (cond (eqb a 0xF0) 0x90 0x80)
+
+unfoldable pub greatestSecond : ℕ → ℕ
+greatestSecond a = cond (eqb a 0xED) 0x9F (cond (eqb a 0xF4) 0x8F 0xBF)
+
+-- a byte from one bound to another
+unfoldable pub within : ℕ → ℕ → ℕ → Bool
+within least greatest b = cond (leb least b) (leb b greatest) false
+
+abbrev pub second : ℕ → ℕ → Bool
+second a b = within (leastSecond a) (greatestSecond a) b
+
+-- a byte after the second
+abbrev pub later : ℕ → Bool
+later b = within 0x80 0xBF b
+
+-- a character if all its bytes are as the table has them
+abbrev pub characterIf : Bool → ℕ → ℕ → Decoded
+characterIf t code n = cond t (Character code n) IllFormed
+
+-- the rows of two, three and four bytes: the code is the bits that Table 3-6 spreads over them
+unfoldable pub decodeTwo : ℕ → ℕ → Decoded
+decodeTwo a b = characterIf (second a b) (a % 0x20 * 0x40 + b % 0x40) 2
+
+unfoldable pub decodeThree : ℕ → ℕ → ℕ → Decoded
+decodeThree a b c = cond (second a b) (characterIf (later c) (a % 0x10 * 0x1000 + b % 0x40 * 0x40 + c % 0x40) 3) IllFormed
+
+unfoldable pub decodeFour : ℕ → ℕ → ℕ → ℕ → Decoded
+decodeFour a b c d =
+    cond (second a b)
+    (cond (later c) (characterIf (later d) (a % 0x08 * 0x40000 + b % 0x40 * 0x1000 + c % 0x40 * 0x40 + d % 0x40) 4) IllFormed)
+    IllFormed
+
+-- Table 3-7 by its first byte. Of the four bytes the last may lie past the character; one past the end of the text is 0 and fits nowhere.
+unfoldable pub table : ℕ → ℕ → ℕ → ℕ → Decoded
+table a b c d =
+    cond (ltb a 0x80) (Character a 1)
+    (cond (ltb a 0xC2) IllFormed
+    (cond (ltb a 0xE0) (decodeTwo a b)
+    (cond (ltb a 0xF0) (decodeThree a b c)
+    (cond (ltb a 0xF5) (decodeFour a b c d)
+    IllFormed))))
+
+-- the character that a text begins with
+unfoldable pub decodeFirst : List ℕ → Decoded
+decodeFirst [] = End
+decodeFirst (a ∷ s) = table a (getD s 0 0) (getD s 1 0) (getD s 2 0)
+
+-- a piece of a text: a character by its code, or one byte where no character begins
+pub data Piece : Type 0 where
+  character : ℕ → Piece
+  stray : ℕ → Piece
+
+abbrev pub onDecoded : {A : Type 0} → Decoded → (ℕ → ℕ → A) → A → A
+onDecoded (Character code n) f other = f code n
+onDecoded IllFormed f other = other
+onDecoded End f other = other
+
+-- the pieces of a text of which the first `skip` bytes are read already
+unfoldable pub piecesFrom : List ℕ → ℕ → List Piece
+piecesFrom [] skip = []
+piecesFrom (a ∷ s) (suc skip) = piecesFrom s skip
+piecesFrom (a ∷ s) zero =
+    onDecoded (decodeFirst (a ∷ s)) (λ code n. character code ∷ piecesFrom s (pred n)) (stray a ∷ piecesFrom s 0)
+
+unfoldable pub piecesOf : List ℕ → List Piece
+piecesOf s = piecesFrom s 0
+
+-- the bytes that a piece stands for
+abbrev pub bytesOf : Piece → List ℕ
+bytesOf (character code) = encode code
+bytesOf (stray b) = b ∷ []
+
+unfoldable pub bytesAll : List Piece → List ℕ
+bytesAll [] = []
+bytesAll (p ∷ pieces) = bytesOf p ++ bytesAll pieces
+
+-- the characters before the first stray byte
+unfoldable pub characters : List Piece → List Piece
+characters [] = []
+characters (character code ∷ pieces) = character code ∷ characters pieces
+characters (stray b ∷ pieces) = []
+
+-- the length of the longest well-formed prefix
+unfoldable pub wellFormedLength : List ℕ → ℕ
+wellFormedLength s = length (bytesAll (characters (piecesOf s)))

@@ -1,0 +1,45 @@
+// White space: the 25 code points with Unicode's property White_Space.
+ghost use mathlib.Core.Path.{_≡_};
+ghost use Rattle.text.specs.Space.{isWhiteSpace};
+
+const WHITE_SPACE: [u32; 25] = [
+    0x0009,
+    0x000A,
+    0x000B,
+    0x000C,
+    0x000D,
+    0x0020,
+    0x0085,
+    0x00A0,
+    0x1680,
+    0x2000,
+    0x2001,
+    0x2002,
+    0x2003,
+    0x2004,
+    0x2005,
+    0x2006,
+    0x2007,
+    0x2008,
+    0x2009,
+    0x200A,
+    0x2028,
+    0x2029,
+    0x202F,
+    0x205F,
+    0x3000,
+];
+
+// Whether a code has the property White_Space.
+pub fn is_white_space(code: u32) -> bool
+    ensures { λ r. ⌜ r ≡ isWhiteSpace code ⌝ }
+{
+    let mut i = 0;
+    while i < 25 {
+        if WHITE_SPACE[i] == code {
+            return true;
+        }
+        i += 1;
+    }
+    false
+}

@@ -1,0 +1,170 @@
+// UTF-8: the character at a place, after Unicode's Table 3-7, and the longest well-formed prefix.
+ghost use mathlib.Core.Path.{_≡_};
+ghost use lib.ListN.{drop, getD};
+ghost use Prim.Native.Nat.{_%_, _≤_};
+ghost use Rattle.text.specs.Decoding.{leastSecond, greatestSecond, within, second, later, decodeTwo, decodeThree, decodeFour, table, decodeFirst, wellFormedLength};
+
+// What stands at a place of a text.
+pub enum Decoded {
+    // A character: its scalar value, and its length in bytes.
+    Character { code: u32, length: usize },
+    // No character begins here.
+    IllFormed,
+    // The text has ended.
+    End,
+}
+
+// The least second byte after the first byte a.
+fn least_second(a: u8) -> u8
+    ensures { λ r. ⌜ r ≡ leastSecond a ⌝ }
+{
+    match a {
+        0xE0 => 0xA0,
+        0xF0 => 0x90,
+        _ => 0x80,
+    }
+}
+
+// The greatest second byte after the first byte a.
+fn greatest_second(a: u8) -> u8
+    ensures { λ r. ⌜ r ≡ greatestSecond a ⌝ }
+{
+    match a {
+        0xED => 0x9F,
+        0xF4 => 0x8F,
+        _ => 0xBF,
+    }
+}
+
+// Whether b can be the second byte after the first byte a.
+fn is_second(a: u8, b: u8) -> bool
+    ensures { λ r. ⌜ r ≡ second a b ⌝ }
+{
+    is_within(least_second(a), greatest_second(a), b)
+}
+
+// Whether b can be the third or fourth byte of a character.
+fn is_later(b: u8) -> bool
+    ensures { λ r. ⌜ r ≡ later b ⌝ }
+{
+    is_within(0x80, 0xBF, b)
+}
+
+// Whether a byte lies from one bound to another.
+fn is_within(least: u8, greatest: u8, b: u8) -> bool
+    ensures { λ r. ⌜ r ≡ within least greatest b ⌝ }
+{
+    if least <= b { b <= greatest } else { false }
+}
+
+// The low six bits of a byte after the first.
+fn six_bits(b: u8) -> u32
+    ensures { λ r. ⌜ r ≡ b % 0x40 ⌝ }
+{
+    (b % 0x40) as u32
+}
+
+// The character of two bytes, if they are one.
+fn two(a: u8, b: u8) -> Decoded
+    ensures { λ r. ⌜ r ≡ decodeTwo a b ⌝ }
+{
+    if is_second(a, b) {
+        return Decoded::Character {
+            code: (a % 0x20) as u32 * 0x40 + six_bits(b),
+            length: 2,
+        };
+    }
+    Decoded::IllFormed
+}
+
+// The character of three bytes, if they are one.
+fn three(a: u8, b: u8, c: u8) -> Decoded
+    ensures { λ r. ⌜ r ≡ decodeThree a b c ⌝ }
+{
+    if is_second(a, b) {
+        if is_later(c) {
+            return Decoded::Character {
+                code: (a % 0x10) as u32 * 0x1000 + six_bits(b) * 0x40 + six_bits(c),
+                length: 3,
+            };
+        }
+    }
+    Decoded::IllFormed
+}
+
+// The character of four bytes, if they are one.
+fn four(a: u8, b: u8, c: u8, d: u8) -> Decoded
+    ensures { λ r. ⌜ r ≡ decodeFour a b c d ⌝ }
+{
+    if is_second(a, b) {
+        if is_later(c) {
+            if is_later(d) {
+                return Decoded::Character {
+                    code: (a % 0x08) as u32 * 0x40000
+                        + six_bits(b) * 0x1000
+                        + six_bits(c) * 0x40
+                        + six_bits(d),
+                    length: 4,
+                };
+            }
+        }
+    }
+    Decoded::IllFormed
+}
+
+// The byte at a place, 0 past the end.
+fn byte_at(s: &[u8], at: usize) -> u8
+    ensures { λ r. ⌜ r ≡ getD (now (s .entry)) at 0 ⌝ }
+{
+    if at < s.len() { s[at] } else { 0 }
+}
+
+// The character that begins with a, no ASCII byte, and goes on with b, c and d as far as it needs them.
+fn longer(a: u8, b: u8, c: u8, d: u8) -> Decoded
+    requires { ⌜ 0x80 ≤ a ⌝ }
+    ensures { λ r. ⌜ r ≡ table a b c d ⌝ }
+{
+    match a {
+        0x00..=0xC1 => Decoded::IllFormed,
+        0xC2..=0xDF => two(a, b),
+        0xE0..=0xEF => three(a, b, c),
+        0xF0..=0xF4 => four(a, b, c, d),
+        0xF5..=0xFF => Decoded::IllFormed,
+    }
+}
+
+// What stands at a place of a text: a character, nothing well-formed, or the end.
+pub fn decode(s: &[u8], at: usize) -> Decoded
+    ensures { λ r. ⌜ r ≡ decodeFirst (drop at (now (s .entry))) ⌝ }
+{
+    if s.len() <= at {
+        return Decoded::End;
+    }
+    let a = s[at];
+    if a < 0x80 {
+        return Decoded::Character {
+            code: a as u32,
+            length: 1,
+        };
+    }
+    longer(
+        a,
+        byte_at(s, at + 1),
+        byte_at(s, at + 2),
+        byte_at(s, at + 3),
+    )
+}
+
+// The length of the longest well-formed prefix of s: all of s exactly if s is well-formed.
+pub fn well_formed_prefix(s: &[u8]) -> usize
+    ensures { λ r. ⌜ r ≡ wellFormedLength (now (s .entry)) ⌝ }
+{
+    let mut at = 0;
+    while at < s.len() {
+        let Decoded::Character { code: _, length } = decode(s, at) else {
+            return at;
+        };
+        at += length;
+    }
+    at
+}
