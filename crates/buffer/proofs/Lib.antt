@@ -2,5 +2,6 @@
 pub mod Lists
 pub mod Choices
 pub mod Lending
+pub mod Writing
 pub mod Ordering
 pub mod Greatest

@@ -50,11 +50,12 @@ allWhite (p ∷ pieces) = cond (white p) (allWhite pieces) false
 unfoldable pub blank : List ℕ → Bool
 blank s = allWhite (piecesOf s)
 
--- the words between white space: `word` has been read and not yet ended
-abbrev pub ended : List Piece → List (List Piece) → List (List Piece)
+-- a word that ends stands before the words that follow; an empty one does not exist
+abbrev pub ended : {A : Type 0} → List A → List (List A) → List (List A)
 ended [] words = words
-ended (p ∷ word) words = (p ∷ word) ∷ words
+ended (a ∷ word) words = (a ∷ word) ∷ words
 
+-- the words between white space: `word` has been read and not yet ended
 unfoldable pub wordsAfter : List Piece → List Piece → List (List Piece)
 wordsAfter word [] = ended word []
 wordsAfter word (p ∷ pieces) = cond (white p) (ended word (wordsAfter [] pieces)) (wordsAfter (word ++ (p ∷ [])) pieces)

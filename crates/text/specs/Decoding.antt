@@ -6,7 +6,7 @@ use lib.Dec.{ltb, leb, eqb}
 use lib.ListN.{length, getD}
 use Rattle.text.specs.declared.utf8.Decoded.{Decoded}
 use Rattle.text.specs.declared.utf8.Decoded.the-variants.{Character, IllFormed, End}
-use Rattle.text.specs.Unicode.{encode}
+use Rattle.text.specs.Unicode.{encode, encodeAll}
 
 -- the least and the greatest second byte after a first byte (Table 3-7, its second column)
 unfoldable pub leastSecond : ℕ → ℕ
@@ -87,12 +87,15 @@ unfoldable pub bytesAll : List Piece → List ℕ
 bytesAll [] = []
 bytesAll (p ∷ pieces) = bytesOf p ++ bytesAll pieces
 
--- the characters before the first stray byte
-unfoldable pub characters : List Piece → List Piece
-characters [] = []
-characters (character code ∷ pieces) = character code ∷ characters pieces
-characters (stray b ∷ pieces) = []
+-- the characters before the first stray byte, by their codes
+unfoldable pub codesOf : List Piece → List ℕ
+codesOf [] = []
+codesOf (character code ∷ pieces) = code ∷ codesOf pieces
+codesOf (stray b ∷ pieces) = []
+
+unfoldable pub codesIn : List ℕ → List ℕ
+codesIn s = codesOf (piecesOf s)
 
 -- the length of the longest well-formed prefix
 unfoldable pub wellFormedLength : List ℕ → ℕ
-wellFormedLength s = length (bytesAll (characters (piecesOf s)))
+wellFormedLength s = length (encodeAll (codesIn s))

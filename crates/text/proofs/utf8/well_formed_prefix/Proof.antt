@@ -1,4 +1,4 @@
-use Rattle.text.proofs.Prefix.{prefix-turn, prefix-stop, prefix-end}
+use Rattle.text.proofs.Prefix.{prefix-turn, prefix-none, codes-stop, codes-end}
 use Rattle.text.proofs.Pieces.{character-some, character-fits}
 use Rattle.text.specs.Decoding.{wellFormedLength}
 use native.Mathlib.Omega.{arith}
@@ -24,7 +24,7 @@ enum-known-length : tie.Need-enum-known-length Inv-loop μ-loop
 enum-known-length c = c .match .keys1
 
 returns : tie.Need-returns Inv-loop μ-loop
-returns c = let e = prefix-stop _ _ (sym (c .before .decode .ensures)) (c .match .keys2) in omega (arith, c .before .before .before .loop .inv .1, e)
+returns c = let e = prefix-none _ (codes-stop _ _ (sym (c .before .decode .ensures)) (c .match .keys2)) in omega (arith, c .before .before .before .loop .inv .1, e)
 
 add-at : tie.Need-add-at Inv-loop μ-loop
 add-at c = let f = character-fits (c .before .before .before .before .before .before .before .args .s .now) (c .before .before .before .before .before .loop .at) _ _ (sym (c .before .before .before .decode .ensures) ∙ c .before .length .given .1) in omega arith
@@ -40,7 +40,7 @@ loop-again c =
     (f, prefix-turn _ _ _ _ _ (sym (c .before .before .before .decode .ensures) ∙ c .before .length .given .1) (c .before .before .before .before .before .loop .inv .1))
 
 returns-2 : tie.Need-returns-2 Inv-loop μ-loop
-returns-2 c = let e = prefix-end (c .before .before .before .args .s .now) (c .before .loop .at) (c .loop-test .left) in omega (arith, c .before .loop .inv .1, e)
+returns-2 c = let e = prefix-none (drop (c .before .loop .at) (c .before .before .before .args .s .now)) (codes-end _ _ (c .loop-test .left)) in omega (arith, c .before .loop .inv .1, e)
 
 pub well-formed-prefix-spec : {M : Type 1} → statement M
 well-formed-prefix-spec =

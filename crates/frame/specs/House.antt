@@ -1,0 +1,72 @@
+-- House lines: one frame a line, in lower-case hexadecimal, ended by LF.
+use Prim.Native.Nat.{ℕ, _-_, _/_, _%_}
+use mathlib.Core.Path.{_≡_}
+use mathlib.Core.Bool.{Bool, cond}
+use mathlib.Core.List.{List, [], _∷_, _++_}
+use lib.Dec.{ltb, eqb}
+use lib.ListN.{length, take, getD}
+use Rattle.buffer.specs.Write.{over}
+use Rattle.frame.specs.Hex.{hexOf, unhex, firstBad}
+use Rattle.frame.specs.declared.house.House.{House}
+use Rattle.frame.specs.declared.house.House.the-variants.{Frame, Unended, Empty, TooLong, Odd, NoDigit, Short}
+use Rattle.frame.specs.declared.house.Lined.{Lined}
+use Rattle.frame.specs.declared.house.Lined.the-variants.{Written, Short as NoRoom}
+
+-- the byte that ends a line
+abbrev pub LF : ℕ
+LF = 10
+
+unfoldable pub houseLine : List ℕ → List ℕ
+houseLine bytes = hexOf bytes ++ (LF ∷ [])
+
+-- whether the last byte is LF; an empty line has no last byte
+unfoldable pub ended : List ℕ → Bool
+ended line = eqb (getD line (length line - 1) 0) LF
+
+-- what stands before the last byte
+unfoldable pub digitsOf : List ℕ → List ℕ
+digitsOf line = take (length line - 1) line
+
+-- what digits are, with room for so many bytes
+unfoldable pub readDigits : List ℕ → ℕ → House
+readDigits digits room =
+    cond (eqb (length digits) 0) Empty
+    (cond (ltb 1024 (length digits)) TooLong
+    (cond (eqb (length digits % 2) 1) Odd
+    (cond (ltb (firstBad digits) (length digits)) (NoDigit (firstBad digits))
+    (cond (ltb room (length digits / 2)) (Short (length digits / 2))
+    (Frame (length digits / 2))))))
+
+-- what a line is, with room for so many bytes
+unfoldable pub readHouse : List ℕ → ℕ → House
+readHouse line room = cond (ended line) (readDigits (digitsOf line) room) Unended
+
+-- only a frame is written
+abbrev pub leftBy : House → List ℕ → List ℕ → List ℕ
+leftBy (Frame n) bytes out = over bytes out
+leftBy Unended bytes out = out
+leftBy Empty bytes out = out
+leftBy TooLong bytes out = out
+leftBy Odd bytes out = out
+leftBy (NoDigit place) bytes out = out
+leftBy (Short needed) bytes out = out
+
+-- what reading a line leaves in the buffer
+unfoldable pub houseLeaves : List ℕ → List ℕ → List ℕ
+houseLeaves line out = leftBy (readHouse line (length out)) (unhex (digitsOf line)) out
+
+pub record HouseRead (line out : List ℕ) (r : House) (left : List ℕ) : Type 0 where
+  pub answer : r ≡ readHouse line (length out)
+  pub bytes : left ≡ houseLeaves line out
+
+-- what writing a line answers, with that much room, and leaves in the buffer
+unfoldable pub writeHouse : List ℕ → ℕ → Lined
+writeHouse bytes room =
+    cond (ltb room (length (houseLine bytes))) (NoRoom (length (houseLine bytes))) (Written (length (houseLine bytes)))
+
+unfoldable pub lineLeaves : List ℕ → List ℕ → List ℕ
+lineLeaves bytes out = cond (ltb (length out) (length (houseLine bytes))) out (over (houseLine bytes) out)
+
+pub record HouseWritten (frame out : List ℕ) (r : Lined) (left : List ℕ) : Type 0 where
+  pub answer : r ≡ writeHouse frame (length out)
+  pub bytes : left ≡ lineLeaves frame out

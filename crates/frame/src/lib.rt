@@ -1,0 +1,21 @@
+// What passes between the layers as bytes: texts behind their length, frames of one text, and house lines, each both ways.
+mod framed;
+mod hex;
+mod house;
+mod text;
+
+pub use framed::Framed;
+pub use framed::frame_size;
+pub use framed::read_frame;
+pub use framed::write_frame;
+pub use house::House;
+pub use house::Lined;
+pub use house::read_line;
+pub use house::write_line;
+pub use text::Text;
+pub use text::long_text;
+pub use text::long_text_size;
+pub use text::short_text;
+pub use text::short_text_size;
+pub use text::write_long_text;
+pub use text::write_short_text;
