@@ -5,8 +5,8 @@ use mathlib.Core.List.{List, [], _∷_, _++_, append-assoc, append-nil}
 use native.Mathlib.Omega.{arith}
 use native.Mathlib.Numerals.{add-one}
 use native.Mathlib.Nat.{le-of-lt}
-use lib.ListN.{length, take, drop, set, getD, length-append, length-drop, length-take}
-use lib.Seq.{set-at, take-suc, append-snoc, length-take-le, take-all, drop-drop, take-at, drop-at, set-split, drop-length}
+use lib.ListN.{length, take, drop, set, getD, length-append, length-drop, length-take, take-append-drop}
+use lib.Seq.{take-append-le, take-take, set-at, take-suc, append-snoc, length-take-le, take-all, drop-drop, take-at, drop-at, set-split, drop-length}
 use borrow.Rule.Slice.PartMut.{putMid, post-is}
 use Rattle.buffer.specs.Write.{over, overAt}
 use Rattle.buffer.proofs.Lists.{drop-step}
@@ -78,3 +78,29 @@ pub rest-written : (x d e : List ℕ) (o : ℕ) → o ≤ length d → e ≡ ove
 unfolding over overAt
 rest-written x d e o h w =
     rest-back d e o h ∙ ap (λ (l : List ℕ). take o d ++ l) (w ∙ ap (λ (l : List ℕ). over x l) (rest-lent d o))
+
+-- a write of nothing
+pub overAt-nothing : (d : List ℕ) (o : ℕ) → overAt [] d o ≡ d
+unfolding over overAt
+overAt-nothing d o = take-append-drop o d
+
+-- a write, then another right before it, is the write of both
+pub overAt-before : (x y d : List ℕ) (o : ℕ) → o + length x ≤ length d → overAt x (overAt y d (o + length x)) o ≡ overAt (x ++ y) d o
+unfolding over overAt
+overAt-before x y d o h =
+    let p : ℕ = o + length x in
+    let rest : List ℕ = y ++ drop (length y) (drop p d) in
+    let head : length (take p d) ≡ p = length-take-le p d h in
+    let front : take o (take p d ++ rest) ≡ take o d =
+    take-append-le o (take p d) rest (omega arith) ∙ take-take o p d (omega arith)
+    in
+    let behind : drop (length x) (drop o (take p d ++ rest)) ≡ rest = drop-drop (length x) o (take p d ++ rest) ∙ drop-at (take p d) rest p head in
+    let tail : drop (length y) (drop p d) ≡ drop (length (x ++ y)) (drop o d) =
+    ap (drop (length y)) (sym (drop-drop (length x) o d))
+    ∙ drop-drop (length y) (length x) (drop o d)
+    ∙ ap (λ (n : ℕ). drop n (drop o d)) (sym (length-append x y))
+    in
+    ap (λ (l : List ℕ). l ++ (x ++ drop (length x) (drop o (take p d ++ rest)))) front
+    ∙ ap (λ (l : List ℕ). take o d ++ (x ++ l)) behind
+    ∙ ap (λ (l : List ℕ). take o d ++ l) (sym (append-assoc x y (drop (length y) (drop p d))))
+    ∙ ap (λ (l : List ℕ). take o d ++ ((x ++ y) ++ l)) tail

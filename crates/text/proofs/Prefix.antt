@@ -1,7 +1,7 @@
 -- Well-formed text: it splits into characters in one way only, and the decoder finds the longest well-formed prefix.
 use Prim.Native.Nat.{ℕ, _+_, _<_, _≤_}
 use mathlib.Core.Path.{_≡_, refl, sym, ap, _∙_}
-use mathlib.Core.List.{List, [], _∷_, _++_, map, append-assoc, append-nil}
+use mathlib.Core.List.{List, [], _∷_, _++_, append-assoc, append-nil}
 use native.Mathlib.Omega.{arith}
 use lib.ListN.{length, take, drop, length-append, take-append-drop}
 use Rattle.buffer.proofs.Lists.{drop-end}
@@ -76,7 +76,7 @@ prefix-more (character n) s f e h =
     record {
       scalars = more f (h .scalars);
       rest = h .rest;
-      split = e ∙ ap (λ (l : List ℕ). encode n ++ l) (h .split) ∙ sym (append-assoc (encode n) _ (h .rest))
+      split = e ∙ ap (λ (l : List ℕ). encode n ++ l) (h .split) ∙ sym (append-assoc (encode n) _ (h .rest));
     }
 prefix-more (stray b) s f e h = record { scalars = none; rest = s; split = refl }
 
@@ -102,7 +102,7 @@ pub prefix-fits : (s : List ℕ) → wellFormedLength s ≤ length s
 unfolding wellFormedLength
 prefix-fits s =
     let size : length s ≡ length (encodeAll (codesIn s)) + length (prefix s .rest) =
-      ap length (codes-split s) ∙ length-append (encodeAll (codesIn s)) (prefix s .rest)
+    ap length (codes-split s) ∙ length-append (encodeAll (codesIn s)) (prefix s .rest)
     in
     omega arith
 
@@ -128,7 +128,7 @@ prefix-longest s n h w =
     let is : s ≡ encodeAll (w .codes) ++ drop n s = sym (take-append-drop n s) ∙ ap (λ (l : List ℕ). l ++ drop n s) (w .encoded) in
     let size : length (encodeAll (w .codes)) ≡ n = ap length (sym (w .encoded)) ∙ length-take-le n s h in
     let all : wellFormedLength s ≡ length (encodeAll (w .codes)) + wellFormedLength (drop n s) =
-      ap wellFormedLength is ∙ well-formed-then (w .codes) (drop n s) (w .scalars)
+    ap wellFormedLength is ∙ well-formed-then (w .codes) (drop n s) (w .scalars)
     in
     omega arith
 

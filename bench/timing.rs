@@ -1,0 +1,39 @@
+// The time of a call: the median of several batches, the tasks taking turns so that a disturbance meets all alike.
+use std::time::{Duration, Instant};
+
+pub type Task<'a> = &'a mut dyn FnMut();
+
+const BATCHES: usize = 21;
+/// A batch has so many calls that it takes at least this time.
+const BATCH: Duration = Duration::from_millis(5);
+
+/// The nanoseconds that one call of each task takes.
+pub fn medians<const N: usize>(mut tasks: [Task; N]) -> [f64; N] {
+    let counts = tasks.each_mut().map(|task| calls_for(BATCH, task));
+    let mut times = [(); N].map(|()| Vec::new());
+    for _ in 0..BATCHES {
+        for ((task, &count), times) in tasks.iter_mut().zip(&counts).zip(&mut times) {
+            times.push(batch(task, count).as_nanos() as f64 / count as f64);
+        }
+    }
+    times.map(|mut times| {
+        times.sort_by(f64::total_cmp);
+        times[BATCHES / 2]
+    })
+}
+
+fn calls_for(least: Duration, task: &mut Task) -> u32 {
+    let mut count = 16;
+    while batch(task, count) < least {
+        count *= 2;
+    }
+    count
+}
+
+fn batch(task: &mut Task, count: u32) -> Duration {
+    let start = Instant::now();
+    for _ in 0..count {
+        task();
+    }
+    start.elapsed()
+}

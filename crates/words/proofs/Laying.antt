@@ -1,0 +1,149 @@
+-- What a scan has laid into the buffer: the ended words as frames, and the open word behind the place of its head.
+use Prim.Native.Nat.{ℕ, suc, _+_, _≤_}
+use mathlib.Core.Path.{_≡_, refl, sym, ap, _∙_}
+use mathlib.Core.Bool.{false}
+use mathlib.Core.List.{List, [], _∷_, _++_, append-nil}
+use native.Mathlib.Omega.{arith}
+use native.Mathlib.Nat.{le-trans}
+use lib.ListN.{length, take, drop}
+use lib.Seq.{take-at}
+use Rattle.buffer.specs.Write.{over, overAt}
+use Rattle.buffer.proofs.Lending.{length-over, overAt-front, overAt-both, overAt-before, overAt-nothing}
+use Rattle.text.specs.Unicode.{encode, encodeAll}
+use Rattle.text.specs.Decoding.{decodeFirst}
+use Rattle.text.specs.declared.utf8.Decoded.the-variants.{Character}
+use Rattle.text.specs.Apart.{ended}
+use Rattle.text.proofs.Pieces.{begins, character-some}
+use Rattle.text.proofs.Prefix.{encode-append}
+use Rattle.frame.specs.Text.{number, textOf}
+use Rattle.frame.specs.Framed.{frameOf}
+use Rattle.frame.proofs.Texts.{length-number}
+use Rattle.words.specs.declared.turn.Turn.{Turn}
+use Rattle.words.specs.declared.turn.Turn.the-variants.{Take, Escape, Toggle, Gap}
+use Rattle.words.specs.declared.scan.Scan.{Scan}
+use Rattle.words.specs.Tokens.{turnOf, framesOf}
+use Rattle.words.specs.Answer.{written}
+use Rattle.words.specs.Scan.{closedAt, closedBy, advanced, headed, putBy}
+use Rattle.words.proofs.Steps.{closed-some, headed-none, headed-some, take-room, gap-room}
+use Rattle.words.proofs.Standing.{shown, Standing, standing-start, standing-turn, standing-room, word-none, all-ended}
+
+-- frames, and an open word behind them that leaves three bytes for its head
+unfoldable pub laid : List ℕ → List ℕ → List ℕ → ℕ → List ℕ
+laid frames word out done = overAt (encodeAll word) (over frames out) (done + 3)
+
+over-behind : (f x d : List ℕ) → length f ≤ length d → overAt x (over f d) (length f) ≡ over (f ++ x) d
+over-behind f x d h =
+    let z : 0 + length f ≡ length f = omega arith in
+    ap (λ (n : ℕ). overAt x (over f d) n) (sym z)
+    ∙ ap (λ (l : List ℕ). overAt x l (0 + length f)) (sym (overAt-front f d))
+    ∙ overAt-both f x d 0 (omega arith)
+    ∙ overAt-front (f ++ x) d
+
+-- the head makes an open word the last frame
+close-some : (frames word out : List ℕ) (done n : ℕ) → done ≡ length frames → n ≡ length (encodeAll word) → (n ≡ 0 → ⊥) → done + 3 + n ≤ length out
+    → headed done n (laid frames word out done) ≡ over (frames ++ frameOf 0x14 (encodeAll word)) out
+unfolding laid frameOf textOf
+close-some frames word out done n d e some room =
+    let head : List ℕ = 0x14 ∷ number 2 n in
+    let three : length head ≡ 3 = ap suc (length-number 2 n) in
+    let place : done + 3 ≡ done + length head = omega arith in
+    let size : length (over frames out) ≡ length out = length-over frames out (omega arith) in
+    let is : head ++ encodeAll word ≡ 0x14 ∷ (number 2 (length (encodeAll word)) ++ encodeAll word) =
+    ap (λ (k : ℕ). 0x14 ∷ (number 2 k ++ encodeAll word)) e
+    in
+    headed-some done n _ some
+    ∙ ap (λ (k : ℕ). overAt head (overAt (encodeAll word) (over frames out) k) done) place
+    ∙ overAt-before head (encodeAll word) (over frames out) done (omega arith)
+    ∙ ap (λ (l : List ℕ). overAt l (over frames out) done) is
+    ∙ ap (λ (k : ℕ). overAt (0x14 ∷ (number 2 (length (encodeAll word)) ++ encodeAll word)) (over frames out) k) d
+    ∙ over-behind frames (0x14 ∷ (number 2 (length (encodeAll word)) ++ encodeAll word)) out (omega arith)
+
+some-word : (c : ℕ) (word : List ℕ) → length (encodeAll (c ∷ word)) ≡ 0 → ⊥
+some-word c word e = let q = word-none (c ∷ word) e in let z : _≡_ {A = ℕ} 0 1 = cc in omega arith
+
+close-word : (frames word out : List ℕ) (done n : ℕ) → done ≡ length frames → n ≡ length (encodeAll word) → closedAt done n ≤ length out
+    → headed done n (laid frames word out done) ≡ over (frames ++ shown (ended word [])) out
+unfolding laid shown framesOf encodeAll
+close-word frames [] out done n d e room =
+    headed-none done n _ e
+    ∙ overAt-nothing (over frames out) (done + 3)
+    ∙ ap (λ (l : List ℕ). over l out) (sym (append-nil frames))
+close-word frames (c ∷ word) out done n d e room =
+    let some : n ≡ 0 → ⊥ = λ z. some-word c word (sym e ∙ z) in
+    let k = closed-some done n some in
+    close-some frames (c ∷ word) out done n d e some (omega arith)
+    ∙ ap (λ (l : List ℕ). over (frames ++ l) out) (sym (append-nil (frameOf 0x14 (encodeAll (c ∷ word)))))
+
+laid-empty : (frames out : List ℕ) (done : ℕ) → over frames out ≡ laid frames [] out done
+unfolding laid encodeAll
+laid-empty frames out done = sym (overAt-nothing (over frames out) (done + 3))
+
+pub record Laid (line out₀ out : List ℕ) (s : Scan) : Type 0 where
+  pub standing : Standing line s
+  pub bytes : out ≡ laid (standing .frames) (standing .word) out₀ (s .done)
+
+pub laid-start : (line out : List ℕ) → Laid line out out (record { at = 0; done = 0; word = 0; quotes = false; escaped = false })
+unfolding laid standing-start encodeAll over
+laid-start line out = record { standing = standing-start line; bytes = sym (overAt-nothing (over [] out) (0 + 3)) }
+
+-- the bytes of a character more
+taken-bytes : (t : List ℕ) (code n : ℕ) → decodeFirst t ≡ Character code n → take n t ≡ encode code
+taken-bytes t code n d =
+    let b = begins t code n d in
+    ap (take n) (b .bytes) ∙ take-at (encode code) (drop n t) n (sym (b .size))
+
+laid-more : (frames word out : List ℕ) (done n code : ℕ) → n ≡ length (encodeAll word) → length frames ≤ length out → done + 3 + n ≤ length out
+    → overAt (encode code) (laid frames word out done) (done + 3 + n) ≡ laid frames (word ++ (code ∷ [])) out done
+unfolding laid encodeAll
+laid-more frames word out done n code e f room =
+    let size : length (over frames out) ≡ length out = length-over frames out f in
+    ap (λ (m : ℕ). overAt (encode code) (overAt (encodeAll word) (over frames out) (done + 3)) (done + 3 + m)) e
+    ∙ overAt-both (encodeAll word) (encode code) (over frames out) (done + 3) (omega arith)
+    ∙ ap (λ (l : List ℕ). overAt l (over frames out) (done + 3)) (ap (λ (l : List ℕ). encodeAll word ++ l) (sym (append-nil (encode code))) ∙ sym (encode-append word (code ∷ [])))
+
+module _ (line out₀ out : List ℕ) (s : Scan) (code n : ℕ) (h : Laid line out₀ out s) (d : decodeFirst (drop (s .at) line) ≡ Character code n) (room : length (written line) ≤ length out₀) where
+  after : (t : Turn) → turnOf (s .quotes) (s .escaped) code ≡ t → Standing line (advanced s t n)
+  after t e = standing-turn line s code n (h .standing) d t e
+
+  -- the room that the next step asks
+  pub step-room : (t : Turn) → turnOf (s .quotes) (s .escaped) code ≡ t → closedBy (advanced s t n) ≤ length out₀
+  step-room t e = le-trans (standing-room line (advanced s t n) (after t e)) room
+
+  pub laid-turn : (t : Turn) → turnOf (s .quotes) (s .escaped) code ≡ t → Laid line out₀ (putBy line s t n out) (advanced s t n)
+  unfolding standing-turn
+  laid-turn Take e =
+      let l = h .standing in
+      let some = character-some (drop (s .at) line) code n d in
+      let r = take-room s Take n (length out₀) refl some (step-room Take e) in
+      let f = l .done-is in
+      record {
+        standing = standing-turn line s code n l d Take e;
+        bytes =
+            ap (λ (x : List ℕ). overAt x out (s .done + 3 + s .word)) (taken-bytes (drop (s .at) line) code n d)
+            ∙ ap (λ (x : List ℕ). overAt (encode code) x (s .done + 3 + s .word)) (h .bytes)
+            ∙ laid-more (l .frames) (l .word) out₀ (s .done) (s .word) code (l .word-is) (omega arith) (omega arith);
+      }
+  laid-turn Escape e = record { standing = standing-turn line s code n (h .standing) d Escape e; bytes = h .bytes }
+  laid-turn Toggle e = record { standing = standing-turn line s code n (h .standing) d Toggle e; bytes = h .bytes }
+  laid-turn Gap e =
+      let l = h .standing in
+      let r = gap-room s Gap n (length out₀) refl (step-room Gap e) in
+      record {
+        standing = standing-turn line s code n l d Gap e;
+        bytes =
+            ap (headed (s .done) (s .word)) (h .bytes)
+            ∙ close-word (l .frames) (l .word) out₀ (s .done) (s .word) (l .done-is) (l .word-is) r
+            ∙ laid-empty (l .frames ++ shown (ended (l .word) [])) out₀ (closedAt (s .done) (s .word));
+      }
+
+-- the line has ended
+module _ (line out₀ out : List ℕ) (s : Scan) (h : Laid line out₀ out s) (end : length line ≤ s .at) (room : length (written line) ≤ length out₀) where
+  pub end-room : closedBy s ≤ length out₀
+  end-room = le-trans (standing-room line s (h .standing)) room
+
+  pub laid-end : headed (s .done) (s .word) out ≡ over (written line) out₀
+  laid-end =
+      let l = h .standing in
+      ap (headed (s .done) (s .word)) (h .bytes)
+      ∙ close-word (l .frames) (l .word) out₀ (s .done) (s .word) (l .done-is) (l .word-is) end-room
+      ∙ ap (λ (x : List ℕ). over x out₀) (sym (all-ended line s l end))

@@ -1,0 +1,7 @@
+-- The laws of the crate `words` that belong to no one function.
+pub mod Steps
+pub mod Standing
+pub mod Laying
+pub mod Answers
+pub mod Kept
+mod Examples

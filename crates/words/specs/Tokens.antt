@@ -1,0 +1,58 @@
+-- The words of a line (01, "Words"; the Rust's `tokenize`): left to right by character.
+use Prim.Native.Nat.{ℕ}
+use mathlib.Core.Bool.{Bool, true, false, cond, not}
+use mathlib.Core.List.{List, [], _∷_, _++_, map}
+use lib.Dec.{eqb}
+use Rattle.text.specs.Unicode.{encodeAll}
+use Rattle.text.specs.Decoding.{codesIn}
+use Rattle.text.specs.Space.{isWhiteSpace}
+use Rattle.text.specs.Apart.{ended}
+use Rattle.frame.specs.Framed.{frameOf}
+use Rattle.words.specs.declared.turn.Turn.{Turn}
+use Rattle.words.specs.declared.turn.Turn.the-variants.{Take, Escape, Toggle, Gap}
+
+abbrev pub backslash : ℕ
+backslash = 0x5C
+
+abbrev pub quote : ℕ
+quote = 0x22
+
+-- what a character does. After `\` the next is taken as it stands, also inside quotes; `\` and `"` vanish; white space outside
+-- quotes ends a word; everything else is taken into the word.
+unfoldable pub turnOf : Bool → Bool → ℕ → Turn
+turnOf quotes escaped code =
+    cond escaped Take
+    (cond (eqb code backslash) Escape
+    (cond (eqb code quote) Toggle
+    (cond quotes Take
+    (cond (isWhiteSpace code) Gap
+    Take))))
+
+abbrev pub onTurn : {A : Type 0} → Turn → (Unit {0} → A) → (Unit {0} → A) → (Unit {0} → A) → (Unit {0} → A) → A
+onTurn Take a b c d = a tt
+onTurn Escape a b c d = b tt
+onTurn Toggle a b c d = c tt
+onTurn Gap a b c d = d tt
+
+-- the words still to come where `word` has been read and not ended, inside quotes or not, after `\` or not. Empty words don't exist;
+-- a final `\` is lost; an open quotation ends with the line.
+unfoldable pub tokensFrom : List ℕ → Bool → Bool → List ℕ → List (List ℕ)
+tokensFrom word quotes escaped [] = ended word []
+tokensFrom word quotes escaped (code ∷ codes) =
+    onTurn (turnOf quotes escaped code)
+    (λ _. tokensFrom (word ++ (code ∷ [])) quotes false codes)
+    (λ _. tokensFrom word quotes true codes)
+    (λ _. tokensFrom word (not quotes) false codes)
+    (λ _. ended word (tokensFrom [] quotes false codes))
+
+-- the words of a line, each by its characters, and each as a text
+unfoldable pub tokens : List ℕ → List (List ℕ)
+tokens line = tokensFrom [] false false (codesIn line)
+
+unfoldable pub wordsOf : List ℕ → List (List ℕ)
+wordsOf line = map encodeAll (tokens line)
+
+-- words as frames of kind 14
+unfoldable pub framesOf : List (List ℕ) → List ℕ
+framesOf [] = []
+framesOf (word ∷ words) = frameOf 0x14 word ++ framesOf words

@@ -1,0 +1,7 @@
+// Words: a line split as the shell splits it, by white space, quotes and `\`, into frames of kind 14.
+mod scan;
+mod tokenizer;
+mod turn;
+
+pub use tokenizer::Tokens;
+pub use tokenizer::tokenize;

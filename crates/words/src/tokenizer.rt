@@ -1,0 +1,123 @@
+// `tokenize`: measures a line's words, then writes them as frames of kind 14 into a lent buffer.
+ghost use Prim.Native.Nat.{_+_, _≤_, _<_};
+ghost use mathlib.Core.Path.{_≡_};
+ghost use lib.ListN.{length};
+ghost use Rattle.buffer.specs.Write.{over};
+ghost use Rattle.text.specs.Decoding.{wellFormedLength};
+ghost use Rattle.words.specs.Answer.{written, Tokenized};
+ghost use Rattle.words.specs.Scan.{closedAt, closedBy, advanced, headed, putBy, measured};
+use super::scan::Scan;
+use super::scan::closed;
+use super::turn::Turn;
+use super::turn::turn_of;
+use buffer::push;
+use buffer::push_byte;
+use text::Decoded;
+use text::decode;
+
+// What tokenizing a line answers.
+pub enum Tokens {
+    // The frames of its words, so many bytes.
+    Words(usize),
+    // It has over 1,024 bytes: its length, 65,535 if more.
+    LineTooLong(usize),
+    // It is ill-formed: the length of its longest well-formed prefix.
+    IllFormed(usize),
+    // The buffer is too short: the length needed.
+    NoRoom(usize),
+}
+
+// What measuring a line finds: the length of its frames, or where it is ill-formed.
+enum Measured {
+    Needs(usize),
+    IllFormed(usize),
+}
+
+fn measure(line: &[u8]) -> Measured
+    requires { ⌜ length (now line) ≤ 1024 ⌝ }
+    ensures { λ r. ⌜ r ≡ measured (now (line .entry)) ⌝ }
+{
+    let mut scan = Scan::start();
+    while scan.at < line.len() {
+        let at = scan.at;
+        let Decoded::Character { code, length } = decode(line, at) else {
+            return Measured::IllFormed(at);
+        };
+        scan = scan.advance(turn_of(scan.quotes, scan.escaped, code), length);
+    }
+    Measured::Needs(closed(scan.done, scan.word))
+}
+
+// Writes the head of a word's frame in front of its bytes; an empty word has none.
+fn end_word(done: usize, word: usize, out: &mut [u8])
+    requires { ⌜ (closedAt done word ≤ length (now out)) × (word ≤ 4096) ⌝ }
+    ensures { λ _. ⌜ now (out .exit) ≡ headed done word (now (out .entry)) ⌝ }
+{
+    if word == 0 {
+        return;
+    }
+    let high = push_byte(0x14, out, done);
+    let low = push_byte((word / 256) as u8, out, high);
+    push_byte((word % 256) as u8, out, low);
+}
+
+// Writes what a character of n bytes adds: its bytes, or the head of the word that it ends.
+fn put(line: &[u8], scan: Scan, turn: Turn, n: usize, out: &mut [u8])
+    requires { ⌜ (0 < n) × (scan .at + n ≤ length (now line)) ⌝ }
+    requires { ⌜ (scan .word ≤ 4096) × (closedBy (advanced scan turn n) ≤ length (now out)) ⌝ }
+    ensures { λ _. ⌜ now (out .exit) ≡ putBy (now (line .entry)) scan turn n (now (out .entry)) ⌝ }
+{
+    let from = scan.at;
+    match turn {
+        Turn::Take => {
+            let end = from + n;
+            push(&line[from..end], out, scan.done + 3 + scan.word);
+        }
+        Turn::Gap => end_word(scan.done, scan.word, out),
+        Turn::Escape => {}
+        Turn::Toggle => {}
+    }
+}
+
+// Writes the frames of a well-formed line's words.
+fn write(line: &[u8], out: &mut [u8])
+    requires { ⌜ length (now line) ≤ 1024 ⌝ }
+    requires { ⌜ wellFormedLength (now line) ≡ length (now line) ⌝ }
+    requires { ⌜ length (written (now line)) ≤ length (now out) ⌝ }
+    ensures { λ _. ⌜ now (out .exit) ≡ over (written (now (line .entry))) (now (out .entry)) ⌝ }
+{
+    let mut scan = Scan::start();
+    while scan.at < line.len() {
+        let at = scan.at;
+        let Decoded::Character { code, length } = decode(line, at) else {
+            return;
+        };
+        let step = turn_of(scan.quotes, scan.escaped, code);
+        put(line, scan, step, length, out);
+        scan = scan.advance(step, length);
+    }
+    end_word(scan.done, scan.word, out);
+}
+
+// The words of a line as frames of kind 14, at the front of out.
+pub fn tokenize(line: &[u8], out: &mut [u8]) -> Tokens
+    ensures { λ r. ⌜ Tokenized (now (line .entry)) (now (out .entry)) r (now (out .exit)) ⌝ }
+{
+    if 1024 < line.len() {
+        return Tokens::LineTooLong(if line.len() < 65535 {
+            line.len()
+        } else {
+            65535
+        });
+    }
+    match measure(line) {
+        Measured::IllFormed(place) => Tokens::IllFormed(place),
+        Measured::Needs(needed) => {
+            if out.len() < needed {
+                return Tokens::NoRoom(needed);
+            }
+            write(line, out);
+            Tokens::Words(needed)
+        }
+    }
+}
