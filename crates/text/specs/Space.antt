@@ -2,7 +2,7 @@
 use Prim.Native.Nat.{ℕ}
 use mathlib.Core.Bool.{Bool, true, false, cond}
 use mathlib.Core.List.{List, [], _∷_}
-use lib.Dec.{eqb}
+use lib.Dec.{eqb, ltb}
 
 -- U+0009-000D, 0020, 0085, 00A0, 1680, 2000-200A, 2028, 2029, 202F, 205F, 3000
 unfoldable pub whiteSpace : List ℕ
@@ -41,3 +41,7 @@ among n (m ∷ list) = cond (eqb m n) true (among n list)
 
 unfoldable pub isWhiteSpace : ℕ → Bool
 isWhiteSpace code = among code whiteSpace
+
+-- wide gaps between the code points
+unfoldable pub gap : ℕ → Bool
+gap code = cond (ltb code 0x85) (ltb 0x20 code) (cond (ltb code 0x1680) (ltb 0xA0 code) (ltb 0x3000 code))

@@ -1,6 +1,6 @@
 // White space: the 25 code points with Unicode's property White_Space.
 ghost use mathlib.Core.Path.{_≡_};
-ghost use Rattle.text.specs.Space.{isWhiteSpace};
+ghost use Rattle.text.specs.Space.{isWhiteSpace, gap};
 
 const WHITE_SPACE: [u32; 25] = [
     0x0009,
@@ -30,8 +30,8 @@ const WHITE_SPACE: [u32; 25] = [
     0x3000,
 ];
 
-// Whether a code has the property White_Space.
-pub fn is_white_space(code: u32) -> bool
+// Whether a code stands in the table.
+fn is_listed(code: u32) -> bool
     ensures { λ r. ⌜ r ≡ isWhiteSpace code ⌝ }
 {
     let mut i = 0;
@@ -42,4 +42,27 @@ pub fn is_white_space(code: u32) -> bool
         i += 1;
     }
     false
+}
+
+// Whether a code lies in a wide gap of the table, as most characters do: from 21 to 84, from A1 to 167F, or past 3000.
+fn is_in_a_gap(code: u32) -> bool
+    ensures { λ r. ⌜ r ≡ gap code ⌝ }
+{
+    if code < 0x85 {
+        return 0x20 < code;
+    }
+    if code < 0x1680 {
+        return 0xA0 < code;
+    }
+    0x3000 < code
+}
+
+// Whether a code has the property White_Space.
+pub fn is_white_space(code: u32) -> bool
+    ensures { λ r. ⌜ r ≡ isWhiteSpace code ⌝ }
+{
+    if is_in_a_gap(code) {
+        return false;
+    }
+    is_listed(code)
 }

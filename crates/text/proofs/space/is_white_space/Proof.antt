@@ -1,59 +1,21 @@
-use Rattle.text.proofs.Spaces.{among-found, among-on}
-use Rattle.text.specs.Space.{whiteSpace, among, isWhiteSpace}
-use native.Mathlib.Omega.{arith}
-use Prim.Native.Nat.{ℕ, _≤_, _-_}
-use mathlib.Core.Path.{_≡_, refl, sym, ap, _∙_}
-use lib.ListN.{drop}
+use Rattle.text.proofs.Spaces.{none-in-a-gap}
+use borrow.Author.Needs.{needs}
+use mathlib.Core.Path.{sym, _∙_}
 use Rattle.text.proofs.space.is_white_space.Statement.{statement}
 use Rattle.text.proofs.space.is_white_space.Tie as tie
 
-abbrev Inv-loop : tie.InvT-loop
-Inv-loop code i₀ i = (i ≤ 25) × (among code (drop i whiteSpace) ≡ isWhiteSpace code)
+is-in-a-gap-requires : tie.Need-is-in-a-gap-requires
+is-in-a-gap-requires c κs = search needs
 
-abbrev μ-loop : tie.MeasureT-loop
-μ-loop code i₀ i = 25 - i
+returns : tie.Need-returns
+returns c = sym (none-in-a-gap _ (sym (c .before .is-in-a-gap .ensures) ∙ c .if1 .taken))
 
-loop-holds : tie.Need-loop-holds Inv-loop μ-loop
-unfolding isWhiteSpace
-loop-holds c = (omega arith, refl)
+is-listed-requires : tie.Need-is-listed-requires
+is-listed-requires c κs = search needs
 
-mul-if1 : tie.Need-mul-if1 Inv-loop μ-loop
-mul-if1 c = omega arith
-
-array-read-if1 : tie.Need-array-read-if1 Inv-loop μ-loop
-array-read-if1 c = omega arith
-
-returns : tie.Need-returns Inv-loop μ-loop
-unfolding whiteSpace
-returns c = sym (among-found _ whiteSpace _ (c .before .loop-test .taken) (c .if1 .taken)) ∙ c .before .before .loop .inv .1
-
-add-i : tie.Need-add-i Inv-loop μ-loop
-add-i c = omega arith
-
-loop-less : tie.Need-loop-less Inv-loop μ-loop
-loop-less c = omega arith
-
-loop-again : tie.Need-loop-again Inv-loop μ-loop
-unfolding whiteSpace
-loop-again c = (omega arith, sym (among-on _ whiteSpace _ (c .before .loop-test .taken) (c .if1 .left)) ∙ c .before .before .loop .inv .1)
-
-returns-2 : tie.Need-returns-2 Inv-loop μ-loop
-unfolding whiteSpace among
-returns-2 c =
-    let e : c .before .loop .i ≡ 25 = omega arith in
-    sym (ap (λ (n : ℕ). among (c .before .before .args .code) (drop n whiteSpace)) e) ∙ c .before .loop .inv .1
+returns-2 : tie.Need-returns-2
+returns-2 c = search needs
 
 pub is-white-space-spec : {M : Type 1} → statement M
 is-white-space-spec =
-    tie.close
-    (tie.spec
-    Inv-loop
-    μ-loop
-    loop-holds
-    mul-if1
-    array-read-if1
-    returns
-    add-i
-    loop-less
-    loop-again
-    returns-2)
+    tie.close (tie.spec is-in-a-gap-requires returns is-listed-requires returns-2)

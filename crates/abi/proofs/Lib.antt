@@ -1,0 +1,2 @@
+-- The laws of the crate `abi` that belong to no one function.
+pub mod Answering
