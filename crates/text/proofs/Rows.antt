@@ -95,3 +95,7 @@ decode-at s i h =
 pub decode-end : (s : List ℕ) (i : ℕ) → length s ≤ i → decodeFirst (drop i s) ≡ End
 unfolding decodeFirst
 decode-end s i h = rw (drop-end s i)
+
+-- an ASCII byte is a character by itself
+pub decode-ascii : (s : List ℕ) (i : ℕ) → i < length s → getD s i 0 < 0x80 → decodeFirst (drop i s) ≡ Character (getD s i 0) 1
+decode-ascii s i h k = decode-at s i h ∙ row-ascii (getD s i 0) (getD s (i + 1) 0) (getD s (i + 2) 0) (getD s (i + 3) 0) k

@@ -42,6 +42,9 @@ among n (m ∷ list) = cond (eqb m n) true (among n list)
 unfoldable pub isWhiteSpace : ℕ → Bool
 isWhiteSpace code = among code whiteSpace
 
--- wide gaps between the code points
+-- what the code decides without the list: the code points below 85, and wide gaps past it
+unfoldable pub lowWhite : ℕ → Bool
+lowWhite code = cond (ltb code 0x0E) (ltb 0x08 code) (eqb code 0x20)
+
 unfoldable pub gap : ℕ → Bool
-gap code = cond (ltb code 0x85) (ltb 0x20 code) (cond (ltb code 0x1680) (ltb 0xA0 code) (ltb 0x3000 code))
+gap code = cond (ltb code 0x1680) (ltb 0xA0 code) (ltb 0x3000 code)

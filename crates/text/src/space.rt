@@ -1,6 +1,6 @@
 // White space: the 25 code points with Unicode's property White_Space.
 ghost use mathlib.Core.Path.{_≡_};
-ghost use Rattle.text.specs.Space.{isWhiteSpace, gap};
+ghost use Rattle.text.specs.Space.{isWhiteSpace, lowWhite, gap};
 
 const WHITE_SPACE: [u32; 25] = [
     0x0009,
@@ -44,23 +44,33 @@ fn is_listed(code: u32) -> bool
     false
 }
 
-// Whether a code lies in a wide gap of the table, as most characters do: from 21 to 84, from A1 to 167F, or past 3000.
+// Whether a code below 85 is white space: HT to CR, and the space.
+fn is_low_white(code: u32) -> bool
+    ensures { λ r. ⌜ r ≡ lowWhite code ⌝ }
+{
+    if code < 0x0E {
+        return 0x08 < code;
+    }
+    code == 0x20
+}
+
+// Whether a code lies in a wide gap of the table, as most characters past 84 do: from A1 to 167F, or past 3000.
 fn is_in_a_gap(code: u32) -> bool
     ensures { λ r. ⌜ r ≡ gap code ⌝ }
 {
-    if code < 0x85 {
-        return 0x20 < code;
-    }
     if code < 0x1680 {
         return 0xA0 < code;
     }
     0x3000 < code
 }
 
-// Whether a code has the property White_Space.
+// Whether a code has the property White_Space. Only the rare ones are looked up in the table.
 pub fn is_white_space(code: u32) -> bool
     ensures { λ r. ⌜ r ≡ isWhiteSpace code ⌝ }
 {
+    if code < 0x85 {
+        return is_low_white(code);
+    }
     if is_in_a_gap(code) {
         return false;
     }

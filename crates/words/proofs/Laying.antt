@@ -5,15 +5,11 @@ use mathlib.Core.Bool.{false}
 use mathlib.Core.List.{List, [], _∷_, _++_, append-nil}
 use native.Mathlib.Omega.{arith}
 use native.Mathlib.Nat.{le-trans}
-use lib.ListN.{length, take, drop}
-use lib.Seq.{take-at}
+use lib.ListN.{length}
 use Rattle.buffer.specs.Write.{over, overAt}
 use Rattle.buffer.proofs.Lending.{length-over, overAt-front, overAt-both, overAt-before, overAt-nothing}
-use Rattle.text.specs.Unicode.{encode, encodeAll}
-use Rattle.text.specs.Decoding.{decodeFirst}
-use Rattle.text.specs.declared.utf8.Decoded.the-variants.{Character}
+use Rattle.text.specs.Unicode.{encodeAll}
 use Rattle.text.specs.Apart.{ended}
-use Rattle.text.proofs.Pieces.{begins, character-some}
 use Rattle.text.proofs.Prefix.{encode-append}
 use Rattle.frame.specs.Text.{number, textOf}
 use Rattle.frame.specs.Framed.{frameOf}
@@ -21,9 +17,9 @@ use Rattle.frame.proofs.Texts.{length-number}
 use Rattle.words.specs.declared.turn.Turn.{Turn}
 use Rattle.words.specs.declared.turn.Turn.the-variants.{Take, Escape, Toggle, Gap}
 use Rattle.words.specs.declared.scan.Scan.{Scan}
-use Rattle.words.specs.Tokens.{turnOf, framesOf}
+use Rattle.words.specs.Tokens.{framesOf}
 use Rattle.words.specs.Answer.{written}
-use Rattle.words.specs.Scan.{closedAt, closedBy, advanced, headed, putBy}
+use Rattle.words.specs.Scan.{closedAt, closedBy, advanced, headed, putBy, Reading}
 use Rattle.words.proofs.Steps.{closed-some, headed-none, headed-some, take-room, gap-room}
 use Rattle.words.proofs.Standing.{shown, Standing, standing-start, standing-turn, standing-room, word-none, all-ended}
 
@@ -86,55 +82,47 @@ pub laid-start : (line out : List ℕ) → Laid line out out (record { at = 0; d
 unfolding laid standing-start encodeAll over
 laid-start line out = record { standing = standing-start line; bytes = sym (overAt-nothing (over [] out) (0 + 3)) }
 
--- the bytes of a character more
-taken-bytes : (t : List ℕ) (code n : ℕ) → decodeFirst t ≡ Character code n → take n t ≡ encode code
-taken-bytes t code n d =
-    let b = begins t code n d in
-    ap (take n) (b .bytes) ∙ take-at (encode code) (drop n t) n (sym (b .size))
-
-laid-more : (frames word out : List ℕ) (done n code : ℕ) → n ≡ length (encodeAll word) → length frames ≤ length out → done + 3 + n ≤ length out
-    → overAt (encode code) (laid frames word out done) (done + 3 + n) ≡ laid frames (word ++ (code ∷ [])) out done
-unfolding laid encodeAll
-laid-more frames word out done n code e f room =
+-- the bytes of characters more
+laid-more : (frames word run out : List ℕ) (done n : ℕ) → n ≡ length (encodeAll word) → length frames ≤ length out → done + 3 + n ≤ length out
+    → overAt (encodeAll run) (laid frames word out done) (done + 3 + n) ≡ laid frames (word ++ run) out done
+unfolding laid
+laid-more frames word run out done n e f room =
     let size : length (over frames out) ≡ length out = length-over frames out f in
-    ap (λ (m : ℕ). overAt (encode code) (overAt (encodeAll word) (over frames out) (done + 3)) (done + 3 + m)) e
-    ∙ overAt-both (encodeAll word) (encode code) (over frames out) (done + 3) (omega arith)
-    ∙ ap (λ (l : List ℕ). overAt l (over frames out) (done + 3)) (ap (λ (l : List ℕ). encodeAll word ++ l) (sym (append-nil (encode code))) ∙ sym (encode-append word (code ∷ [])))
+    ap (λ (m : ℕ). overAt (encodeAll run) (overAt (encodeAll word) (over frames out) (done + 3)) (done + 3 + m)) e
+    ∙ overAt-both (encodeAll word) (encodeAll run) (over frames out) (done + 3) (omega arith)
+    ∙ ap (λ (l : List ℕ). overAt l (over frames out) (done + 3)) (sym (encode-append word run))
 
-module _ (line out₀ out : List ℕ) (s : Scan) (code n : ℕ) (h : Laid line out₀ out s) (d : decodeFirst (drop (s .at) line) ≡ Character code n) (room : length (written line) ≤ length out₀) where
-  after : (t : Turn) → turnOf (s .quotes) (s .escaped) code ≡ t → Standing line (advanced s t n)
-  after t e = standing-turn line s code n (h .standing) d t e
+-- the room that the next step asks
+pub step-room : (line out₀ out : List ℕ) (s : Scan) (t : Turn) (n : ℕ) → Laid line out₀ out s → Reading line s t n → length (written line) ≤ length out₀
+    → closedBy (advanced s t n) ≤ length out₀
+step-room line out₀ out s t n h r room = le-trans (standing-room line (advanced s t n) (standing-turn line s t n (h .standing) r)) room
 
-  -- the room that the next step asks
-  pub step-room : (t : Turn) → turnOf (s .quotes) (s .escaped) code ≡ t → closedBy (advanced s t n) ≤ length out₀
-  step-room t e = le-trans (standing-room line (advanced s t n) (after t e)) room
-
-  pub laid-turn : (t : Turn) → turnOf (s .quotes) (s .escaped) code ≡ t → Laid line out₀ (putBy line s t n out) (advanced s t n)
-  unfolding standing-turn
-  laid-turn Take e =
-      let l = h .standing in
-      let some = character-some (drop (s .at) line) code n d in
-      let r = take-room s Take n (length out₀) refl some (step-room Take e) in
-      let f = l .done-is in
-      record {
-        standing = standing-turn line s code n l d Take e;
-        bytes =
-            ap (λ (x : List ℕ). overAt x out (s .done + 3 + s .word)) (taken-bytes (drop (s .at) line) code n d)
-            ∙ ap (λ (x : List ℕ). overAt (encode code) x (s .done + 3 + s .word)) (h .bytes)
-            ∙ laid-more (l .frames) (l .word) out₀ (s .done) (s .word) code (l .word-is) (omega arith) (omega arith);
-      }
-  laid-turn Escape e = record { standing = standing-turn line s code n (h .standing) d Escape e; bytes = h .bytes }
-  laid-turn Toggle e = record { standing = standing-turn line s code n (h .standing) d Toggle e; bytes = h .bytes }
-  laid-turn Gap e =
-      let l = h .standing in
-      let r = gap-room s Gap n (length out₀) refl (step-room Gap e) in
-      record {
-        standing = standing-turn line s code n l d Gap e;
-        bytes =
-            ap (headed (s .done) (s .word)) (h .bytes)
-            ∙ close-word (l .frames) (l .word) out₀ (s .done) (s .word) (l .done-is) (l .word-is) r
-            ∙ laid-empty (l .frames ++ shown (ended (l .word) [])) out₀ (closedAt (s .done) (s .word));
-      }
+pub laid-turn : (line out₀ out : List ℕ) (s : Scan) (t : Turn) (n : ℕ) → Laid line out₀ out s → Reading line s t n → length (written line) ≤ length out₀
+    → Laid line out₀ (putBy line s t n out) (advanced s t n)
+unfolding standing-turn
+laid-turn line out₀ out s Take n h r room =
+    let l = h .standing in
+    let k = take-room s Take n (length out₀) refl (r .some) (step-room line out₀ out s Take n h r room) in
+    let f = l .done-is in
+    record {
+      standing = standing-turn line s Take n l r;
+      bytes =
+          ap (λ (x : List ℕ). overAt x out (s .done + 3 + s .word)) (r .bytes)
+          ∙ ap (λ (x : List ℕ). overAt (encodeAll (r .run)) x (s .done + 3 + s .word)) (h .bytes)
+          ∙ laid-more (l .frames) (l .word) (r .run) out₀ (s .done) (s .word) (l .word-is) (omega arith) (omega arith);
+    }
+laid-turn line out₀ out s Escape n h r room = record { standing = standing-turn line s Escape n (h .standing) r; bytes = h .bytes }
+laid-turn line out₀ out s Toggle n h r room = record { standing = standing-turn line s Toggle n (h .standing) r; bytes = h .bytes }
+laid-turn line out₀ out s Gap n h r room =
+    let l = h .standing in
+    let k = gap-room s Gap n (length out₀) refl (step-room line out₀ out s Gap n h r room) in
+    record {
+      standing = standing-turn line s Gap n l r;
+      bytes =
+          ap (headed (s .done) (s .word)) (h .bytes)
+          ∙ close-word (l .frames) (l .word) out₀ (s .done) (s .word) (l .done-is) (l .word-is) k
+          ∙ laid-empty (l .frames ++ shown (ended (l .word) [])) out₀ (closedAt (s .done) (s .word));
+    }
 
 -- the line has ended
 module _ (line out₀ out : List ℕ) (s : Scan) (h : Laid line out₀ out s) (end : length line ≤ s .at) (room : length (written line) ≤ length out₀) where

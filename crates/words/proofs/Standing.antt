@@ -4,14 +4,13 @@ use mathlib.Core.Path.{_≡_, refl, sym, ap, _∙_}
 use mathlib.Core.Bool.{Bool, true, false, not}
 use mathlib.Core.List.{List, [], _∷_, _++_, map, append-assoc, append-nil}
 use native.Mathlib.Omega.{arith}
-use lib.ListN.{length, drop, length-append}
-use lib.Seq.{drop-drop}
+use lib.ListN.{length, drop, length-append, length-drop}
+use lib.Seq.{length-take-le}
 use Rattle.text.specs.Unicode.{encode, encodeAll}
-use Rattle.text.specs.Decoding.{decodeFirst, codesIn, wellFormedLength}
-use Rattle.text.specs.declared.utf8.Decoded.the-variants.{Character}
+use Rattle.text.specs.Decoding.{codesIn, wellFormedLength}
 use Rattle.text.specs.Apart.{ended}
-use Rattle.text.proofs.Pieces.{begins, character-some, character-fits, encode-some}
-use Rattle.text.proofs.Prefix.{codes-step, codes-end, prefix-turn, prefix-none, encode-append}
+use Rattle.text.proofs.Pieces.{encode-some}
+use Rattle.text.proofs.Prefix.{codes-end, prefix-none, encode-append}
 use Rattle.frame.specs.Framed.{frameOf}
 use Rattle.frame.proofs.Frames.{length-frameOf}
 use Rattle.words.specs.declared.turn.Turn.{Turn}
@@ -19,7 +18,7 @@ use Rattle.words.specs.declared.turn.Turn.the-variants.{Take, Escape, To
 use Rattle.words.specs.declared.scan.Scan.{Scan}
 use Rattle.words.specs.Tokens.{turnOf, onTurn, tokensFrom, tokens, wordsOf, framesOf}
 use Rattle.words.specs.Answer.{written}
-use Rattle.words.specs.Scan.{closedAt, closedBy, advanced, measured}
+use Rattle.words.specs.Scan.{closedAt, closedBy, advanced, measured, doneBy, Reading}
 use Rattle.words.specs.declared.tokenizer.Measured.the-variants.{Needs, IllFormed}
 use Rattle.buffer.proofs.Choices.{then-is, else-is}
 use borrow.Author.Tests.{lt-ltb, le-ltb}
@@ -83,24 +82,9 @@ standing-start line =
       all = refl;
     }
 
-tokens-step : (word : List ℕ) (quotes escaped : Bool) (code : ℕ) (codes : List ℕ) (t : Turn) → turnOf quotes escaped code ≡ t
-    → tokensFrom word quotes escaped (code ∷ codes)
-    ≡ onTurn t (λ _. tokensFrom (word ++ (code ∷ [])) quotes false codes) (λ _. tokensFrom word quotes true codes) (λ _. tokensFrom word (not quotes) false codes)
-    (λ _. ended word (tokensFrom [] quotes false codes))
-unfolding tokensFrom
-tokens-step word quotes escaped code codes t e =
-    ap
-    (λ (x : Turn).
-    onTurn x (λ _. tokensFrom (word ++ (code ∷ [])) quotes false codes) (λ _. tokensFrom word quotes true codes) (λ _. tokensFrom word (not quotes) false codes)
-    (λ _. ended word (tokensFrom [] quotes false codes)))
-    e
-
--- a character more in the open word
-pub word-more : (word : List ℕ) (code : ℕ) → length (encodeAll (word ++ (code ∷ []))) ≡ length (encodeAll word) + length (encode code)
-unfolding encodeAll
-word-more word code =
-    ap length (encode-append word (code ∷ []) ∙ ap (λ (l : List ℕ). encodeAll word ++ l) (append-nil (encode code)))
-    ∙ length-append (encodeAll word) (encode code)
+-- characters more in the open word
+pub word-more : (word run : List ℕ) → length (encodeAll (word ++ run)) ≡ length (encodeAll word) + length (encodeAll run)
+word-more word run = ap length (encode-append word run) ∙ length-append (encodeAll word) (encodeAll run)
 
 pub cost-more : (done word at n : ℕ) → 0 < n → closedAt done word ≤ 4 * at → closedAt done (word + n) ≤ 4 * (at + n)
 cost-more done zero at n h k =
@@ -116,80 +100,77 @@ pub nothing-open : 0 ≡ length (encodeAll [])
 unfolding encodeAll
 nothing-open = refl
 
--- a character read
-module _ (line : List ℕ) (s : Scan) (code n : ℕ) (h : Standing line s) (d : decodeFirst (drop (s .at) line) ≡ Character code n) where
-  unfoldable pub rest : List ℕ
-  rest = codesIn (drop (s .at + n) line)
+-- a step read
+module _ (line : List ℕ) (s : Scan) (t : Turn) (n : ℕ) (h : Standing line s) (r : Reading line s t n) where
+  pub size-is : length (encodeAll (r .run)) ≡ n
+  size-is =
+      let f = r .fits in
+      ap length (sym (r .bytes)) ∙ length-take-le n (drop (s .at) line) (rw (length-drop (s .at) line) (omega arith))
 
-  pub codes-are : codesIn (drop (s .at) line) ≡ code ∷ rest
-  unfolding rest
-  codes-are = codes-step (drop (s .at) line) code n d ∙ ap (λ (l : List ℕ). code ∷ codesIn l) (drop-drop n (s .at) line)
+  pub all-are : written line ≡ h .frames ++ shown (doneBy t (s .quotes) (h .word) (r .run) (codesIn (drop (s .at + n) line)))
+  all-are =
+      h .all
+      ∙ ap (λ (l : List ℕ). h .frames ++ shown (tokensFrom (h .word) (s .quotes) (s .escaped) l)) (r .codes)
+      ∙ ap (λ (l : List (List ℕ)). h .frames ++ shown l) (r .does (h .word) (codesIn (drop (s .at + n) line)))
 
-  pub all-are : (t : Turn) → turnOf (s .quotes) (s .escaped) code ≡ t
-      → written line ≡ h .frames ++ shown (onTurn t (λ _. tokensFrom (h .word ++ (code ∷ [])) (s .quotes) false rest) (λ _. tokensFrom (h .word) (s .quotes) true rest)
-      (λ _. tokensFrom (h .word) (not (s .quotes)) false rest) (λ _. ended (h .word) (tokensFrom [] (s .quotes) false rest)))
-  all-are t e =
-      h .all ∙ ap (λ (l : List (List ℕ)). h .frames ++ shown l) (ap (tokensFrom (h .word) (s .quotes) (s .escaped)) codes-are ∙ tokens-step (h .word) (s .quotes) (s .escaped) code rest t e)
-
-  unfoldable pub standing-turn : (t : Turn) → turnOf (s .quotes) (s .escaped) code ≡ t → Standing line (advanced s t n)
-  unfolding rest
-  standing-turn Take e =
-      let some = character-some (drop (s .at) line) code n d in
-      let size = begins (drop (s .at) line) code n d .size in
-      let w = h .word-is in
-      let m = word-more (h .word) code in
-      record {
-        frames = h .frames;
-        word = h .word ++ (code ∷ []);
-        inside = character-fits line (s .at) code n d;
-        done-is = h .done-is;
-        word-is = omega arith;
-        cost = cost-more (s .done) (s .word) (s .at) n some (h .cost);
-        prefix-is = prefix-turn line (s .at) code n (wellFormedLength line) d (h .prefix-is);
-        all = all-are Take e;
-      }
-  standing-turn Escape e =
-      record {
-        frames = h .frames;
-        word = h .word;
-        inside = character-fits line (s .at) code n d;
-        done-is = h .done-is;
-        word-is = h .word-is;
-        cost = let k = h .cost in omega arith;
-        prefix-is = prefix-turn line (s .at) code n (wellFormedLength line) d (h .prefix-is);
-        all = all-are Escape e;
-      }
-  standing-turn Toggle e =
-      record {
-        frames = h .frames;
-        word = h .word;
-        inside = character-fits line (s .at) code n d;
-        done-is = h .done-is;
-        word-is = h .word-is;
-        cost = let k = h .cost in omega arith;
-        prefix-is = prefix-turn line (s .at) code n (wellFormedLength line) d (h .prefix-is);
-        all = all-are Toggle e;
-      }
-  standing-turn Gap e =
-      let k = h .cost in
-      let l = h .done-is in
-      let last : List ℕ = shown (ended (h .word) []) in
-      let size = shown-length (h .word) (s .done) (s .word) (h .word-is) in
-      let whole = length-append (h .frames) last in
-      let empty = closed-none (closedAt (s .done) (s .word)) 0 refl in
-      record {
-        frames = h .frames ++ last;
-        word = [];
-        inside = character-fits line (s .at) code n d;
-        done-is = omega arith;
-        word-is = nothing-open;
-        cost = omega arith;
-        prefix-is = prefix-turn line (s .at) code n (wellFormedLength line) d (h .prefix-is);
-        all =
-            all-are Gap e
-            ∙ ap (λ (l : List ℕ). h .frames ++ l) (shown-ended (h .word) (tokensFrom [] (s .quotes) false rest))
-            ∙ sym (append-assoc (h .frames) last (shown (tokensFrom [] (s .quotes) false rest)));
-      }
+unfoldable pub standing-turn : (line : List ℕ) (s : Scan) (t : Turn) (n : ℕ) → Standing line s → Reading line s t n → Standing line (advanced s t n)
+standing-turn line s Take n h r =
+    let size = size-is line s Take n h r in
+    let w = h .word-is in
+    let m = word-more (h .word) (r .run) in
+    record {
+      frames = h .frames;
+      word = h .word ++ r .run;
+      inside = r .fits;
+      done-is = h .done-is;
+      word-is = omega arith;
+      cost = cost-more (s .done) (s .word) (s .at) n (r .some) (h .cost);
+      prefix-is = r .prefix ∙ h .prefix-is;
+      all = all-are line s Take n h r;
+    }
+standing-turn line s Escape n h r =
+    record {
+      frames = h .frames;
+      word = h .word;
+      inside = r .fits;
+      done-is = h .done-is;
+      word-is = h .word-is;
+      cost = let k = h .cost in omega arith;
+      prefix-is = r .prefix ∙ h .prefix-is;
+      all = all-are line s Escape n h r;
+    }
+standing-turn line s Toggle n h r =
+    record {
+      frames = h .frames;
+      word = h .word;
+      inside = r .fits;
+      done-is = h .done-is;
+      word-is = h .word-is;
+      cost = let k = h .cost in omega arith;
+      prefix-is = r .prefix ∙ h .prefix-is;
+      all = all-are line s Toggle n h r;
+    }
+standing-turn line s Gap n h r =
+    let k = h .cost in
+    let l = h .done-is in
+    let last : List ℕ = shown (ended (h .word) []) in
+    let size = shown-length (h .word) (s .done) (s .word) (h .word-is) in
+    let whole = length-append (h .frames) last in
+    let empty = closed-none (closedAt (s .done) (s .word)) 0 refl in
+    let words : List (List ℕ) = tokensFrom [] (s .quotes) false (codesIn (drop (s .at + n) line)) in
+    record {
+      frames = h .frames ++ last;
+      word = [];
+      inside = r .fits;
+      done-is = omega arith;
+      word-is = nothing-open;
+      cost = omega arith;
+      prefix-is = r .prefix ∙ h .prefix-is;
+      all =
+          all-are line s Gap n h r
+          ∙ ap (λ (x : List ℕ). h .frames ++ x) (shown-ended (h .word) words)
+          ∙ sym (append-assoc (h .frames) last (shown words));
+    }
 
 -- the line has ended: the open word ends with it
 module _ (line : List ℕ) (s : Scan) (h : Standing line s) (end : length line ≤ s .at) where
@@ -235,7 +216,7 @@ module _ (line : List ℕ) (s : Scan) (h : Standing line s) (on : s .at < length
 -- what comes takes at least what the open word takes once it ends
 longer-word : (word : List ℕ) (code : ℕ) → length (shown (ended word [])) ≤ length (shown (ended (word ++ (code ∷ [])) []))
 longer-word word code =
-    let m = word-more word code in
+    let m = word-more word (code ∷ []) in
     let a = shown-length word 0 (length (encodeAll word)) refl in
     let b = shown-length (word ++ (code ∷ [])) 0 (length (encodeAll (word ++ (code ∷ [])))) refl in
     ⊎-elim

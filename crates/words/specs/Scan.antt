@@ -1,18 +1,42 @@
 -- How the code goes through a line, twice by the same steps: what a step does to its numbers, and to the buffer.
-use Prim.Native.Nat.{ℕ, zero, suc, _+_}
-use mathlib.Core.Bool.{true, false, cond, not}
-use mathlib.Core.List.{List, _∷_}
-use lib.Dec.{ltb}
+use Prim.Native.Nat.{ℕ, zero, suc, _+_, _-_, _≤_, _<_}
+use mathlib.Core.Path.{_≡_}
+use mathlib.Core.Bool.{Bool, true, false, cond, not}
+use mathlib.Core.List.{List, [], _∷_, _++_}
+use lib.Dec.{eqb, ltb, leb}
 use lib.ListN.{length, take, drop}
 use Rattle.buffer.specs.Write.{overAt}
 use Rattle.frame.specs.Text.{number}
-use Rattle.text.specs.Decoding.{wellFormedLength}
+use Rattle.text.specs.Decoding.{codesIn, wellFormedLength}
 use Rattle.words.specs.Answer.{written}
 use Rattle.words.specs.declared.turn.Turn.{Turn}
 use Rattle.words.specs.declared.turn.Turn.the-variants.{Take, Escape, Toggle, Gap}
 use Rattle.words.specs.declared.scan.Scan.{Scan}
 use Rattle.words.specs.declared.tokenizer.Measured.{Measured}
-use Rattle.words.specs.declared.tokenizer.Measured.the-variants.{Needs, IllFormed}
+use Rattle.words.specs.declared.tokenizer.Measured.the-variants.{Needs, IllFormed as Broken}
+use Rattle.words.specs.declared.step.Step.{Step}
+use Rattle.words.specs.declared.step.Step.the-variants.{Go, IllFormed}
+use Rattle.text.specs.Unicode.{encodeAll}
+use Rattle.text.specs.Apart.{ended}
+use Rattle.words.specs.Tokens.{backslash, quote, turnOf, tokensFrom}
+
+-- the words still to come after characters that do what the turn says
+abbrev pub doneBy : Turn → Bool → List ℕ → List ℕ → List ℕ → List (List ℕ)
+doneBy Take quotes word run rest = tokensFrom (word ++ run) quotes false rest
+doneBy Escape quotes word run rest = tokensFrom word quotes true rest
+doneBy Toggle quotes word run rest = tokensFrom word (not quotes) false rest
+doneBy Gap quotes word run rest = ended word (tokensFrom [] quotes false rest)
+
+-- the first characters that are taken, whatever stood before them
+abbrev pub isTake : Turn → Bool
+isTake Take = true
+isTake Escape = false
+isTake Toggle = false
+isTake Gap = false
+
+unfoldable pub runFirst : Bool → List ℕ → List ℕ
+runFirst quotes [] = []
+runFirst quotes (code ∷ codes) = cond (isTake (turnOf quotes false code)) (code ∷ runFirst quotes codes) []
 
 -- how many bytes the frames take once the open word has ended
 unfoldable pub closedAt : ℕ → ℕ → ℕ
@@ -29,6 +53,39 @@ advanced s Escape n = record { at = s .at + n; done = s .done; word = s .word; q
 advanced s Toggle n = record { at = s .at + n; done = s .done; word = s .word; quotes = not (s .quotes); escaped = false }
 advanced s Gap n = record { at = s .at + n; done = closedAt (s .done) (s .word); word = 0; quotes = s .quotes; escaped = false }
 
+-- an ASCII character that is taken anywhere
+unfoldable pub ordinary : ℕ → Bool
+ordinary b = cond (leb b 0x20) false (cond (leb 0x7F b) false (cond (eqb b quote) false (not (eqb b backslash))))
+
+-- what a step reads: characters that fill n bytes, and together do what the turn says
+pub record Reading (line : List ℕ) (s : Scan) (turn : Turn) (n : ℕ) : Type 0 where
+  pub run : List ℕ
+  pub some : 0 < n
+  pub fits : s .at + n ≤ length line
+  pub prefix : s .at + n + wellFormedLength (drop (s .at + n) line) ≡ s .at + wellFormedLength (drop (s .at) line)
+  pub codes : codesIn (drop (s .at) line) ≡ run ++ codesIn (drop (s .at + n) line)
+  pub bytes : take n (drop (s .at) line) ≡ encodeAll run
+  pub does : (word rest : List ℕ) → tokensFrom word (s .quotes) (s .escaped) (run ++ rest) ≡ doneBy turn (s .quotes) word run rest
+
+-- a step reads characters, or stands where the line is ill-formed
+abbrev pub StepOf : List ℕ → Scan → Step → Type 0
+StepOf line s (Go turn n) = Reading line s turn n
+StepOf line s IllFormed = codesIn (drop (s .at) line) ≡ []
+
+-- a run: the characters from a place to another that are all taken, whatever stood before them, up to one that is not
+pub record Run (line : List ℕ) (start : ℕ) (quotes : Bool) (at : ℕ) : Type 0 where
+  pub run : List ℕ
+  pub onward : start ≤ at
+  pub fits : at ≤ length line
+  pub prefix : at + wellFormedLength (drop at line) ≡ start + wellFormedLength (drop start line)
+  pub codes : codesIn (drop start line) ≡ run ++ codesIn (drop at line)
+  pub bytes : take (at - start) (drop start line) ≡ encodeAll run
+  pub taken : runFirst quotes run ≡ run
+
+pub record WholeRun (line : List ℕ) (start : ℕ) (quotes : Bool) (at : ℕ) : Type 0 where
+  pub reached : Run line start quotes at
+  pub stops : runFirst quotes (codesIn (drop at line)) ≡ []
+
 -- the head of a word's frame, once the word has ended
 unfoldable pub headed : ℕ → ℕ → List ℕ → List ℕ
 headed done zero out = out
@@ -43,4 +100,4 @@ putBy line s Gap n out = headed (s .done) (s .word) out
 
 -- what measuring a line finds
 unfoldable pub measured : List ℕ → Measured
-measured line = cond (ltb (wellFormedLength line) (length line)) (IllFormed (wellFormedLength line)) (Needs (length (written line)))
+measured line = cond (ltb (wellFormedLength line) (length line)) (Broken (wellFormedLength line)) (Needs (length (written line)))

@@ -38,7 +38,7 @@ impl Scan {
         }
     }
 
-    // A character of n bytes is read.
+    // n bytes are read that together do what the turn says.
     pub fn advance(self, turn: Turn, n: usize) -> Scan
         requires { ⌜ (closedBy self ≤ 4 * self .at) × (self .at + n ≤ 1024) ⌝ }
         ensures { λ r. ⌜ r ≡ advanced self turn n ⌝ }

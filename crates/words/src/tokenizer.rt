@@ -8,12 +8,11 @@ ghost use Rattle.words.specs.Answer.{written, Tokenized};
 ghost use Rattle.words.specs.Scan.{closedAt, closedBy, advanced, headed, putBy, measured};
 use super::scan::Scan;
 use super::scan::closed;
+use super::step::Step;
+use super::step::step_of;
 use super::turn::Turn;
-use super::turn::turn_of;
 use buffer::push;
 use buffer::push_byte;
-use text::Decoded;
-use text::decode;
 
 // What tokenizing a line answers.
 pub enum Tokens {
@@ -39,11 +38,10 @@ fn measure(line: &[u8]) -> Measured
 {
     let mut scan = Scan::start();
     while scan.at < line.len() {
-        let at = scan.at;
-        let Decoded::Character { code, length } = decode(line, at) else {
-            return Measured::IllFormed(at);
+        let Step::Go { turn, length } = step_of(line, scan) else {
+            return Measured::IllFormed(scan.at);
         };
-        scan = scan.advance(turn_of(scan.quotes, scan.escaped, code), length);
+        scan = scan.advance(turn, length);
     }
     Measured::Needs(closed(scan.done, scan.word))
 }
@@ -61,7 +59,7 @@ fn end_word(done: usize, word: usize, out: &mut [u8])
     push_byte((word % 256) as u8, out, low);
 }
 
-// Writes what a character of n bytes adds: its bytes, or the head of the word that it ends.
+// Writes what a step of n bytes adds: its bytes, or the head of the word that it ends.
 fn put(line: &[u8], scan: Scan, turn: Turn, n: usize, out: &mut [u8])
     requires { ⌜ (0 < n) × (scan .at + n ≤ length (now line)) ⌝ }
     requires { ⌜ (scan .word ≤ 4096) × (closedBy (advanced scan turn n) ≤ length (now out)) ⌝ }
@@ -88,13 +86,11 @@ fn write(line: &[u8], out: &mut [u8])
 {
     let mut scan = Scan::start();
     while scan.at < line.len() {
-        let at = scan.at;
-        let Decoded::Character { code, length } = decode(line, at) else {
+        let Step::Go { turn, length } = step_of(line, scan) else {
             return;
         };
-        let step = turn_of(scan.quotes, scan.escaped, code);
-        put(line, scan, step, length, out);
-        scan = scan.advance(step, length);
+        put(line, scan, turn, length, out);
+        scan = scan.advance(turn, length);
     }
     end_word(scan.done, scan.word, out);
 }

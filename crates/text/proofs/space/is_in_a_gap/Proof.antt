@@ -1,6 +1,6 @@
 use Rattle.buffer.proofs.Choices.{then-is, else-is}
 use Rattle.text.specs.Space.{gap}
-use mathlib.Core.Path.{sym, _∙_}
+use mathlib.Core.Path.{sym}
 use borrow.Author.Tests.{lt-ltb, le-ltb}
 use Rattle.text.proofs.space.is_in_a_gap.Statement.{statement}
 use Rattle.text.proofs.space.is_in_a_gap.Tie as tie
@@ -11,11 +11,7 @@ returns c = sym (then-is _ _ _ (lt-ltb _ _ (c .if1 .taken)))
 
 returns-2 : tie.Need-returns-2
 unfolding gap
-returns-2 c = sym (else-is _ _ _ (le-ltb _ _ (c .before .if1 .left)) ∙ then-is _ _ _ (lt-ltb _ _ (c .if2 .taken)))
-
-returns-3 : tie.Need-returns-3
-unfolding gap
-returns-3 c = sym (else-is _ _ _ (le-ltb _ _ (c .before .if1 .left)) ∙ else-is _ _ _ (le-ltb _ _ (c .if2 .left)))
+returns-2 c = sym (else-is _ _ _ (le-ltb _ _ (c .if1 .left)))
 
 pub is-in-a-gap-spec : {M : Type 1} → statement M
-is-in-a-gap-spec = tie.close (tie.spec returns returns-2 returns-3)
+is-in-a-gap-spec = tie.close (tie.spec returns returns-2)

@@ -1,10 +1,9 @@
-use Rattle.words.proofs.Steps.{step-less}
 use Rattle.words.proofs.Standing.{Standing, standing-start, standing-turn, measured-whole, measured-broken}
-use Rattle.text.proofs.Prefix.{codes-stop}
-use Rattle.text.proofs.Pieces.{character-some, character-fits}
+use Rattle.words.proofs.Steps.{step-less}
+use Rattle.words.proofs.Runs.{step-goes, step-stops}
 use native.Mathlib.Omega.{arith}
 use Prim.Native.Nat.{_-_}
-use mathlib.Core.Path.{sym, _∙_}
+use mathlib.Core.Path.{sym}
 use lib.ListN.{length}
 use Rattle.words.proofs.tokenizer.measure.Statement.{statement}
 use Rattle.words.proofs.tokenizer.measure.Tie as tie
@@ -21,30 +20,30 @@ start-requires c κs = tt
 loop-holds : tie.Need-loop-holds Inv-loop μ-loop
 loop-holds c = rw (c .start .ensures) (standing-start _)
 
-decode-requires : tie.Need-decode-requires Inv-loop μ-loop
-decode-requires c κs = tt
+step-of-requires : tie.Need-step-of-requires Inv-loop μ-loop
+step-of-requires c κs = c .if1 .taken
 
-enum-known-code : tie.Need-enum-known-code Inv-loop μ-loop
-enum-known-code c = c .match .keys1
+enum-known-turn : tie.Need-enum-known-turn Inv-loop μ-loop
+enum-known-turn c = c .match .keys1
+
+enum-told : tie.Need-enum-told Inv-loop μ-loop
+enum-told c = c .match .keys2
 
 returns : tie.Need-returns Inv-loop μ-loop
-returns c = sym (measured-broken _ _ (c .before .before .before .before .loop .inv) (c .before .before .if1 .taken) (codes-stop _ _ (sym (c .before .decode .ensures)) (c .match .keys2)))
-
-turn-of-requires : tie.Need-turn-of-requires Inv-loop μ-loop
-turn-of-requires c κs = tt
+returns c = sym (measured-broken _ _ (c .before .before .before .before .before .loop .inv) (c .before .before .before .if1 .taken) (step-stops _ _ _ (c .before .before .step-of .ensures) (c .enum-told .given .1)))
 
 advance-requires : tie.Need-advance-requires Inv-loop μ-loop
 advance-requires c κs =
-    let f = character-fits (c .before .before .before .before .before .before .before .before .before .before .args .line .now) (c .before .before .before .before .before .before .before .loop .scan .at) _ _ (sym (c .before .before .before .before .decode .ensures) ∙ c .before .before .code .given .1) in
-    (c .before .before .before .before .before .before .before .loop .inv .cost, omega (arith, f, c .before .before .before .before .before .before .before .before .before .before .pre))
+    let r = step-goes (c .before .before .before .before .before .before .before .before .before .args .line .now) (c .before .before .before .before .before .before .loop .scan) _ _ _ (c .before .before .before .step-of .ensures) (c .before .turn .given .1) in
+    (c .before .before .before .before .before .before .loop .inv .cost, omega (arith, r .fits, c .before .before .before .before .before .before .before .before .before .pre))
 
 loop-less : tie.Need-loop-less Inv-loop μ-loop
 loop-less c =
-    let d = sym (c .before .before .before .before .before .decode .ensures) ∙ c .before .before .before .code .given .1 in
-    step-less (c .before .before .before .before .before .before .before .before .before .before .before .args .line .now) (c .before .before .before .before .before .before .before .before .loop .scan) _ (c .before .turn-of .result) _ (c .advance .ensures) (character-some _ _ _ d) (character-fits (c .before .before .before .before .before .before .before .before .before .before .before .args .line .now) (c .before .before .before .before .before .before .before .before .loop .scan .at) _ _ d)
+    let r = step-goes (c .before .before .before .before .before .before .before .before .before .before .args .line .now) (c .before .before .before .before .before .before .before .loop .scan) _ _ _ (c .before .before .before .before .step-of .ensures) (c .before .before .turn .given .1) in
+    step-less (c .before .before .before .before .before .before .before .before .before .before .args .line .now) (c .before .before .before .before .before .before .before .loop .scan) _ (c .before .before .turn .given .0 .0) _ (c .advance .ensures) (r .some) (r .fits)
 
 loop-again : tie.Need-loop-again Inv-loop μ-loop
-loop-again c = rw (c .advance .ensures) (standing-turn _ _ _ _ (c .before .before .before .before .before .before .before .before .loop .inv) (sym (c .before .before .before .before .before .decode .ensures) ∙ c .before .before .before .code .given .1) _ (sym (c .before .turn-of .ensures)))
+loop-again c = rw (c .advance .ensures) (standing-turn _ _ _ _ (c .before .before .before .before .before .before .before .loop .inv) (step-goes _ _ _ _ _ (c .before .before .before .before .step-of .ensures) (c .before .before .turn .given .1)))
 
 closed-requires : tie.Need-closed-requires Inv-loop μ-loop
 closed-requires c κs = let k = c .before .before .loop .inv .cost in let i = c .before .before .loop .inv .inside in omega (arith, k, i, c .before .before .before .before .before .pre)
@@ -60,10 +59,10 @@ measure-spec =
     μ-loop
     start-requires
     loop-holds
-    decode-requires
-    enum-known-code
+    step-of-requires
+    enum-known-turn
+    enum-told
     returns
-    turn-of-requires
     advance-requires
     loop-less
     loop-again

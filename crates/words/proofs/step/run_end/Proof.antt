@@ -1,0 +1,83 @@
+use Rattle.words.proofs.Runs.{run-on, run-one, run-stop, run-other}
+use Rattle.words.specs.Scan.{Run}
+use Rattle.text.proofs.Prefix.{codes-stop, codes-end}
+use Rattle.text.proofs.Pieces.{character-some, character-fits}
+use borrow.Author.Needs.{needs}
+use native.Mathlib.Omega.{arith}
+use Prim.Native.Nat.{_-_}
+use mathlib.Core.Path.{sym, _∙_}
+use lib.ListN.{length, drop}
+use Rattle.words.proofs.step.run_end.Statement.{statement}
+use Rattle.words.proofs.step.run_end.Tie as tie
+
+abbrev Inv-loop : tie.InvT-loop
+Inv-loop line start quotes at₀ at = Run line start quotes at
+
+abbrev μ-loop : tie.MeasureT-loop
+μ-loop line start quotes at₀ at = length line - at
+
+ordinary-end-requires : tie.Need-ordinary-end-requires Inv-loop μ-loop
+ordinary-end-requires c κs = search needs
+
+loop-holds : tie.Need-loop-holds Inv-loop μ-loop
+loop-holds c = c .ordinary-end .ensures _
+
+decode-requires : tie.Need-decode-requires Inv-loop μ-loop
+decode-requires c κs = search needs
+
+enum-known-code : tie.Need-enum-known-code Inv-loop μ-loop
+enum-known-code c = c .match .keys1
+
+returns : tie.Need-returns Inv-loop μ-loop
+returns c = record { reached = c .before .before .before .loop .inv; stops = run-stop _ _ (codes-stop _ _ (sym (c .before .decode .ensures)) (c .match .keys2)) }
+
+turn-of-requires : tie.Need-turn-of-requires Inv-loop μ-loop
+turn-of-requires c κs = search needs
+
+enum-told : tie.Need-enum-told Inv-loop μ-loop
+enum-told c = c .match2 .keys1
+
+returns-2 : tie.Need-returns-2 Inv-loop μ-loop
+returns-2 c =
+    record {
+      reached = c .before .before .before .before .before .before .before .loop .inv;
+      stops = run-other (c .before .before .before .before .before .before .before .before .before .before .args .line .now) _ (c .before .before .before .before .before .before .before .loop .at) _ _ _ (sym (c .before .before .before .before .before .decode .ensures) ∙ c .before .before .before .code .given .1) (sym (c .before .turn-of .ensures)) (c .match2 .keys2);
+    }
+
+add-ordinary-end : tie.Need-add-ordinary-end Inv-loop μ-loop
+add-ordinary-end c = let f = character-fits (c .before .before .before .before .before .before .before .before .before .before .before .args .line .now) (c .before .before .before .before .before .before .before .before .loop .at) _ _ (sym (c .before .before .before .before .before .before .decode .ensures) ∙ c .before .before .before .before .code .given .1) in omega arith
+
+ordinary-end-requires-2 : tie.Need-ordinary-end-requires-2 Inv-loop μ-loop
+ordinary-end-requires-2 c κs = character-fits (c .before .before .before .before .before .before .before .before .before .before .before .args .line .now) (c .before .before .before .before .before .before .before .before .loop .at) _ _ (sym (c .before .before .before .before .before .before .decode .ensures) ∙ c .before .before .before .before .code .given .1)
+
+loop-less : tie.Need-loop-less Inv-loop μ-loop
+loop-less c =
+    let g = character-some (drop (c .before .before .before .before .before .before .before .before .before .loop .at) (c .before .before .before .before .before .before .before .before .before .before .before .before .args .line .now)) _ _ (sym (c .before .before .before .before .before .before .before .decode .ensures) ∙ c .before .before .before .before .before .code .given .1) in
+    let r = c .ordinary-end2 .ensures (c .before .before .before .before .before .before .before .before .before .before .before .before .args .quotes) in
+    omega (arith, g, r .onward, r .fits)
+
+loop-again : tie.Need-loop-again Inv-loop μ-loop
+loop-again c = run-on _ _ _ _ _ (c .before .before .before .before .before .before .before .before .before .loop .inv) (run-on _ _ _ _ _ (run-one _ _ _ _ _ (sym (c .before .before .before .before .before .before .before .decode .ensures) ∙ c .before .before .before .before .before .code .given .1) (sym (c .before .before .before .turn-of .ensures) ∙ c .before .enum-told .given .1)) (c .ordinary-end2 .ensures _))
+
+returns-3 : tie.Need-returns-3 Inv-loop μ-loop
+returns-3 c = record { reached = c .before .loop .inv; stops = run-stop _ _ (codes-end _ _ (c .loop-test .left)) }
+
+pub run-end-spec : {M : Type 1} → statement M
+run-end-spec =
+    tie.close
+    (tie.spec
+    Inv-loop
+    μ-loop
+    ordinary-end-requires
+    loop-holds
+    decode-requires
+    enum-known-code
+    returns
+    turn-of-requires
+    enum-told
+    returns-2
+    add-ordinary-end
+    ordinary-end-requires-2
+    loop-less
+    loop-again
+    returns-3)
