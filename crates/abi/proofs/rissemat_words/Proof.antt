@@ -1,3 +1,4 @@
+-- `abi::rissemat_words` meets its contract.
 use Rattle.abi.proofs.Answering.{words-call}
 use borrow.Author.Needs.{needs}
 use Rattle.abi.proofs.rissemat_words.Statement.{statement}

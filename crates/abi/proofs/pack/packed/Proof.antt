@@ -1,3 +1,4 @@
+-- `abi::pack::packed` meets its contract.
 use Rattle.abi.specs.Packed.{answered}
 use Prim.Native.Nat.{min, ℕ, _+_, _*_}
 use mathlib.Core.Logic.{⊎-elim}

@@ -1,3 +1,4 @@
+-- `buffer::order::compare` meets its contract. The loop has passed equal bytes: the order of what is left is the order of the whole.
 use Rattle.buffer.proofs.Ordering.{order-less, order-greater, order-on, order-longer, order-shorter, order-ends}
 use Rattle.buffer.specs.Compare.{order}
 use native.Mathlib.Omega.{arith}

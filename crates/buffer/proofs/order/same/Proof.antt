@@ -1,3 +1,4 @@
+-- `buffer::order::same` meets its contract. The loop has passed equal bytes: what is left is the same exactly if the whole is.
 use Rattle.buffer.proofs.Ordering.{same-on, same-not, same-ends, same-lengths}
 use Rattle.buffer.specs.Compare.{sameBytes}
 use native.Mathlib.Omega.{arith}

@@ -1,3 +1,4 @@
+-- `buffer::scan::most` meets its contract. The greatest byte so far and the greatest of what is left give the greatest of all.
 use Rattle.buffer.proofs.Greatest.{greatest-step, greatest-end}
 use Rattle.buffer.specs.Most.{greatest}
 use Prim.Native.Nat.{max, _≤_, _-_}

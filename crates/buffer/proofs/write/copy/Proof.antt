@@ -1,3 +1,4 @@
+-- `buffer::write::copy` meets its contract. The buffer holds the bytes passed, then its old ones.
 use Rattle.buffer.proofs.Lending.{copy-step, copy-end}
 use native.Mathlib.Omega.{arith}
 use Prim.Native.Nat.{_≤_, _<_, _-_}

@@ -1,3 +1,4 @@
+-- `buffer::write::push` meets its contract.
 use Rattle.buffer.proofs.Lending.{rest-written}
 use borrow.Author.Needs.{needs}
 use native.Mathlib.Omega.{arith}

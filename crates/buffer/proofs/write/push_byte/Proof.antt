@@ -1,3 +1,4 @@
+-- `buffer::write::push_byte` meets its contract.
 use Rattle.buffer.proofs.Lending.{overAt-byte}
 use borrow.Author.Needs.{needs}
 use mathlib.Core.Path.{refl}

@@ -1,3 +1,4 @@
+-- `text::apart::is_blank` meets its contract.
 use Rattle.text.proofs.Splits.{blank-is}
 use borrow.Author.Needs.{needs}
 use Rattle.text.proofs.apart.is_blank.Statement.{statement}

@@ -1,3 +1,4 @@
+-- `text::apart::next_word` meets its contract.
 use Rattle.text.proofs.Splits.{next-past, next-none, next-is}
 use borrow.Author.Needs.{needs}
 use mathlib.Core.Path.{sym}

@@ -1,3 +1,4 @@
+-- `text::apart::see` meets its contract.
 use Rattle.text.proofs.Sights.{see-character, see-stray, see-end}
 use borrow.Author.Needs.{needs}
 use mathlib.Core.Path.{sym, _∙_}

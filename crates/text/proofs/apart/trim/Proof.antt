@@ -1,3 +1,4 @@
+-- `text::apart::trim` meets its contract.
 use Rattle.text.proofs.Splits.{run-fits, trim-fits, trim-is}
 use Rattle.text.proofs.Sights.{solidLength}
 use borrow.Author.Needs.{needs}

@@ -1,3 +1,4 @@
+-- `text::space::is_in_a_gap` meets its contract.
 use Rattle.buffer.proofs.Choices.{then-is, else-is}
 use Rattle.text.specs.Space.{gap}
 use mathlib.Core.Path.{sym}

@@ -1,3 +1,4 @@
+-- `text::space::is_listed` meets its contract. The code is in what is left of the table exactly if it is in the table.
 use Rattle.text.proofs.Spaces.{among-found, among-on}
 use Rattle.text.specs.Space.{whiteSpace, among, isWhiteSpace}
 use native.Mathlib.Omega.{arith}

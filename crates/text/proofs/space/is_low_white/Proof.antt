@@ -1,3 +1,4 @@
+-- `text::space::is_low_white` meets its contract.
 use Rattle.buffer.proofs.Choices.{then-is, else-is}
 use Rattle.text.specs.Space.{lowWhite}
 use mathlib.Core.Path.{sym}

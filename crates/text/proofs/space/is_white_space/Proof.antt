@@ -1,3 +1,4 @@
+-- `text::space::is_white_space` meets its contract.
 use Rattle.text.proofs.Spaces.{low-is, none-in-a-gap}
 use borrow.Author.Needs.{needs}
 use mathlib.Core.Path.{sym, _∙_}

@@ -1,3 +1,4 @@
+-- `text::utf8::byte_at` meets its contract.
 use lib.ListN.{List·getD-eq-default}
 use borrow.Author.Needs.{needs}
 use mathlib.Core.Path.{sym}

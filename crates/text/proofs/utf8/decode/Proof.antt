@@ -1,3 +1,4 @@
+-- `text::utf8::decode` meets its contract.
 use Rattle.text.proofs.Rows.{decode-at, decode-end, row-ascii}
 use borrow.Author.Needs.{needs}
 use mathlib.Core.Path.{sym, _∙_}

@@ -1,3 +1,4 @@
+-- `text::utf8::four` meets its contract.
 use Rattle.text.proofs.Rows.{four-is, four-not, four-cut, four-cut-last}
 use borrow.Author.Needs.{needs}
 use mathlib.Core.Path.{sym, _∙_}

@@ -1,3 +1,4 @@
+-- `text::utf8::greatest_second` meets its contract.
 use Rattle.buffer.proofs.Choices.{else-is}
 use Rattle.text.specs.Decoding.{greatestSecond}
 use mathlib.Core.Path.{sym, _∙_}

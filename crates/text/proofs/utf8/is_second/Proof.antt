@@ -1,3 +1,4 @@
+-- `text::utf8::is_second` meets its contract.
 use borrow.Author.Needs.{needs}
 use mathlib.Core.Path.{_∙_}
 use Rattle.text.proofs.utf8.is_second.Statement.{statement}

@@ -1,3 +1,4 @@
+-- `text::utf8::is_within` meets its contract.
 use Rattle.buffer.proofs.Choices.{then-is, else-is}
 use Rattle.text.specs.Decoding.{within}
 use mathlib.Core.Path.{sym}

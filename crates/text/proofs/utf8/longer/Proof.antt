@@ -1,3 +1,4 @@
+-- `text::utf8::longer` meets its contract.
 use Rattle.text.proofs.Rows.{row-none, row-two, row-three, row-four, row-past}
 use borrow.Author.Needs.{needs}
 use mathlib.Core.Path.{sym, _∙_}

@@ -1,3 +1,4 @@
+-- `text::utf8::three` meets its contract.
 use Rattle.text.proofs.Rows.{three-is, three-not, three-cut}
 use borrow.Author.Needs.{needs}
 use mathlib.Core.Path.{sym, _∙_}

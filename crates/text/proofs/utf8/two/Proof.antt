@@ -1,3 +1,4 @@
+-- `text::utf8::two` meets its contract.
 use Rattle.text.proofs.Rows.{two-is, two-not}
 use borrow.Author.Needs.{needs}
 use mathlib.Core.Path.{sym, _∙_}

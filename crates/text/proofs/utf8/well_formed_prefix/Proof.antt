@@ -1,3 +1,4 @@
+-- `text::utf8::well_formed_prefix` meets its contract. The place reached and the well-formed length of what is left give that of the whole.
 use Rattle.text.proofs.Prefix.{prefix-turn, prefix-none, codes-stop, codes-end}
 use Rattle.text.proofs.Pieces.{character-some, character-fits}
 use Rattle.text.specs.Decoding.{wellFormedLength}

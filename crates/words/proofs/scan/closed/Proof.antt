@@ -1,3 +1,4 @@
+-- `words::scan::closed` meets its contract.
 use Rattle.words.proofs.Steps.{closed-none, closed-some}
 use native.Mathlib.Omega.{arith}
 use mathlib.Core.Path.{sym}

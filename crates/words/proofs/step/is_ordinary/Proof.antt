@@ -1,3 +1,4 @@
+-- `words::step::is_ordinary` meets its contract.
 use Rattle.buffer.proofs.Choices.{then-is, else-is}
 use Rattle.words.specs.Scan.{ordinary}
 use mathlib.Core.Path.{sym, _∙_}

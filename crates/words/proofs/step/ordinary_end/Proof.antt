@@ -1,3 +1,4 @@
+-- `words::step::ordinary_end` meets its contract. What is passed is a run, inside quotes or not.
 use Rattle.words.proofs.Runs.{run-start, run-ordinary}
 use Rattle.words.specs.Scan.{Run}
 use borrow.Author.Needs.{needs}

@@ -1,3 +1,4 @@
+-- `words::step::run_end` meets its contract. What is passed is a run; it stops where the next character is not taken.
 use Rattle.words.proofs.Runs.{run-on, run-one, run-stop, run-other}
 use Rattle.words.specs.Scan.{Run}
 use Rattle.text.proofs.Prefix.{codes-stop, codes-end}

@@ -1,3 +1,4 @@
+-- `words::step::step_of` meets its contract.
 use Rattle.words.proofs.Runs.{reading-character, reading-on}
 use Rattle.text.proofs.Prefix.{codes-stop}
 use Rattle.text.proofs.Pieces.{character-fits}

@@ -1,3 +1,4 @@
+-- `words::tokenizer::put` meets its contract.
 use lib.ListN.{length-take, length, take, drop}
 use Rattle.words.proofs.Steps.{take-room, gap-room}
 use Rattle.words.specs.Scan.{putBy}

@@ -1,3 +1,4 @@
+-- `words::tokenizer::tokenize` meets its contract.
 use Rattle.words.proofs.Answers.{measured-tells, too-long, ill-formed, no-room, all-words}
 use borrow.Author.Needs.{needs}
 use native.Mathlib.Omega.{arith}

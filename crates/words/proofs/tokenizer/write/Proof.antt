@@ -1,3 +1,4 @@
+-- `words::tokenizer::write` meets its contract. The scan stands in its line, and what it has read lies in the buffer: `Laid`.
 use Rattle.words.proofs.Laying.{Laid, laid-start, laid-turn, laid-end, step-room, end-room}
 use Rattle.words.proofs.Standing.{prefix-ends}
 use Rattle.words.proofs.Steps.{step-less, closed-least}

@@ -1,3 +1,4 @@
+-- `words::turn::turn_of` meets its contract.
 use Rattle.buffer.proofs.Choices.{then-is, else-is}
 use Rattle.words.specs.Tokens.{turnOf}
 use borrow.Author.Needs.{needs}

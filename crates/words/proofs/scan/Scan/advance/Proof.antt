@@ -1,3 +1,4 @@
+-- `words::scan::Scan::advance` meets its contract.
 use Rattle.words.proofs.Steps.{closed-least}
 use borrow.Author.Needs.{needs}
 use native.Mathlib.Omega.{arith}
