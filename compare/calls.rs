@@ -1,8 +1,8 @@
-// The C functions of libabi.a as Rust calls them: a slice is a pointer and then a length, and an answer is 64 bits.
-unsafe extern "C" {
-    fn rissemat_words(line: *const u8, line_len: usize, out: *mut u8, out_len: usize) -> u64;
-    fn rissemat_quote(words: *const u8, words_len: usize, out: *mut u8, out_len: usize) -> u64;
-}
+// The calls of libabi.a as safe functions on slices; each answers 64 bits.
+#[path = "../crates/abi/rissemat.rs"]
+mod rissemat;
+
+use rissemat::{rissemat_quote, rissemat_words};
 
 /// Writes the words of a line as frames of kind 14.
 pub fn words(line: &[u8], out: &mut [u8]) -> u64 {

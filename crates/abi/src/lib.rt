@@ -5,8 +5,10 @@
 // has one. rissemat.h and rissemat.rs beside this crate declare the calls for C and for Rust.
 mod pack;
 
-ghost use Rattle.abi.specs.Calls.{WordsCall};
+ghost use Rattle.abi.specs.Calls.{WordsCall, QuoteCall};
 use pack::packed;
+use quote::Quoted;
+use quote::quote;
 use words::Tokens;
 use words::tokenize;
 
@@ -20,5 +22,18 @@ pub extern "C" fn rissemat_words(line: &[u8], out: &mut [u8]) -> u64
         Tokens::LineTooLong(n) => packed(2, n),
         Tokens::IllFormed(n) => packed(3, n),
         Tokens::NoRoom(n) => packed(9, n),
+    }
+}
+
+// The line that splits into the words of these frames of kind 14, at the front of out.
+#[no_mangle]
+pub extern "C" fn rissemat_quote(words: &[u8], out: &mut [u8]) -> u64
+    ensures { λ r. ⌜ QuoteCall (now (words .entry)) (now (out .entry)) r (now (out .exit)) ⌝ }
+{
+    match quote(words, out) {
+        Quoted::Line(n) => packed(0, n),
+        Quoted::BadWord(n) => packed(10, n),
+        Quoted::LineTooLong(n) => packed(2, n),
+        Quoted::NoRoom(n) => packed(9, n),
     }
 }

@@ -1,0 +1,154 @@
+-- Where the code stands in the words: what it has counted or written, and what the rest of the words will add.
+use Prim.Native.Nat.{ℕ, zero, suc, _+_, _-_, _*_, _<_, _≤_}
+use mathlib.Core.Path.{_≡_, refl, sym, ap, _∙_}
+use mathlib.Core.List.{List, [], _∷_, _++_, map, append-assoc}
+use native.Mathlib.Omega.{arith}
+use native.Mathlib.Numerals.{add-one}
+use lib.ListN.{length, take, drop, length-append, length-drop, length-take}
+use Rattle.text.specs.Decoding.{wellFormedLength}
+use Rattle.quote.specs.Given.{listed, Judged, bad, fine, onJudged, before, judge}
+use Rattle.quote.specs.Shown.{shown}
+use Rattle.quote.specs.Joined.{gap, joinedFrom, joined}
+use Rattle.quote.specs.Answer.{quoteLine, lineOf}
+use Rattle.quote.specs.Steps.{itemFirst, measured, IsFine}
+use Rattle.quote.specs.declared.given.Item.the-variants.{Word, Bad as NoWord}
+use Rattle.quote.specs.declared.quoter.Measured.{Measured}
+use Rattle.quote.specs.declared.quoter.Measured.the-variants.{Needs, Bad}
+use Rattle.quote.proofs.Listing.{good-formed, frame-room, part-is, word-told, judge-word, judge-bad, listed-end}
+use Rattle.quote.proofs.Showing.{shown-most}
+
+pub gap-none : (n : ℕ) → n ≡ 0 → gap n ≡ []
+unfolding gap
+gap-none n e = rw e
+
+pub gap-some : (n : ℕ) → (n ≡ 0 → ⊥) → gap n ≡ 0x20 ∷ []
+unfolding gap
+gap-some zero h = absurd (h refl)
+gap-some (suc n) h = refl
+
+pub gap-most : (n : ℕ) → length (gap n) ≤ 1
+unfolding gap
+gap-most zero = omega arith
+gap-most (suc n) = omega arith
+
+-- a word that is read at a place
+module _ (words : List ℕ) (at len : ℕ) (e : itemFirst (drop at words) ≡ Word len) where
+  pub item-room : at + 3 + len ≤ length words
+  item-room = frame-room words at 0x14 len (word-told (drop at words) len e .head)
+
+  pub item-formed : wellFormedLength (take (at + 3 + len - (at + 3)) (drop (at + 3) words)) ≡ length (take (at + 3 + len - (at + 3)) (drop (at + 3) words))
+  item-formed = rw (part-is words at len) (good-formed (take len (drop 3 (drop at words))) (word-told (drop at words) len e .good))
+
+  pub item-length : length (take (at + 3 + len - (at + 3)) (drop (at + 3) words)) ≡ len
+  item-length = let h = item-room in rw (length-take, length-drop) (omega arith)
+
+  pub item-judged : judge (listed (drop at words)) ≡ before (take (at + 3 + len - (at + 3)) (drop (at + 3) words)) (judge (listed (drop (at + 3 + len) words)))
+  item-judged = judge-word words at len e ∙ ap (λ (w : List ℕ). before w (judge (listed (drop (at + 3 + len) words)))) (sym (part-is words at len))
+
+-- what measuring finds, where n words of `size` bytes are passed
+abbrev pub resume : ℕ → ℕ → Judged → Measured
+resume n size (bad k) = Bad (n + k)
+resume n size (fine ws) = Needs (size + length (joinedFrom n (map shown ws)))
+
+resume-start : (j : Judged) → onJudged j (λ k. Bad k) (λ ws. Needs (length (quoteLine ws))) ≡ resume 0 0 j
+unfolding quoteLine joined
+resume-start (bad k) = ap Bad (omega arith)
+resume-start (fine ws) = ap Needs (omega arith)
+
+resume-turn : (n size : ℕ) (w : List ℕ) (j : Judged) → resume n size (before w j) ≡ resume (n + 1) (size + length (gap n) + length (shown w)) j
+unfolding joinedFrom
+resume-turn n size w (bad k) = ap Bad (omega arith)
+resume-turn n size w (fine ws) =
+    let rest : List ℕ = joinedFrom (suc n) (map shown ws) in
+    let a = length-append (gap n) (shown w ++ rest) in
+    let b = length-append (shown w) rest in
+    let c : length (joinedFrom (n + 1) (map shown ws)) ≡ length rest = ap (λ (k : ℕ). length (joinedFrom k (map shown ws))) (add-one n) in
+    ap Needs (omega arith)
+
+pub record Counted (words : List ℕ) (size n at : ℕ) : Type 0 where
+  pub inside : at ≤ length words
+  pub few : n ≤ at
+  pub cost : size ≤ 2 * at
+  pub all : measured words ≡ resume n size (judge (listed (drop at words)))
+
+pub counted-start : (words : List ℕ) → Counted words 0 0 0
+unfolding measured
+counted-start words = record { inside = omega arith; few = omega arith; cost = omega arith; all = resume-start (judge (listed words)) }
+
+module _ (words : List ℕ) (size n at : ℕ) (h : Counted words size n at) where
+  pub counted-cost : (len g r : ℕ) → itemFirst (drop at words) ≡ Word len → g ≡ length (gap n)
+      → r ≡ length (shown (take (at + 3 + len - (at + 3)) (drop (at + 3) words))) → size + g + r ≤ 2 * (at + 3 + len)
+  counted-cost len g r e p q =
+      let l = item-length words at len e in
+      let m = shown-most (take (at + 3 + len - (at + 3)) (drop (at + 3) words)) (item-formed words at len e) in
+      let k = gap-most n in
+      let c = h .cost in
+      omega arith
+
+  pub counted-turn : (len g r : ℕ) → itemFirst (drop at words) ≡ Word len → g ≡ length (gap n)
+      → r ≡ length (shown (take (at + 3 + len - (at + 3)) (drop (at + 3) words))) → Counted words (size + g + r) (n + 1) (at + 3 + len)
+  counted-turn len g r e p q =
+      record {
+        inside = item-room words at len e;
+        few = let f = h .few in omega arith;
+        cost = counted-cost len g r e p q;
+        all =
+            h .all
+            ∙ ap (resume n size) (item-judged words at len e)
+            ∙ resume-turn n size (take (at + 3 + len - (at + 3)) (drop (at + 3) words)) (judge (listed (drop (at + 3 + len) words)))
+            ∙ rw (p, q);
+      }
+
+  pub counted-bad : at < length words → itemFirst (drop at words) ≡ NoWord → measured words ≡ Bad n
+  counted-bad k e =
+      let some : 0 < length (drop at words) = rw (length-drop at words) (omega arith) in
+      h .all ∙ ap (resume n size) (judge-bad (drop at words) some e) ∙ ap Bad (omega arith)
+
+  pub counted-end : length words ≤ at → measured words ≡ Needs size
+  unfolding joinedFrom
+  counted-end k = h .all ∙ ap (resume n size) (listed-end words at k) ∙ ap Needs (omega arith)
+
+-- what is still to be written behind n words
+abbrev pub restLine : ℕ → Judged → List ℕ
+restLine n (bad k) = []
+restLine n (fine ws) = joinedFrom n (map shown ws)
+
+pub rest-start : (words : List ℕ) → lineOf words ≡ restLine 0 (judge (listed words))
+unfolding lineOf quoteLine joined
+rest-start words = by (judge (listed words))
+  where
+    by : (j : Judged) → onJudged j (λ n. []) quoteLine ≡ restLine 0 j
+    by (bad k) = refl
+    by (fine ws) = refl
+
+rest-more : (n : ℕ) (w : List ℕ) (j : Judged) → IsFine j → restLine n (before w j) ≡ (gap n ++ shown w) ++ restLine (n + 1) j
+unfolding joinedFrom
+rest-more n w (bad k) f = absurd f
+rest-more n w (fine ws) f =
+    sym (append-assoc (gap n) (shown w) (joinedFrom (suc n) (map shown ws)))
+    ∙ ap (λ (k : ℕ). (gap n ++ shown w) ++ joinedFrom k (map shown ws)) (sym (add-one n))
+
+fine-behind : (w : List ℕ) (j : Judged) → IsFine (before w j) → IsFine j
+fine-behind w (bad k) f = f
+fine-behind w (fine ws) f = tt
+
+module _ (words : List ℕ) (n at : ℕ) (f : IsFine (judge (listed (drop at words)))) where
+  pub fine-turn : (len : ℕ) → itemFirst (drop at words) ≡ Word len → IsFine (judge (listed (drop (at + 3 + len) words)))
+  fine-turn len e =
+      fine-behind (take (at + 3 + len - (at + 3)) (drop (at + 3) words)) (judge (listed (drop (at + 3 + len) words))) (rw (item-judged words at len e) at f)
+
+  pub rest-turn : (len : ℕ) → itemFirst (drop at words) ≡ Word len
+      → restLine n (judge (listed (drop at words)))
+      ≡ (gap n ++ shown (take (at + 3 + len - (at + 3)) (drop (at + 3) words))) ++ restLine (n + 1) (judge (listed (drop (at + 3 + len) words)))
+  rest-turn len e =
+      ap (restLine n) (item-judged words at len e)
+      ∙ rest-more n (take (at + 3 + len - (at + 3)) (drop (at + 3) words)) (judge (listed (drop (at + 3 + len) words))) (fine-turn len e)
+
+  pub rest-bad : at < length words → itemFirst (drop at words) ≡ NoWord → ⊥
+  rest-bad k e =
+      let some : 0 < length (drop at words) = rw (length-drop at words) (omega arith) in
+      rw (judge-bad (drop at words) some e) at f
+
+pub rest-end : (words : List ℕ) (n at : ℕ) → length words ≤ at → restLine n (judge (listed (drop at words))) ≡ []
+unfolding joinedFrom
+rest-end words n at k = ap (restLine n) (listed-end words at k)

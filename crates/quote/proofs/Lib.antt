@@ -1,0 +1,7 @@
+-- The laws of the crate `quote` that belong to no one function.
+pub mod Listing
+pub mod Showing
+pub mod Counting
+pub mod Laying
+pub mod Answers
+pub mod Return

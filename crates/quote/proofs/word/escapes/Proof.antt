@@ -1,0 +1,80 @@
+-- `quote::word::escapes` meets its contract: what is counted and what is still to come make up the whole count.
+use Rattle.quote.proofs.Showing.{specials-more, specials-same, specials-none}
+use Rattle.quote.specs.Steps.{specials}
+use Rattle.text.proofs.Pieces.{character-some, character-fits}
+use Rattle.text.proofs.Prefix.{codes-stop, codes-end}
+use Rattle.text.specs.Decoding.{codesIn}
+use mathlib.Core.Logic.{⊎-elim}
+use native.Mathlib.Omega.{arith}
+use Prim.Native.Nat.{_+_, _≤_, _-_}
+use mathlib.Core.Path.{_≡_, sym, _∙_}
+use lib.ListN.{length, drop}
+use Rattle.quote.proofs.word.escapes.Statement.{statement}
+use Rattle.quote.proofs.word.escapes.Tie as tie
+
+abbrev Inv-loop : tie.InvT-loop
+Inv-loop word n₀ at₀ n at = (at ≤ length word) × (n ≤ at) × (n + specials (codesIn (drop at word)) ≡ specials (codesIn word))
+
+abbrev μ-loop : tie.MeasureT-loop
+μ-loop word n₀ at₀ n at = length word - at
+
+loop-holds : tie.Need-loop-holds Inv-loop μ-loop
+loop-holds c = (omega arith, omega arith, omega arith)
+
+decode-requires : tie.Need-decode-requires Inv-loop μ-loop
+decode-requires c κs = tt
+
+enum-known-code : tie.Need-enum-known-code Inv-loop μ-loop
+enum-known-code c = c .match .keys1
+
+returns : tie.Need-returns Inv-loop μ-loop
+returns c = let z = specials-none _ (codes-stop _ _ (sym (c .before .decode .ensures)) (c .match .keys2)) in (omega (arith, z, c .before .before .before .loop .inv), omega (arith, c .before .before .before .loop .inv))
+
+is-special-requires : tie.Need-is-special-requires Inv-loop μ-loop
+is-special-requires c κs = tt
+
+add-n : tie.Need-add-n Inv-loop μ-loop
+add-n c = omega (arith, c .before .before .before .before .before .before .before .loop .inv)
+
+add-at : tie.Need-add-at Inv-loop μ-loop
+add-at c = let f = character-fits (c .before .before .before .before .before .before .before .before .before .args .word .now) (c .before .before .before .before .before .before .before .loop .at) _ _ (sym (c .before .before .before .before .before .decode .ensures) ∙ c .before .before .before .code .given .1) in omega arith
+
+loop-less : tie.Need-loop-less Inv-loop μ-loop
+loop-less c =
+    let f = character-fits (c .before .before .before .before .before .before .before .before .before .args .word .now) (c .before .before .before .before .before .before .before .loop .at) _ _ (sym (c .before .before .before .before .before .decode .ensures) ∙ c .before .before .before .code .given .1) in
+    let g = character-some (drop (c .before .before .before .before .before .before .before .loop .at) (c .before .before .before .before .before .before .before .before .before .args .word .now)) _ _ (sym (c .before .before .before .before .before .decode .ensures) ∙ c .before .before .before .code .given .1) in omega arith
+
+loop-again : tie.Need-loop-again Inv-loop μ-loop
+loop-again c =
+    let d = sym (c .before .before .before .before .before .decode .ensures) ∙ c .before .before .before .code .given .1 in
+    let f = character-fits (c .before .before .before .before .before .before .before .before .before .args .word .now) (c .before .before .before .before .before .before .before .loop .at) _ _ d in
+    let g = character-some (drop (c .before .before .before .before .before .before .before .loop .at) (c .before .before .before .before .before .before .before .before .before .args .word .now)) _ _ d in
+    let i = c .before .before .before .before .before .before .before .loop .inv in
+    ⊎-elim
+    (λ t.
+    let m = specials-more (c .before .before .before .before .before .before .before .before .before .args .word .now) (c .before .before .before .before .before .before .before .loop .at) _ _ d (sym (c .before .is-special .ensures) ∙ t .0 .taken) in
+    (f, omega arith, omega arith))
+    (λ t.
+    let m = specials-same (c .before .before .before .before .before .before .before .before .before .args .word .now) (c .before .before .before .before .before .before .before .loop .at) _ _ d (sym (c .before .is-special .ensures) ∙ t .0 .left) in
+    (f, omega arith, omega arith))
+    (c .if1 .came)
+
+returns-2 : tie.Need-returns-2 Inv-loop μ-loop
+returns-2 c = let z = specials-none _ (codes-end (c .before .before .before .args .word .now) (c .before .loop .at) (c .loop-test .left)) in (omega (arith, z, c .before .loop .inv), omega (arith, c .before .loop .inv))
+
+pub escapes-spec : {M : Type 1} → statement M
+escapes-spec =
+    tie.close
+    (tie.spec
+    Inv-loop
+    μ-loop
+    loop-holds
+    decode-requires
+    enum-known-code
+    returns
+    is-special-requires
+    add-n
+    add-at
+    loop-less
+    loop-again
+    returns-2)

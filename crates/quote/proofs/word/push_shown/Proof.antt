@@ -1,0 +1,63 @@
+-- `quote::word::push_shown` meets its contract: the word itself, or three writes in a row, a quote on either side.
+use Rattle.quote.proofs.Showing.{shown-plain, shown-quoted, quoted-room}
+use Rattle.quote.specs.Shown.{escaped}
+use Rattle.text.specs.Decoding.{codesIn}
+use Rattle.text.specs.Unicode.{encodeAll}
+use Rattle.buffer.proofs.Writing.{pushed-both}
+use borrow.Author.Needs.{needs}
+use native.Mathlib.Omega.{arith}
+use Prim.Native.Nat.{ℕ, _+_, _≤_}
+use mathlib.Core.Path.{sym, ap, _∙_}
+use mathlib.Core.List.{List, [], _∷_}
+use lib.ListN.{length}
+use Rattle.quote.proofs.word.push_shown.Statement.{statement}
+use Rattle.quote.proofs.word.push_shown.Tie as tie
+
+is-plain-requires : tie.Need-is-plain-requires
+is-plain-requires c κs = search needs
+
+push-requires : tie.Need-push-requires
+push-requires c κs = let e = ap length (shown-plain (c .before .before .before .before .before .args .word .now) (c .before .before .before .before .before .pre .0) (sym (c .before .before .is-plain .ensures) ∙ c .before .if1 .taken)) in omega (arith, e, c .before .before .before .before .before .pre .1)
+
+same-length : tie.Need-same-length
+same-length c = search needs
+
+returns : tie.Need-returns
+returns c = rw (shown-plain (c .before .before .before .before .before .before .before .before .args .word .now) (c .before .before .before .before .before .before .before .before .pre .0) (sym (c .before .before .before .before .before .is-plain .ensures) ∙ c .before .before .before .before .if1 .taken)) (c .before .before .push .ensures)
+
+push-byte-requires : tie.Need-push-byte-requires
+push-byte-requires c κs = let r = quoted-room (c .before .before .before .before .before .args .word .now) (c .before .before .before .before .before .args .at) _ (sym (c .before .before .is-plain .ensures) ∙ c .before .if1 .left) (c .before .before .before .before .before .pre .1) in omega arith
+
+push-escaped-requires : tie.Need-push-escaped-requires
+push-escaped-requires c κs = let r = quoted-room (c .before .before .before .before .before .before .before .before .before .args .word .now) (c .before .before .before .before .before .before .before .before .before .args .at) _ (sym (c .before .before .before .before .before .before .is-plain .ensures) ∙ c .before .before .before .before .before .if1 .left) (c .before .before .before .before .before .before .before .before .before .pre .1) in omega (arith, r, c .before .before .before .push-byte .ensures .place)
+
+push-byte-requires-2 : tie.Need-push-byte-requires-2
+push-byte-requires-2 c κs = let r = quoted-room (c .before .before .before .before .before .before .before .before .before .before .before .before .before .args .word .now) (c .before .before .before .before .before .before .before .before .before .before .before .before .before .args .at) _ (sym (c .before .before .before .before .before .before .before .before .before .before .is-plain .ensures) ∙ c .before .before .before .before .before .before .before .before .before .if1 .left) (c .before .before .before .before .before .before .before .before .before .before .before .before .before .pre .1) in omega (arith, r, c .before .before .before .before .before .before .before .push-byte .ensures .place, c .before .before .before .push-escaped .ensures .place)
+
+same-length-2 : tie.Need-same-length-2
+same-length-2 c = search needs
+
+returns-2 : tie.Need-returns-2
+returns-2 c =
+    let s = c .before .before .before .before .before .before .before .before .before .before .before .before .before .before .before .before in
+    let e = sym (c .before .before .before .before .before .before .before .before .before .before .before .before .before .is-plain .ensures) ∙ c .before .before .before .before .before .before .before .before .before .before .before .before .if1 .left in
+    let r = quoted-room (s .args .word .now) (s .args .at) _ e (s .pre .1) in
+    let x : List ℕ = encodeAll (escaped (codesIn (s .args .word .now))) in
+    let k : s .args .at + 1 ≤ length (s .args .out .now) = omega arith in
+    let l : s .args .at + length (0x22 ∷ x) ≤ length (s .args .out .now) = omega arith in
+    let front = pushed-both (0x22 ∷ []) x _ _ _ _ _ _ k (c .before .before .before .before .before .before .before .before .before .before .push-byte .ensures) (c .before .before .before .before .before .before .push-escaped .ensures) in
+    rw (shown-quoted (s .args .word .now) e) (pushed-both (0x22 ∷ x) (0x22 ∷ []) _ _ _ _ _ _ l front (c .before .before .push-byte2 .ensures))
+
+pub push-shown-spec : {M : Type 1} → statement M
+push-shown-spec =
+    tie.close
+    (tie.spec
+    is-plain-requires
+    push-requires
+    same-length
+    returns
+    push-byte-requires
+    push-escaped-requires
+    push-byte-requires-2
+    same-length-2
+    returns-2)

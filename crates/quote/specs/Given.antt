@@ -1,0 +1,54 @@
+-- Which words are good (01, "Numbers given back", 10): frames of kind 14 one after the other, each of some bytes that are well-formed.
+use Prim.Native.Nat.{ℕ, zero, suc, _+_}
+use mathlib.Core.Bool.{Bool, false, cond}
+use mathlib.Core.List.{List, [], _∷_}
+use lib.Dec.{eqb}
+use lib.ListN.{length, take, drop}
+use Rattle.text.specs.Decoding.{wellFormedLength}
+use Rattle.frame.specs.Framed.{frameFirst}
+use Rattle.frame.specs.declared.framed.Framed.{Framed}
+use Rattle.frame.specs.declared.framed.Framed.the-variants.{Frame, Broken, End}
+
+-- the words as they come, up to the end or to what is no frame of kind 14
+pub data Listed : Type 0 where
+  done : Listed
+  broken : Listed
+  word : List ℕ → Listed → Listed
+
+abbrev pub onFrame : {A : Type 0} → Framed → (ℕ → ℕ → A) → A → A
+onFrame (Frame kind n) f other = f kind n
+onFrame Broken f other = other
+onFrame End f other = other
+
+-- the words of bytes of which the first `skip` are read already
+unfoldable pub listedFrom : List ℕ → ℕ → Listed
+listedFrom [] skip = done
+listedFrom (a ∷ s) (suc skip) = listedFrom s skip
+listedFrom (a ∷ s) zero =
+    onFrame (frameFirst (a ∷ s)) (λ kind n. cond (eqb kind 0x14) (word (take n (drop 3 (a ∷ s))) (listedFrom s (2 + n))) broken) broken
+
+unfoldable pub listed : List ℕ → Listed
+listed s = listedFrom s 0
+
+-- a good word has some bytes and is well-formed
+unfoldable pub goodWord : List ℕ → Bool
+goodWord w = cond (eqb (length w) 0) false (eqb (wellFormedLength w) (length w))
+
+-- the number, from 0, of the first word that is not good or not a word, or all the words
+pub data Judged : Type 0 where
+  bad : ℕ → Judged
+  fine : List (List ℕ) → Judged
+
+abbrev pub onJudged : {A : Type 0} → Judged → (ℕ → A) → (List (List ℕ) → A) → A
+onJudged (bad n) f g = f n
+onJudged (fine words) f g = g words
+
+-- a good word before what is judged already
+abbrev pub before : List ℕ → Judged → Judged
+before w (bad n) = bad (suc n)
+before w (fine words) = fine (w ∷ words)
+
+unfoldable pub judge : Listed → Judged
+judge done = fine []
+judge broken = bad 0
+judge (word w l) = cond (goodWord w) (before w (judge l)) (bad 0)

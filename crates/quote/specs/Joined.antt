@@ -1,0 +1,16 @@
+-- How shown words are joined to a line: one space between them.
+use Prim.Native.Nat.{ℕ, zero, suc}
+use mathlib.Core.List.{List, [], _∷_, _++_}
+
+-- what stands before a text that n texts precede
+unfoldable pub gap : ℕ → List ℕ
+gap zero = []
+gap (suc n) = 0x20 ∷ []
+
+-- texts that n texts precede
+unfoldable pub joinedFrom : ℕ → List (List ℕ) → List ℕ
+joinedFrom n [] = []
+joinedFrom n (t ∷ texts) = gap n ++ (t ++ joinedFrom (suc n) texts)
+
+unfoldable pub joined : List (List ℕ) → List ℕ
+joined texts = joinedFrom 0 texts

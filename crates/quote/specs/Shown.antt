@@ -1,0 +1,34 @@
+-- How a word is shown (01, "Words", quoting writer): plain, or in quotes with `\` before `"` and `\`.
+use Prim.Native.Nat.{ℕ}
+use mathlib.Core.Bool.{Bool, true, false, cond}
+use mathlib.Core.List.{List, [], _∷_, _++_}
+use lib.Dec.{eqb}
+use Rattle.text.specs.Unicode.{encodeAll}
+use Rattle.text.specs.Decoding.{codesIn}
+use Rattle.text.specs.Space.{isWhiteSpace}
+use Rattle.words.specs.Tokens.{quote, backslash}
+
+-- a character that needs `\` before it
+unfoldable pub special : ℕ → Bool
+special code = cond (eqb code quote) true (eqb code backslash)
+
+-- no character is white space, `"` or `\`
+unfoldable pub plain : List ℕ → Bool
+plain [] = true
+plain (code ∷ codes) = cond (special code) false (cond (isWhiteSpace code) false (plain codes))
+
+-- a character, with `\` before it where it needs one
+abbrev pub escapedCode : ℕ → List ℕ
+escapedCode code = cond (special code) (backslash ∷ code ∷ []) (code ∷ [])
+
+unfoldable pub escaped : List ℕ → List ℕ
+escaped [] = []
+escaped (code ∷ codes) = escapedCode code ++ escaped codes
+
+-- a word by its characters
+unfoldable pub shownCodes : List ℕ → List ℕ
+shownCodes codes = cond (plain codes) codes (quote ∷ (escaped codes ++ (quote ∷ [])))
+
+-- and as a text
+unfoldable pub shown : List ℕ → List ℕ
+shown w = encodeAll (shownCodes (codesIn w))

@@ -1,0 +1,114 @@
+// `quote`: measures the line of the words that are given, then writes it into a lent buffer.
+ghost use Prim.Native.Nat.{_+_, _≤_};
+ghost use mathlib.Core.Path.{_≡_};
+ghost use mathlib.Core.List.{_++_};
+ghost use lib.ListN.{length};
+ghost use Rattle.buffer.specs.Write.{over, Pushed};
+ghost use Rattle.text.specs.Decoding.{wellFormedLength};
+ghost use Rattle.quote.specs.Given.{listed, judge};
+ghost use Rattle.quote.specs.Shown.{shown};
+ghost use Rattle.quote.specs.Joined.{gap};
+ghost use Rattle.quote.specs.Answer.{lineOf, Quotation};
+ghost use Rattle.quote.specs.Steps.{measured, IsFine};
+use super::given::Item;
+use super::given::word_at;
+use super::word::push_shown;
+use super::word::shown_size;
+use buffer::push_byte;
+
+// What quoting words answers.
+pub enum Quoted {
+    // Their line, so many bytes.
+    Line(usize),
+    // A word is empty, ill-formed or broken: its number, from 0.
+    BadWord(usize),
+    // The line has over 1,024 bytes: its length, 65,535 if more.
+    LineTooLong(usize),
+    // The buffer is too short: the length needed.
+    NoRoom(usize),
+}
+
+// What measuring words finds: the length of their line, or the number of the first bad word.
+enum Measured {
+    Needs(usize),
+    Bad(usize),
+}
+
+// How many bytes stand before a word that n words precede.
+fn gap_size(n: usize) -> usize
+    ensures { λ r. ⌜ r ≡ length (gap n) ⌝ }
+{
+    if n == 0 { 0 } else { 1 }
+}
+
+fn measure(words: &[u8]) -> Measured
+    ensures { λ r. ⌜ r ≡ measured (now (words .entry)) ⌝ }
+{
+    let mut size = 0;
+    let mut n = 0;
+    let mut at = 0;
+    while at < words.len() {
+        let Item::Word(length) = word_at(words, at) else {
+            return Measured::Bad(n);
+        };
+        let start = at + 3;
+        let end = start + length;
+        size = size + gap_size(n) + shown_size(&words[start..end]);
+        n += 1;
+        at = end;
+    }
+    Measured::Needs(size)
+}
+
+// Writes a word that n words precede at the place `at` and returns the place behind.
+fn push_word(n: usize, word: &[u8], out: &mut [u8], at: usize) -> usize
+    requires { ⌜ wellFormedLength (now word) ≡ length (now word) ⌝ }
+    requires { ⌜ at + length (gap n ++ shown (now word)) ≤ length (now out) ⌝ }
+    ensures { λ r. ⌜ Pushed (gap n ++ shown (now (word .entry))) (now (out .entry)) at r (now (out .exit)) ⌝ }
+{
+    if n == 0 {
+        return push_shown(word, out, at);
+    }
+    let next = push_byte(0x20, out, at);
+    push_shown(word, out, next)
+}
+
+// Writes the line of words that are all good.
+fn write(words: &[u8], out: &mut [u8])
+    requires { ⌜ IsFine (judge (listed (now words))) ⌝ }
+    requires { ⌜ length (lineOf (now words)) ≤ length (now out) ⌝ }
+    ensures { λ _. ⌜ now (out .exit) ≡ over (lineOf (now (words .entry))) (now (out .entry)) ⌝ }
+{
+    let mut o = 0;
+    let mut n = 0;
+    let mut at = 0;
+    while at < words.len() {
+        let Item::Word(length) = word_at(words, at) else {
+            return;
+        };
+        let start = at + 3;
+        let end = start + length;
+        o = push_word(n, &words[start..end], out, o);
+        n += 1;
+        at = end;
+    }
+}
+
+// The line of the words that are given as frames of kind 14, at the front of out.
+pub fn quote(words: &[u8], out: &mut [u8]) -> Quoted
+    ensures { λ r. ⌜ Quotation (now (words .entry)) (now (out .entry)) r (now (out .exit)) ⌝ }
+{
+    match measure(words) {
+        Measured::Bad(number) => Quoted::BadWord(number),
+        Measured::Needs(needed) => {
+            if 1024 < needed {
+                return Quoted::LineTooLong(if needed < 65535 { needed } else { 65535 });
+            }
+            if out.len() < needed {
+                return Quoted::NoRoom(needed);
+            }
+            write(words, out);
+            Quoted::Line(needed)
+        }
+    }
+}
