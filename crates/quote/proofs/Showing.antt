@@ -5,13 +5,13 @@ use mathlib.Core.Bool.{Bool, true, false, cond}
 use mathlib.Core.List.{List, [], _∷_, _++_, append-nil}
 use native.Mathlib.Omega.{arith}
 use lib.ListN.{length, take, drop, length-append}
-use lib.Seq.{drop-drop, take-at}
+use lib.Seq.{drop-drop}
 use Rattle.buffer.proofs.Choices.{then-is, else-is, true-is-not-false}
 use Rattle.text.specs.Unicode.{encode, encodeAll}
 use Rattle.text.specs.Decoding.{decodeFirst, codesIn, wellFormedLength}
 use Rattle.text.specs.Space.{isWhiteSpace}
 use Rattle.text.specs.declared.utf8.Decoded.the-variants.{Character}
-use Rattle.text.proofs.Pieces.{begins, encode-some}
+use Rattle.text.proofs.Pieces.{character-bytes, encode-some}
 use Rattle.text.proofs.Prefix.{codes-step, codes-whole, encode-append}
 use Rattle.quote.specs.Shown.{special, plain, escapedCode, escaped, shownCodes, shown}
 use Rattle.quote.specs.Steps.{specials, escapedBytes}
@@ -61,8 +61,7 @@ module _ (w : List ℕ) (at code n : ℕ) (d : decodeFirst (drop at w) ≡ Chara
   pub bytes-at : take (at + n - at) (drop at w) ≡ encode code
   bytes-at =
       let k : at + n - at ≡ n = omega arith in
-      let b = begins (drop at w) code n d in
-      ap (λ (m : ℕ). take m (drop at w)) k ∙ ap (take n) (b .bytes) ∙ take-at (encode code) (drop n (drop at w)) n (sym (b .size))
+      ap (λ (m : ℕ). take m (drop at w)) k ∙ character-bytes (drop at w) code n d
 
   pub escaped-turn : encodeAll (escaped (codesIn (drop at w))) ≡ escapedBytes (special code) (take (at + n - at) (drop at w)) ++ encodeAll (escaped (codesIn (drop (at + n) w)))
   unfolding escaped

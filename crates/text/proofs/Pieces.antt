@@ -5,8 +5,8 @@ use mathlib.Core.Bool.{Bool, true, false, cond}
 use mathlib.Core.List.{List, [], _∷_, _++_}
 use native.Mathlib.Omega.{arith}
 use lib.Dec.{ltb}
-use lib.ListN.{length, drop, getD, length-append, length-drop}
-use lib.Seq.{drop-nil}
+use lib.ListN.{take, length, drop, getD, length-append, length-drop}
+use lib.Seq.{drop-nil, take-at}
 use Rattle.text.specs.Unicode.{Scalar, encode}
 use Rattle.text.specs.declared.utf8.Decoded.{Decoded}
 use Rattle.text.specs.declared.utf8.Decoded.the-variants.{Character, IllFormed, End}
@@ -55,6 +55,12 @@ character-fits s at code n e =
     ap length (b .bytes) ∙ length-append (encode code) (drop n (drop at s))
     in
     omega (arith, b .size, length-drop at s)
+
+-- the bytes of that character
+pub character-bytes : (s : List ℕ) (code n : ℕ) → decodeFirst s ≡ Character code n → take n s ≡ encode code
+character-bytes s code n e =
+    let b = begins s code n e in
+    ap (take n) (b .bytes) ∙ take-at (encode code) (drop n s) n (sym (b .size))
 
 -- the pieces of a text by what the decoder answers at its beginning
 pub pieces-character : (s : List ℕ) (code n : ℕ) → decodeFirst s ≡ Character code n → piecesOf s ≡ character code ∷ piecesOf (drop n s)

@@ -161,10 +161,15 @@ pub fn well_formed_prefix(s: &[u8]) -> usize
 {
     let mut at = 0;
     while at < s.len() {
-        let Decoded::Character { code: _, length } = decode(s, at) else {
-            return at;
-        };
-        at += length;
+        // An ASCII byte is a character by itself, and needs no decoder.
+        if s[at] < 0x80 {
+            at += 1;
+        } else {
+            let Decoded::Character { code: _, length } = decode(s, at) else {
+                return at;
+            };
+            at += length;
+        }
     }
     at
 }

@@ -6,7 +6,7 @@ use mathlib.Core.List.{List, [], _∷_, _++_, append-nil}
 use native.Mathlib.Omega.{arith}
 use native.Mathlib.Nat.{le-trans}
 use lib.ListN.{length}
-use Rattle.buffer.specs.Write.{over, overAt}
+use Rattle.buffer.specs.Write.{over, overAt, Written}
 use Rattle.buffer.proofs.Lending.{length-over, overAt-front, overAt-both, overAt-before, overAt-nothing}
 use Rattle.text.specs.Unicode.{encodeAll}
 use Rattle.text.specs.Apart.{ended}
@@ -21,7 +21,7 @@ use Rattle.words.specs.Tokens.{framesOf}
 use Rattle.words.specs.Answer.{written}
 use Rattle.words.specs.Scan.{closedAt, closedBy, advanced, headed, putBy, Reading}
 use Rattle.words.proofs.Steps.{closed-some, headed-none, headed-some, take-room, gap-room}
-use Rattle.words.proofs.Standing.{shown, Standing, standing-start, standing-turn, standing-room, word-none, all-ended}
+use Rattle.words.proofs.Standing.{shown, Standing, standing-start, standing-turn, standing-room, word-none, all-ended, length-ended}
 
 -- frames, and an open word behind them that leaves three bytes for its head
 unfoldable pub laid : List ℕ → List ℕ → List ℕ → ℕ → List ℕ
@@ -135,3 +135,6 @@ module _ (line out₀ out : List ℕ) (s : Scan) (h : Laid line out₀ out s) (e
       ap (headed (s .done) (s .word)) (h .bytes)
       ∙ close-word (l .frames) (l .word) out₀ (s .done) (s .word) (l .done-is) (l .word-is) end-room
       ∙ ap (λ (x : List ℕ). over x out₀) (sym (all-ended line s l end))
+
+  pub laid-whole : (left : List ℕ) (n : ℕ) → left ≡ headed (s .done) (s .word) out → n ≡ closedBy s → Written (written line) out₀ n left
+  laid-whole left n e f = record { count = f ∙ sym (length-ended line s (h .standing) end); bytes = e ∙ laid-end }

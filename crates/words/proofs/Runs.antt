@@ -10,14 +10,14 @@ use Rattle.text.proofs.Rows.{decode-ascii}
 use Rattle.text.proofs.Spaces.{below-passes}
 use Rattle.text.specs.Space.{whiteSpace, among, isWhiteSpace}
 use lib.ListN.{getD, length, take, drop}
-use lib.Seq.{drop-drop, take-at, take-add, append-snoc}
+use lib.Seq.{drop-drop, take-add, append-snoc}
 use types.Run.{OneOf, miss}
 use denote.Enum.Declared.{tagOf}
 use Rattle.buffer.proofs.Choices.{then-is, true-is-not-false}
 use Rattle.text.specs.Unicode.{encode, encodeAll}
 use Rattle.text.specs.Decoding.{decodeFirst, codesIn}
 use Rattle.text.specs.declared.utf8.Decoded.the-variants.{Character}
-use Rattle.text.proofs.Pieces.{begins, character-some, character-fits}
+use Rattle.text.proofs.Pieces.{character-bytes, character-some, character-fits}
 use Rattle.text.proofs.Prefix.{codes-step, prefix-turn, encode-append}
 use Rattle.words.specs.declared.turn.Turn.{Turn}
 use Rattle.words.specs.declared.turn.Turn.the-variants.{Take, Escape, Toggle, Gap}
@@ -27,12 +27,6 @@ use Rattle.words.specs.Scan.{ordinary, doneBy, isTake, runFirst, Reading
 use Rattle.words.specs.declared.step.Step.{Step}
 use Rattle.words.specs.declared.step.Step.the-variants.{Go, IllFormed}
 use Rattle.words.proofs.turn.Turn.{the-type}
-
--- the bytes of a character
-character-bytes : (t : List ℕ) (code n : ℕ) → decodeFirst t ≡ Character code n → take n t ≡ encode code
-character-bytes t code n d =
-    let b = begins t code n d in
-    ap (take n) (b .bytes) ∙ take-at (encode code) (drop n t) n (sym (b .size))
 
 codes-on : (line : List ℕ) (at code n : ℕ) → decodeFirst (drop at line) ≡ Character code n → codesIn (drop at line) ≡ code ∷ codesIn (drop (at + n) line)
 codes-on line at code n d = codes-step (drop at line) code n d ∙ ap (λ (l : List ℕ). code ∷ codesIn l) (drop-drop n at line)

@@ -10,7 +10,7 @@ use Rattle.text.specs.Unicode.{encode, encodeAll}
 use Rattle.text.specs.Decoding.{codesIn, wellFormedLength}
 use Rattle.text.specs.Apart.{ended}
 use Rattle.text.proofs.Pieces.{encode-some}
-use Rattle.text.proofs.Prefix.{codes-end, prefix-none, encode-append}
+use Rattle.text.proofs.Prefix.{codes-whole, codes-end, prefix-none, encode-append}
 use Rattle.frame.specs.Framed.{frameOf}
 use Rattle.frame.proofs.Frames.{length-frameOf}
 use Rattle.words.specs.declared.turn.Turn.{Turn}
@@ -85,6 +85,10 @@ standing-start line =
 -- characters more in the open word
 pub word-more : (word run : List ℕ) → length (encodeAll (word ++ run)) ≡ length (encodeAll word) + length (encodeAll run)
 word-more word run = ap length (encode-append word run) ∙ length-append (encodeAll word) (encodeAll run)
+
+one-length : (code : ℕ) → length (encodeAll (code ∷ [])) ≡ length (encode code)
+unfolding encodeAll
+one-length code = ap length (append-nil (encode code))
 
 pub cost-more : (done word at n : ℕ) → 0 < n → closedAt done word ≤ 4 * at → closedAt done (word + n) ≤ 4 * (at + n)
 cost-more done zero at n h k =
@@ -252,3 +256,55 @@ standing-room line s h =
     let more = grows (h .word) (s .quotes) (s .escaped) (codesIn (drop (s .at) line)) in
     let whole = ap length (h .all) ∙ length-append (h .frames) (shown (tokensFrom (h .word) (s .quotes) (s .escaped) (codesIn (drop (s .at) line)))) in
     omega arith
+
+-- the words of a line take at most four times its bytes
+word-costs : (word : List ℕ) (code : ℕ) → length (shown (ended (word ++ (code ∷ [])) [])) ≤ length (shown (ended word [])) + 4 * length (encode code)
+word-costs word code =
+    let some = encode-some code in
+    let m = word-more word (code ∷ []) in
+    let one : length (encodeAll (code ∷ [])) ≡ length (encode code) = one-length code in
+    let a = shown-length word 0 (length (encodeAll word)) refl in
+    let b = shown-length (word ++ (code ∷ [])) 0 (length (encodeAll (word ++ (code ∷ [])))) refl in
+    let d = closed-some 0 (length (encodeAll (word ++ (code ∷ [])))) (λ q. omega arith) in
+    ⊎-elim
+    (λ (p : 0 < length (encodeAll word)). let c = closed-some 0 (length (encodeAll word)) (λ q. omega arith) in omega arith)
+    (λ (p : length (encodeAll word) ≤ 0). let c = closed-none 0 (length (encodeAll word)) (omega arith) in omega arith)
+    (below-or-not 0 (length (encodeAll word)))
+
+nothing-shown : length (shown (ended {A = ℕ} [] [])) ≡ 0
+unfolding shown framesOf
+nothing-shown = refl
+
+costs : (word : List ℕ) (quotes escaped : Bool) (codes : List ℕ)
+    → length (shown (tokensFrom word quotes escaped codes)) ≤ length (shown (ended word [])) + 4 * length (encodeAll codes)
+unfolding tokensFrom encodeAll
+costs word quotes escaped [] = omega arith
+costs word quotes escaped (code ∷ codes) =
+    by (turnOf quotes escaped code) (costs (word ++ (code ∷ [])) quotes false codes) (costs word quotes true codes) (costs word (not quotes) false codes)
+    (costs [] quotes false codes)
+  where
+    size : length (encode code ++ encodeAll codes) ≡ length (encode code) + length (encodeAll codes)
+    size = length-append (encode code) (encodeAll codes)
+
+    by : (t : Turn) → length (shown (tokensFrom (word ++ (code ∷ [])) quotes false codes)) ≤ length (shown (ended (word ++ (code ∷ [])) [])) + 4 * length (encodeAll codes)
+        → length (shown (tokensFrom word quotes true codes)) ≤ length (shown (ended word [])) + 4 * length (encodeAll codes)
+        → length (shown (tokensFrom word (not quotes) false codes)) ≤ length (shown (ended word [])) + 4 * length (encodeAll codes)
+        → length (shown (tokensFrom [] quotes false codes)) ≤ length (shown (ended {A = ℕ} [] [])) + 4 * length (encodeAll codes)
+        → length (shown (onTurn t (λ _. tokensFrom (word ++ (code ∷ [])) quotes false codes) (λ _. tokensFrom word quotes true codes) (λ _. tokensFrom word (not quotes) false codes)
+        (λ _. ended word (tokensFrom [] quotes false codes)))) ≤ length (shown (ended word [])) + 4 * length (encode code ++ encodeAll codes)
+    by Take a b c d = omega (arith, word-costs word code, size)
+    by Escape a b c d = omega (arith, size)
+    by Toggle a b c d = omega (arith, size)
+    by Gap a b c d =
+        omega (
+          arith,
+          size,
+          nothing-shown,
+          ap length (shown-ended word (tokensFrom [] quotes false codes)),
+          length-append (shown (ended word [])) (shown (tokensFrom [] quotes false codes)),
+        )
+
+pub written-most : (line : List ℕ) → wellFormedLength line ≡ length line → length (written line) ≤ 4 * length line
+unfolding written wordsOf tokens shown
+written-most line e =
+    omega (arith, costs [] false false (codesIn line), nothing-shown, ap length (codes-whole line e))

@@ -1,8 +1,8 @@
 // `tokenize`: measures a line's words, then writes them as frames of kind 14 into a lent buffer.
-ghost use Prim.Native.Nat.{_+_, _≤_, _<_};
+ghost use Prim.Native.Nat.{_+_, _*_, _≤_, _<_};
 ghost use mathlib.Core.Path.{_≡_};
 ghost use lib.ListN.{length};
-ghost use Rattle.buffer.specs.Write.{over};
+ghost use Rattle.buffer.specs.Write.{Written};
 ghost use Rattle.text.specs.Decoding.{wellFormedLength};
 ghost use Rattle.words.specs.Answer.{written, Tokenized};
 ghost use Rattle.words.specs.Scan.{closedAt, closedBy, advanced, headed, putBy, measured};
@@ -13,6 +13,7 @@ use super::step::step_of;
 use super::turn::Turn;
 use buffer::push;
 use buffer::push_byte;
+use text::well_formed_prefix;
 
 // What tokenizing a line answers.
 pub enum Tokens {
@@ -77,22 +78,51 @@ fn put(line: &[u8], scan: Scan, turn: Turn, n: usize, out: &mut [u8])
     }
 }
 
-// Writes the frames of a well-formed line's words.
-fn write(line: &[u8], out: &mut [u8])
+// Writes the frames of a well-formed line's words and returns their length.
+fn write(line: &[u8], out: &mut [u8]) -> usize
     requires { ⌜ length (now line) ≤ 1024 ⌝ }
     requires { ⌜ wellFormedLength (now line) ≡ length (now line) ⌝ }
     requires { ⌜ length (written (now line)) ≤ length (now out) ⌝ }
-    ensures { λ _. ⌜ now (out .exit) ≡ over (written (now (line .entry))) (now (out .entry)) ⌝ }
+    ensures { λ r. ⌜ Written (written (now (line .entry))) (now (out .entry)) r (now (out .exit)) ⌝ }
 {
     let mut scan = Scan::start();
     while scan.at < line.len() {
         let Step::Go { turn, length } = step_of(line, scan) else {
-            return;
+            return scan.done;
         };
         put(line, scan, turn, length, out);
         scan = scan.advance(turn, length);
     }
     end_word(scan.done, scan.word, out);
+    closed(scan.done, scan.word)
+}
+
+// The words of a line whose buffer may be too short for them: measured first.
+fn split_measured(line: &[u8], out: &mut [u8]) -> Tokens
+    requires { ⌜ length (now line) ≤ 1024 ⌝ }
+    ensures { λ r. ⌜ Tokenized (now (line .entry)) (now (out .entry)) r (now (out .exit)) ⌝ }
+{
+    match measure(line) {
+        Measured::IllFormed(place) => Tokens::IllFormed(place),
+        Measured::Needs(needed) => {
+            if out.len() < needed {
+                return Tokens::NoRoom(needed);
+            }
+            Tokens::Words(write(line, out))
+        }
+    }
+}
+
+// The words of a line whose buffer has room for the words of any such line: one pass fewer.
+fn split_roomy(line: &[u8], out: &mut [u8]) -> Tokens
+    requires { ⌜ (length (now line) ≤ 1024) × (4 * length (now line) ≤ length (now out)) ⌝ }
+    ensures { λ r. ⌜ Tokenized (now (line .entry)) (now (out .entry)) r (now (out .exit)) ⌝ }
+{
+    let place = well_formed_prefix(line);
+    if place < line.len() {
+        return Tokens::IllFormed(place);
+    }
+    Tokens::Words(write(line, out))
 }
 
 // The words of a line as frames of kind 14, at the front of out.
@@ -106,14 +136,8 @@ pub fn tokenize(line: &[u8], out: &mut [u8]) -> Tokens
             65535
         });
     }
-    match measure(line) {
-        Measured::IllFormed(place) => Tokens::IllFormed(place),
-        Measured::Needs(needed) => {
-            if out.len() < needed {
-                return Tokens::NoRoom(needed);
-            }
-            write(line, out);
-            Tokens::Words(needed)
-        }
+    if 4 * line.len() <= out.len() {
+        return split_roomy(line, out);
     }
+    split_measured(line, out)
 }

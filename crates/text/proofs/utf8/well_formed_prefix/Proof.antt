@@ -1,6 +1,7 @@
 -- `text::utf8::well_formed_prefix` meets its contract. The place reached and the well-formed length of what is left give that of the whole.
 use Rattle.text.proofs.Prefix.{prefix-turn, prefix-none, codes-stop, codes-end}
 use Rattle.text.proofs.Pieces.{character-some, character-fits}
+use Rattle.text.proofs.Rows.{decode-ascii}
 use Rattle.text.specs.Decoding.{wellFormedLength}
 use native.Mathlib.Omega.{arith}
 use Prim.Native.Nat.{_+_, _≤_, _-_}
@@ -18,6 +19,18 @@ abbrev μ-loop : tie.MeasureT-loop
 loop-holds : tie.Need-loop-holds Inv-loop μ-loop
 loop-holds c = (omega arith, omega arith)
 
+shared-slice-read-if1 : tie.Need-shared-slice-read-if1 Inv-loop μ-loop
+shared-slice-read-if1 c = omega arith
+
+add-at : tie.Need-add-at Inv-loop μ-loop
+add-at c = omega arith
+
+loop-less : tie.Need-loop-less Inv-loop μ-loop
+loop-less c = omega arith
+
+loop-again : tie.Need-loop-again Inv-loop μ-loop
+loop-again c = (omega arith, prefix-turn _ _ _ _ _ (decode-ascii _ _ (c .before .before .loop-test .taken) (c .if1 .taken)) (c .before .before .before .loop .inv .1))
+
 decode-requires : tie.Need-decode-requires Inv-loop μ-loop
 decode-requires c κs = tt
 
@@ -25,20 +38,20 @@ enum-known-length : tie.Need-enum-known-length Inv-loop μ-loop
 enum-known-length c = c .match .keys1
 
 returns : tie.Need-returns Inv-loop μ-loop
-returns c = let e = prefix-none _ (codes-stop _ _ (sym (c .before .decode .ensures)) (c .match .keys2)) in omega (arith, c .before .before .before .loop .inv .1, e)
+returns c = let e = prefix-none (drop (c .before .before .before .before .before .loop .at) (c .before .before .before .before .before .before .before .args .s .now)) (codes-stop _ _ (sym (c .before .decode .ensures)) (c .match .keys2)) in omega (arith, c .before .before .before .before .before .loop .inv .1, e)
 
-add-at : tie.Need-add-at Inv-loop μ-loop
-add-at c = let f = character-fits (c .before .before .before .before .before .before .before .args .s .now) (c .before .before .before .before .before .loop .at) _ _ (sym (c .before .before .before .decode .ensures) ∙ c .before .length .given .1) in omega arith
+add-at-2 : tie.Need-add-at-2 Inv-loop μ-loop
+add-at-2 c = let f = character-fits (c .before .before .before .before .before .before .before .before .before .args .s .now) (c .before .before .before .before .before .before .before .loop .at) _ _ (sym (c .before .before .before .decode .ensures) ∙ c .before .length .given .1) in omega arith
 
-loop-less : tie.Need-loop-less Inv-loop μ-loop
-loop-less c =
-    let f = character-fits (c .before .before .before .before .before .before .before .args .s .now) (c .before .before .before .before .before .loop .at) _ _ (sym (c .before .before .before .decode .ensures) ∙ c .before .length .given .1) in
-    let g = character-some (drop (c .before .before .before .before .before .loop .at) (c .before .before .before .before .before .before .before .args .s .now)) _ _ (sym (c .before .before .before .decode .ensures) ∙ c .before .length .given .1) in omega arith
+loop-less-2 : tie.Need-loop-less-2 Inv-loop μ-loop
+loop-less-2 c =
+    let f = character-fits (c .before .before .before .before .before .before .before .before .before .args .s .now) (c .before .before .before .before .before .before .before .loop .at) _ _ (sym (c .before .before .before .decode .ensures) ∙ c .before .length .given .1) in
+    let g = character-some (drop (c .before .before .before .before .before .before .before .loop .at) (c .before .before .before .before .before .before .before .before .before .args .s .now)) _ _ (sym (c .before .before .before .decode .ensures) ∙ c .before .length .given .1) in omega arith
 
-loop-again : tie.Need-loop-again Inv-loop μ-loop
-loop-again c =
-    let f = character-fits (c .before .before .before .before .before .before .before .args .s .now) (c .before .before .before .before .before .loop .at) _ _ (sym (c .before .before .before .decode .ensures) ∙ c .before .length .given .1) in
-    (f, prefix-turn _ _ _ _ _ (sym (c .before .before .before .decode .ensures) ∙ c .before .length .given .1) (c .before .before .before .before .before .loop .inv .1))
+loop-again-2 : tie.Need-loop-again-2 Inv-loop μ-loop
+loop-again-2 c =
+    let f = character-fits (c .before .before .before .before .before .before .before .before .before .args .s .now) (c .before .before .before .before .before .before .before .loop .at) _ _ (sym (c .before .before .before .decode .ensures) ∙ c .before .length .given .1) in
+    (f, prefix-turn _ _ _ _ _ (sym (c .before .before .before .decode .ensures) ∙ c .before .length .given .1) (c .before .before .before .before .before .before .before .loop .inv .1))
 
 returns-2 : tie.Need-returns-2 Inv-loop μ-loop
 returns-2 c = let e = prefix-none (drop (c .before .loop .at) (c .before .before .before .args .s .now)) (codes-end _ _ (c .loop-test .left)) in omega (arith, c .before .loop .inv .1, e)
@@ -50,10 +63,14 @@ well-formed-prefix-spec =
     Inv-loop
     μ-loop
     loop-holds
-    decode-requires
-    enum-known-length
-    returns
+    shared-slice-read-if1
     add-at
     loop-less
     loop-again
+    decode-requires
+    enum-known-length
+    returns
+    add-at-2
+    loop-less-2
+    loop-again-2
     returns-2)

@@ -1,8 +1,7 @@
 -- `words::tokenizer::tokenize` meets its contract.
-use Rattle.words.proofs.Answers.{measured-tells, too-long, ill-formed, no-room, all-words}
+use Rattle.words.proofs.Answers.{too-long}
 use borrow.Author.Needs.{needs}
 use native.Mathlib.Omega.{arith}
-use mathlib.Core.Path.{sym, _∙_}
 use Rattle.words.proofs.tokenizer.tokenize.Statement.{statement}
 use Rattle.words.proofs.tokenizer.tokenize.Tie as tie
 
@@ -12,31 +11,26 @@ returns c = too-long _ _ _ (c .before .if1 .taken) (omega (arith, c .if2 .taken)
 returns-2 : tie.Need-returns-2
 returns-2 c = too-long _ _ _ (c .before .if1 .taken) (omega (arith, c .if2 .left))
 
-measure-requires : tie.Need-measure-requires
-measure-requires c κs = search needs
+mul-if3 : tie.Need-mul-if3
+mul-if3 c = search needs
 
-enum-known-place : tie.Need-enum-known-place
-enum-known-place c = search needs
-
-enum-known-needed : tie.Need-enum-known-needed
-enum-known-needed c = search needs
-
-returns-3 : tie.Need-returns-3
-returns-3 c = no-room _ _ _ (c .before .before .before .before .before .if1 .left) (measured-tells _ _ (sym (c .before .before .needed .given .1) ∙ c .before .before .before .before .measure .ensures)) (c .if3 .taken)
-
-write-requires : tie.Need-write-requires
-write-requires c κs =
-    let t = measured-tells (c .before .before .before .before .before .before .before .before .before .args .line .now) _ (sym (c .before .before .before .needed .given .1) ∙ c .before .before .before .before .before .measure .ensures) in
-    (c .before .before .before .before .before .before .if1 .left, (t .0, omega (arith, t .1, c .before .if3 .left)))
-
-returns-4 : tie.Need-returns-4
-returns-4 c = ill-formed _ _ _ (c .before .before .before .before .if1 .left) (measured-tells _ _ (sym (c .before .place .given .1) ∙ c .before .before .before .measure .ensures))
+split-roomy-requires : tie.Need-split-roomy-requires
+split-roomy-requires c κs = (c .before .before .if1 .left, c .before .if3 .taken)
 
 same-length : tie.Need-same-length
 same-length c = search needs
 
-returns-5 : tie.Need-returns-5
-returns-5 c = all-words _ _ _ (c .before .before .before .before .before .before .before .before .before .if1 .left) (measured-tells _ _ (sym (c .before .before .before .before .before .before .needed .given .1) ∙ c .before .before .before .before .before .before .before .before .measure .ensures)) _ (c .before .before .before .before .if3 .left) (c .before .before .write .ensures)
+returns-3 : tie.Need-returns-3
+returns-3 c = c .before .before .split-roomy .ensures
+
+split-measured-requires : tie.Need-split-measured-requires
+split-measured-requires c κs = c .before .before .if1 .left
+
+same-length-2 : tie.Need-same-length-2
+same-length-2 c = search needs
+
+returns-4 : tie.Need-returns-4
+returns-4 c = c .before .before .split-measured .ensures
 
 pub tokenize-spec : {M : Type 1} → statement M
 tokenize-spec =
@@ -44,11 +38,10 @@ tokenize-spec =
     (tie.spec
     returns
     returns-2
-    measure-requires
-    enum-known-place
-    enum-known-needed
-    returns-3
-    write-requires
-    returns-4
+    mul-if3
+    split-roomy-requires
     same-length
-    returns-5)
+    returns-3
+    split-measured-requires
+    same-length-2
+    returns-4)

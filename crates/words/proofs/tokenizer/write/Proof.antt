@@ -1,5 +1,5 @@
 -- `words::tokenizer::write` meets its contract. The scan stands in its line, and what it has read lies in the buffer: `Laid`.
-use Rattle.words.proofs.Laying.{Laid, laid-start, laid-turn, laid-end, step-room, end-room}
+use Rattle.words.proofs.Laying.{Laid, laid-start, laid-turn, laid-whole, step-room, end-room}
 use Rattle.words.proofs.Standing.{prefix-ends}
 use Rattle.words.proofs.Steps.{step-less, closed-least}
 use Rattle.words.proofs.Runs.{step-goes, step-stops}
@@ -74,11 +74,14 @@ end-word-requires c κs =
     let w = closed-least (scan .done) (scan .word) in
     (omega (arith, r, c .before .before .before .loop .inv .0), omega (arith, w, h .standing .cost, h .standing .inside, s .pre .0))
 
+closed-requires : tie.Need-closed-requires Inv-loop μ-loop
+closed-requires c κs = let k = c .before .before .before .before .before .before .loop .inv .1 .standing .cost in let i = c .before .before .before .before .before .before .loop .inv .1 .standing .inside in omega (arith, k, i, c .before .before .before .before .before .before .before .before .before .before .pre .0)
+
 same-length-2 : tie.Need-same-length-2 Inv-loop μ-loop
-same-length-2 c = c .before .before .end-word .kept .1 .1 .0 ∙ c .before .before .before .before .before .before .loop .inv .0
+same-length-2 c = c .before .before .before .end-word .kept .1 .1 .0 ∙ c .before .before .before .before .before .before .before .loop .inv .0
 
 returns-2 : tie.Need-returns-2 Inv-loop μ-loop
-returns-2 c = c .before .before .end-word .ensures ∙ laid-end _ _ _ _ (c .before .before .before .before .before .before .loop .inv .1) (c .before .before .before .before .if1 .left) (c .before .before .before .before .before .before .before .before .before .before .pre .1 .1)
+returns-2 c = laid-whole _ _ _ _ (c .before .before .before .before .before .before .before .loop .inv .1) (c .before .before .before .before .before .if1 .left) (c .before .before .before .before .before .before .before .before .before .before .before .pre .1 .1) _ _ (c .before .before .before .end-word .ensures) (c .closed .ensures)
 
 pub write-spec : {M : Type 1} → statement M
 write-spec =
@@ -98,5 +101,6 @@ write-spec =
     loop-less
     loop-again
     end-word-requires
+    closed-requires
     same-length-2
     returns-2)
