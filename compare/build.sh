@@ -4,19 +4,7 @@
 library=${RISSEMAT_LIBRARY:-target/staticlib/libabi.a}
 [ -n "${RISSEMAT_LIBRARY:-}" ] || rt staticlib abi
 
-built=target/compare
-
-compile() {
-    rustc --edition 2024 -O -L "dependency=$built" "$@"
-}
-
-# rlib NAME FILE WORDS..: a Rust library, libNAME.rlib. The WORDS go to rustc.
-rlib() {
-    name=$1
-    file=$2
-    shift 2
-    compile --crate-type rlib --crate-name "$name" --out-dir "$built" "$file" "$@"
-}
+. compare/original.sh
 
 # program NAME FILE: a program over the original, in both its forms, and over the library.
 program() {
@@ -26,26 +14,4 @@ program() {
         -C "link-arg=$library"
 }
 
-# original NAME WORDS..: the original's four files as they are, among the stand-ins.
-original() {
-    name=$1
-    shift
-    rlib "$name" "$built/original/lib.rs" --cap-lints allow --extern "axstd=$built/libaxstd.rlib" \
-        --extern "lazy_static=$built/liblazy_static.rlib" --extern "log=$built/liblog.rlib" "$@"
-}
-
-rm -rf "$built/original"
-mkdir -p "$built/original/shell/command"
-for file in shell/mod.rs shell/command/mod.rs shell/command/history.rs shell/command/base.rs; do
-    cp "docs/src/src/$file" "$built/original/$file"
-    cmp "docs/src/src/$file" "$built/original/$file"
-done
-cp compare/original/lib.rs "$built/original/lib.rs"
-cp compare/original/vm.rs "$built/original/shell/command/vm.rs"
-
-rlib axstd compare/original/axstd/lib.rs
-rlib lazy_static compare/original/lazy_static.rs
-rlib log compare/original/log.rs
-original original
-original original_fs --cfg 'feature="fs"'
 rlib calls compare/calls.rs

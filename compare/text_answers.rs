@@ -1,4 +1,7 @@
 // Writes the input and the output of the program replay_text: texts, and what Rust's standard library says of them.
+mod hex;
+
+use hex::{hex, or_dash};
 use std::collections::HashSet;
 use std::fmt::Write;
 
@@ -236,14 +239,6 @@ fn mark(bytes: &[u8]) -> char {
         (0, _) => 'f',
         _ => 's',
     }
-}
-
-fn hex(bytes: &[u8]) -> String {
-    bytes.iter().map(|byte| format!("{byte:02x}")).collect()
-}
-
-fn or_dash(text: String) -> String {
-    if text.is_empty() { "-".to_string() } else { text }
 }
 
 // The code of the first character, if the bytes begin with one.

@@ -1,5 +1,4 @@
 // Replays stored answers of Rust's own text functions: writes what the crate text answers for the same inputs.
-mod line;
 mod parts;
 mod sample;
 mod table;

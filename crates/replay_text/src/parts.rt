@@ -1,5 +1,5 @@
 // What the crate text says of one text: its first character's code, what trimming leaves, and its words.
-use crate::line;
+use replay::line;
 
 // Puts the code of the first character, '-' where none begins the text.
 pub fn put_first(s: &[u8], line: &mut [u8], at: usize) -> usize {

@@ -1,40 +1,10 @@
 // The stored sample: each line of the input is a text in hexadecimal, and is answered by a line.
-ghost use Prim.Native.Nat.{_≤_, _<_};
-ghost use lib.ListN.{length};
-ghost use Rattle.io.specs.Counts.{Counts};
-use crate::line;
 use crate::parts;
-use libc::STDIN_FILENO;
 use libc::STDOUT_FILENO;
-
-// The value of a hexadecimal digit in lower case. Anything else counts as 0, and shows: the answer repeats the text.
-fn value(digit: u8) -> u8
-    ensures { λ r. ⌜ r < 16 ⌝ }
-{
-    match digit {
-        b'0'..=b'9' => digit - b'0',
-        b'a'..=b'f' => digit - b'a' + 10,
-        _ => 0,
-    }
-}
-
-// The byte that two digits stand for.
-fn pair(high: u8, low: u8) -> u8 {
-    value(high) * 16 + value(low)
-}
-
-// Reads digits into a text, as far as it has room, and returns its length.
-fn read_hex(digits: &[u8], text: &mut [u8]) -> usize
-    ensures { λ r. ⌜ Counts r (now (text .exit)) ⌝ }
-{
-    let most = digits.len() / 2;
-    let mut i = 0;
-    while i < most && i < text.len() {
-        text[i] = pair(digits[2 * i], digits[2 * i + 1]);
-        i += 1;
-    }
-    i
-}
+use replay::hex::read_hex;
+use replay::input::line_end;
+use replay::input::read_input;
+use replay::line;
 
 // Puts what only a well-formed text has: what trimming leaves, and its words.
 fn put_parts(s: &[u8], length: usize, line: &mut [u8], at: usize) -> usize {
@@ -65,28 +35,12 @@ fn answer_line(digits: &[u8]) {
     answer(&text[..n], &mut line);
 }
 
-// The place of the first line end at or after a place, the length if there is none.
-fn line_end(input: &[u8], from: usize) -> usize
-    requires { ⌜ from ≤ length (now input) ⌝ }
-    ensures { λ r. ⌜ from ≤ r ⌝ }
-    ensures { λ r. ⌜ r ≤ length (now (input .entry)) ⌝ }
-{
-    let mut at = from;
-    while at < input.len() && input[at] != b'\n' {
-        at += 1;
-    }
-    at
-}
-
 // Answers every line.
 fn answer_lines(input: &[u8]) {
     let mut at = 0;
     while at < input.len() {
         let end = line_end(input, at);
         answer_line(&input[at..end]);
-        if end == input.len() {
-            return;
-        }
         at = end + 1;
     }
 }
@@ -98,9 +52,6 @@ pub fn all() {
         b"Texts of the input: length of the well-formed part, first code, what is left trimmed, words\n",
     );
     let mut input = io::large_buffer();
-    let n = io::read_full(STDIN_FILENO, &mut input);
-    if n == 65536 {
-        io::write_all(STDOUT_FILENO, b"the input is too long for the buffer\n");
-    }
+    let n = read_input(&mut input);
     answer_lines(&input[..n]);
 }

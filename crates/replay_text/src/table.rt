@@ -1,7 +1,7 @@
 // Every input of one and of two bytes, a mark each: what is well-formed, what trimming leaves and where the words lie.
-use crate::line;
 use crate::parts;
 use libc::STDOUT_FILENO;
+use replay::line;
 
 // Marks for a well-formed input: it is white space; or what is left of it is its first byte, its second byte, or all.
 const BLANK: u8 = b'.';

@@ -4,8 +4,8 @@ use native.Mathlib.Omega.{arith}
 use Prim.Native.Nat.{_≤_, _-_}
 use mathlib.Core.Path.{_≡_}
 use lib.ListN.{length}
-use Rattle.replay_text.proofs.line.put_bytes.Statement.{statement}
-use Rattle.replay_text.proofs.line.put_bytes.Tie as tie
+use Rattle.replay.proofs.line.put_bytes.Statement.{statement}
+use Rattle.replay.proofs.line.put_bytes.Tie as tie
 
 abbrev Inv-loop : tie.InvT-loop
 Inv-loop bytes line₀ at o₀ i₀ line o i = (i ≤ length bytes) × (length line ≡ length line₀)

@@ -1,12 +1,12 @@
--- `sample::read_hex` is safe, ends, and answers a length that the text has: each turn reads two digits into one byte.
+-- `hex::read_hex` is safe, ends, and answers a length that the text has: each turn reads two digits into one byte.
 use borrow.Author.Tests.{ltb-true}
 use lib.ListN.{length-take, length, length-set}
 use borrow.Author.Needs.{needs}
 use native.Mathlib.Omega.{arith}
 use Prim.Native.Nat.{_≤_, _<_, _-_, _/_}
 use mathlib.Core.Path.{_≡_}
-use Rattle.replay_text.proofs.sample.read_hex.Statement.{statement}
-use Rattle.replay_text.proofs.sample.read_hex.Tie as tie
+use Rattle.replay.proofs.hex.read_hex.Statement.{statement}
+use Rattle.replay.proofs.hex.read_hex.Tie as tie
 
 abbrev Inv-loop : tie.InvT-loop
 Inv-loop digits text₀ most i₀ text i = (i ≤ most) × (i ≤ length text) × (length text ≡ length text₀) × (most ≡ length digits / 2)

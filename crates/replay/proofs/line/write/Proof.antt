@@ -2,8 +2,8 @@
 use lib.ListN.{length-take}
 use borrow.Author.Needs.{needs}
 use native.Mathlib.Omega.{arith}
-use Rattle.replay_text.proofs.line.write.Statement.{statement}
-use Rattle.replay_text.proofs.line.write.Tie as tie
+use Rattle.replay.proofs.line.write.Statement.{statement}
+use Rattle.replay.proofs.line.write.Tie as tie
 
 put-requires : tie.Need-put-requires
 put-requires c κs = search needs

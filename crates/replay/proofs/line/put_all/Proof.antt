@@ -3,8 +3,8 @@ use borrow.Author.Needs.{needs}
 use Prim.Native.Nat.{_≤_, _-_}
 use mathlib.Core.Path.{_≡_}
 use lib.ListN.{length}
-use Rattle.replay_text.proofs.line.put_all.Statement.{statement}
-use Rattle.replay_text.proofs.line.put_all.Tie as tie
+use Rattle.replay.proofs.line.put_all.Statement.{statement}
+use Rattle.replay.proofs.line.put_all.Tie as tie
 
 abbrev Inv-loop : tie.InvT-loop
 Inv-loop bytes line₀ at o₀ i₀ line o i = (i ≤ length bytes) × (length line ≡ length line₀)

@@ -1,9 +1,9 @@
--- `sample::line_end` answers a place from where it began up to the input's length, and ends there.
+-- `input::line_end` answers a place from where it began up to the input's length, and ends there.
 use borrow.Author.Needs.{needs}
 use Prim.Native.Nat.{_≤_, _-_}
 use lib.ListN.{length}
-use Rattle.replay_text.proofs.sample.line_end.Statement.{statement}
-use Rattle.replay_text.proofs.sample.line_end.Tie as tie
+use Rattle.replay.proofs.input.line_end.Statement.{statement}
+use Rattle.replay.proofs.input.line_end.Tie as tie
 
 abbrev Inv-loop : tie.InvT-loop
 Inv-loop input from at₀ at = («from» ≤ at) × (at ≤ length input)

@@ -1,0 +1,4 @@
+// Replay: what the programs share that answer each line of their input, digits in hexadecimal, by a line of output.
+pub mod hex;
+pub mod input;
+pub mod line;
