@@ -1,4 +1,10 @@
 -- Where the code stands in the words: what it has counted or written, and what the rest of the words will add.
+use Rattle.frame.specs.Framed.{frameFirst}
+use Rattle.frame.specs.declared.framed.Framed.the-variants.{Frame}
+use Rattle.frame.proofs.Frames.{frame-within}
+use borrow.Author.Tests.{eqb-true, eqb-false}
+use lib.Dec.{eqb}
+use mathlib.Core.Bool.{Bool, true, false}
 use Prim.Native.Nat.{ℕ, zero, suc, _+_, _-_, _*_, _<_, _≤_}
 use mathlib.Core.Path.{_≡_, refl, sym, ap, _∙_}
 use mathlib.Core.List.{List, [], _∷_, _++_, map, append-assoc}
@@ -6,15 +12,15 @@ use native.Mathlib.Omega.{arith}
 use native.Mathlib.Numerals.{add-one}
 use lib.ListN.{length, take, drop, length-append, length-drop, length-take}
 use Rattle.text.specs.Decoding.{wellFormedLength}
-use Rattle.quote.specs.Given.{listed, Judged, bad, fine, onJudged, before, judge}
+use Rattle.quote.specs.Given.{listed, Judged, bad, fine, onJudged, before, judge, goodWord}
 use Rattle.quote.specs.Shown.{shown}
 use Rattle.quote.specs.Joined.{gap, joinedFrom, joined}
 use Rattle.quote.specs.Answer.{quoteLine, lineOf}
 use Rattle.quote.specs.Steps.{itemFirst, measured, IsFine}
-use Rattle.quote.specs.declared.given.Item.the-variants.{Word, Bad as NoWord}
+use Rattle.quote.specs.declared.given.Item.the-variants.{Word, Bad as NoWord, Bad}
 use Rattle.quote.specs.declared.quoter.Measured.{Measured}
 use Rattle.quote.specs.declared.quoter.Measured.the-variants.{Needs, Bad}
-use Rattle.quote.proofs.Listing.{good-formed, frame-room, part-is, word-told, judge-word, judge-bad, listed-end}
+use Rattle.quote.proofs.Listing.{good-formed, frame-room, part-is, word-told, judge-word, judge-bad, listed-end, item-other, item-judged as item-tested}
 use Rattle.quote.proofs.Showing.{shown-most}
 
 pub gap-none : (n : ℕ) → n ≡ 0 → gap n ≡ []
@@ -152,3 +158,15 @@ module _ (words : List ℕ) (n at : ℕ) (f : IsFine (judge (listed (drop at wor
 pub rest-end : (words : List ℕ) (n at : ℕ) → length words ≤ at → restLine n (judge (listed (drop at words))) ≡ []
 unfolding joinedFrom
 rest-end words n at k = ap (restLine n) (listed-end words at k)
+
+-- where all words are good, a frame holds one
+pub fine-item : (s : List ℕ) (kind n : ℕ) → IsFine (judge (listed s)) → frameFirst s ≡ Frame kind n → itemFirst s ≡ Word n
+fine-item s kind n f e = by (eqb kind 0x14) (goodWord (take n (drop 3 s))) refl refl
+  where
+    none : itemFirst s ≡ Bad → itemFirst s ≡ Word n
+    none b = absurd (rw (judge-bad s (let r = frame-within s kind n e in omega arith) b) at f)
+
+    by : (t u : Bool) → eqb kind 0x14 ≡ t → goodWord (take n (drop 3 s)) ≡ u → itemFirst s ≡ Word n
+    by false u p q = none (item-other s kind n e (eqb-false kind 0x14 p))
+    by true true p q = item-tested s kind n true e (eqb-true kind 0x14 p) q
+    by true false p q = none (item-tested s kind n false e (eqb-true kind 0x14 p) q)

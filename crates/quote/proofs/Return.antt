@@ -1,5 +1,11 @@
 -- The way back: splitting the line of words that quoting accepts gives those words, and writes the very frames that were given.
-use Prim.Native.Nat.{ℕ, zero, suc, _+_, _<_}
+use Rattle.quote.specs.Shown.{quoting, special, plain, escapedCode, escaped, shownCodes, shown}
+use Rattle.words.specs.Answer.{Tokenized, written}
+use Rattle.words.specs.declared.tokenizer.Tokens.the-variants.{Words}
+use Rattle.words.proofs.Answers.{all-words}
+use Rattle.text.proofs.Prefix.{whole-is, codes-are, codes-scalars, codes-whole, encode-append, is-whole}
+use Rattle.buffer.specs.Write.{over}
+use Prim.Native.Nat.{ℕ, zero, suc, _+_, _<_, _≤_}
 use mathlib.Core.Path.{_≡_, refl, sym, ap, _∙_}
 use mathlib.Core.Bool.{Bool, true, false, cond, not}
 use mathlib.Core.List.{List, [], _∷_, _++_, map, append-assoc, append-nil}
@@ -12,17 +18,14 @@ use Rattle.text.specs.Unicode.{low, Scalars, none, more, encode, encodeAll, Wel
 use Rattle.text.specs.Decoding.{codesIn}
 use Rattle.text.specs.Space.{whiteSpace, among, isWhiteSpace}
 use Rattle.text.specs.Apart.{ended}
-use Rattle.text.proofs.Prefix.{codes-are, codes-scalars, codes-whole, encode-append, whole-is, is-whole}
 use Rattle.frame.specs.Text.{Bytes}
 use Rattle.frame.specs.Framed.{frameOf}
 use Rattle.frame.proofs.Frames.{frame-back, frame-within}
 use Rattle.words.specs.declared.turn.Turn.{Turn}
 use Rattle.words.specs.declared.turn.Turn.the-variants.{Take, Escape, Toggle, Gap}
 use Rattle.words.specs.Tokens.{turnOf, onTurn, tokensFrom, tokens, wordsOf, framesOf}
-use Rattle.words.specs.Answer.{written}
 use Rattle.words.proofs.Kept.{Each, nothing, also, Good}
 use Rattle.quote.specs.Given.{Listed, done, broken, word, listedFrom, listed, goodWord, Judged, bad, fine, before, judge}
-use Rattle.quote.specs.Shown.{special, plain, escapedCode, escaped, shownCodes, shown}
 use Rattle.quote.specs.Joined.{gap, joinedFrom, joined}
 use Rattle.quote.specs.Answer.{quoteLine}
 use Rattle.quote.specs.Steps.{itemFirst}
@@ -77,10 +80,10 @@ turn-space = refl
 
 -- a plain word is taken as it stands
 plain-tells : (code : ℕ) (codes : List ℕ) → plain (code ∷ codes) ≡ true → (special code ≡ false) × (isWhiteSpace code ≡ false) × (plain codes ≡ true)
-unfolding plain
+unfolding plain quoting
 plain-tells code codes e = by (special code) (isWhiteSpace code) refl refl e
   where
-    by : (s t : Bool) → special code ≡ s → isWhiteSpace code ≡ t → cond s false (cond t false (plain codes)) ≡ true
+    by : (s t : Bool) → special code ≡ s → isWhiteSpace code ≡ t → cond (cond s true t) false (plain codes) ≡ true
         → (special code ≡ false) × (isWhiteSpace code ≡ false) × (plain codes ≡ true)
     by true t p q r = absurd (true-is-not-false (sym r))
     by false true p q r = absurd (true-is-not-false (sym r))
@@ -311,3 +314,11 @@ frames-back words ws b e = frames-within (suc (length words)) words ws (omega ar
 pub written-back : (words : List ℕ) (ws : List (List ℕ)) → Bytes words → judge (listed words) ≡ fine ws → written (quoteLine ws) ≡ words
 unfolding written
 written-back words ws b e = ap framesOf (given-back words ws e) ∙ frames-back words ws b e
+
+-- The two calls together: where `quote` writes a line, `tokenize` of that line writes the frames that `quote` was given.
+pub call-back : (words out : List ℕ) (ws : List (List ℕ)) → Bytes words → judge (listed words) ≡ fine ws → length (quoteLine ws) ≤ 1024 → length words ≤ length out
+    → Tokenized (quoteLine ws) out (Words (length words)) (over words out)
+call-back words out ws b e h k =
+    let line : List ℕ = quoteLine ws in
+    let back : written line ≡ words = written-back words ws b e in
+    all-words line out (length words) h (whole-is line (line-formed ws), ap length (sym back)) (over words out) k (ap (λ (l : List ℕ). over l out) (sym back))

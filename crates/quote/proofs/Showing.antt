@@ -1,19 +1,24 @@
 -- A word shown: its length, and how the code finds and writes it a character at a time.
-use Prim.Native.Nat.{ℕ, suc, _+_, _-_, _*_, _≤_}
+use lib.ListN.{getD, length, take, drop, length-append}
+use borrow.Author.Tests.{not-true}
+use Rattle.text.proofs.Rows.{decode-ascii}
+use Rattle.text.proofs.Spaces.{below-passes}
+use Rattle.text.specs.Space.{whiteSpace, among, isWhiteSpace}
+use Rattle.words.specs.Scan.{ordinary}
+use Rattle.words.proofs.Runs.{small, implied}
+use mathlib.Core.Bool.{not, Bool, true, false, cond}
+use Prim.Native.Nat.{_<_, ℕ, suc, _+_, _-_, _*_, _≤_}
+use Rattle.quote.specs.Shown.{quoting, special, plain, escapedCode, escaped, shownCodes, shown}
 use mathlib.Core.Path.{_≡_, refl, sym, ap, _∙_}
-use mathlib.Core.Bool.{Bool, true, false, cond}
 use mathlib.Core.List.{List, [], _∷_, _++_, append-nil}
 use native.Mathlib.Omega.{arith}
-use lib.ListN.{length, take, drop, length-append}
 use lib.Seq.{drop-drop}
 use Rattle.buffer.proofs.Choices.{then-is, else-is, true-is-not-false}
 use Rattle.text.specs.Unicode.{encode, encodeAll}
 use Rattle.text.specs.Decoding.{decodeFirst, codesIn, wellFormedLength}
-use Rattle.text.specs.Space.{isWhiteSpace}
 use Rattle.text.specs.declared.utf8.Decoded.the-variants.{Character}
 use Rattle.text.proofs.Pieces.{character-bytes, encode-some}
 use Rattle.text.proofs.Prefix.{codes-step, codes-whole, encode-append}
-use Rattle.quote.specs.Shown.{special, plain, escapedCode, escaped, shownCodes, shown}
 use Rattle.quote.specs.Steps.{specials, escapedBytes}
 
 -- a character more, seen from the place behind it
@@ -36,17 +41,13 @@ bare-room false x at room e h = h
 
 module _ (w : List ℕ) (at code n : ℕ) (d : decodeFirst (drop at w) ≡ Character code n) where
   -- whether a word is plain
-  pub plain-special : special code ≡ true → plain (codesIn (drop at w)) ≡ false
+  pub plain-not : quoting code ≡ true → plain (codesIn (drop at w)) ≡ false
   unfolding plain
-  plain-special e = ap plain (codes-at w at code n d) ∙ then-is _ _ _ e
+  plain-not e = ap plain (codes-at w at code n d) ∙ then-is _ _ _ e
 
-  pub plain-white : special code ≡ false → isWhiteSpace code ≡ true → plain (codesIn (drop at w)) ≡ false
+  pub plain-turn : quoting code ≡ false → plain (codesIn (drop at w)) ≡ plain (codesIn (drop (at + n) w))
   unfolding plain
-  plain-white e f = ap plain (codes-at w at code n d) ∙ else-is _ _ _ e ∙ then-is _ _ _ f
-
-  pub plain-turn : special code ≡ false → isWhiteSpace code ≡ false → plain (codesIn (drop at w)) ≡ plain (codesIn (drop (at + n) w))
-  unfolding plain
-  plain-turn e f = ap plain (codes-at w at code n d) ∙ else-is _ _ _ e ∙ else-is _ _ _ f
+  plain-turn e = ap plain (codes-at w at code n d) ∙ else-is _ _ _ e
 
   -- how many characters need `\` before them
   pub specials-more : special code ≡ true → specials (codesIn (drop at w)) ≡ suc (specials (codesIn (drop (at + n) w)))
@@ -69,6 +70,16 @@ module _ (w : List ℕ) (at code n : ℕ) (d : decodeFirst (drop at w) ≡ Chara
       ap (λ (l : List ℕ). encodeAll (escaped l)) (codes-at w at code n d)
       ∙ encode-append (escapedCode code) (escaped (codesIn (drop (at + n) w)))
       ∙ ap (λ (l : List ℕ). l ++ encodeAll (escaped (codesIn (drop (at + n) w)))) (escaped-bytes code (special code) ∙ ap (escapedBytes (special code)) (sym bytes-at))
+
+-- an ordinary byte calls for no quotes
+ordinary-quiet : (b : ℕ) → ordinary b ≡ true → quoting b ≡ false
+unfolding ordinary quoting special isWhiteSpace whiteSpace among
+ordinary-quiet b h =
+    not-true (quoting b)
+    (implied (ordinary b) (not (quoting b)) (below-passes (λ n. cond (ordinary n) (not (quoting n)) true) 0x80 b refl (small b h)) h)
+
+pub plain-ordinary : (w : List ℕ) (at : ℕ) → at < length w → ordinary (getD w at 0) ≡ true → plain (codesIn (drop at w)) ≡ plain (codesIn (drop (at + 1) w))
+plain-ordinary w at h k = plain-turn w at (getD w at 0) 1 (decode-ascii w at h (small (getD w at 0) k)) (ordinary-quiet (getD w at 0) k)
 
 pub plain-none : (codes : List ℕ) → codes ≡ [] → plain codes ≡ true
 unfolding plain

@@ -12,10 +12,14 @@ use Rattle.words.specs.Tokens.{quote, backslash}
 unfoldable pub special : ℕ → Bool
 special code = cond (eqb code quote) true (eqb code backslash)
 
--- no character is white space, `"` or `\`
+-- a character for which a word stands in quotes: white space, `"` or `\`
+unfoldable pub quoting : ℕ → Bool
+quoting code = cond (special code) true (isWhiteSpace code)
+
+-- no character is one
 unfoldable pub plain : List ℕ → Bool
 plain [] = true
-plain (code ∷ codes) = cond (special code) false (cond (isWhiteSpace code) false (plain codes))
+plain (code ∷ codes) = cond (quoting code) false (plain codes)
 
 -- a character, with `\` before it where it needs one
 abbrev pub escapedCode : ℕ → List ℕ

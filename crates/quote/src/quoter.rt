@@ -15,6 +15,8 @@ use super::given::word_at;
 use super::word::push_shown;
 use super::word::shown_size;
 use buffer::push_byte;
+use frame::Framed;
+use frame::read_frame;
 
 // What quoting words answers.
 pub enum Quoted {
@@ -83,7 +85,7 @@ fn write(words: &[u8], out: &mut [u8])
     let mut n = 0;
     let mut at = 0;
     while at < words.len() {
-        let Item::Word(length) = word_at(words, at) else {
+        let Framed::Frame { kind: _, length } = read_frame(words, at) else {
             return;
         };
         let start = at + 3;

@@ -5,13 +5,14 @@ ghost use lib.ListN.{length};
 ghost use Rattle.buffer.specs.Write.{Pushed};
 ghost use Rattle.text.specs.Unicode.{encodeAll};
 ghost use Rattle.text.specs.Decoding.{codesIn, wellFormedLength};
-ghost use Rattle.quote.specs.Shown.{special, plain, escaped, shown};
+ghost use Rattle.quote.specs.Shown.{special, quoting, plain, escaped, shown};
 ghost use Rattle.quote.specs.Steps.{specials, escapedBytes};
 use buffer::push;
 use buffer::push_byte;
 use text::Decoded;
 use text::decode;
 use text::is_white_space;
+use words::is_ordinary;
 
 // Whether a character is `"` or `\`.
 fn is_special(code: u32) -> bool
@@ -23,22 +24,34 @@ fn is_special(code: u32) -> bool
     code == 0x5C
 }
 
+// Whether a character is white space, `"` or `\`.
+fn calls_for_quotes(code: u32) -> bool
+    ensures { λ r. ⌜ r ≡ quoting code ⌝ }
+{
+    if is_special(code) {
+        return true;
+    }
+    is_white_space(code)
+}
+
 // Whether no character of a word is white space, `"` or `\`.
 fn is_plain(word: &[u8]) -> bool
     ensures { λ r. ⌜ r ≡ plain (codesIn (now (word .entry))) ⌝ }
 {
     let mut at = 0;
     while at < word.len() {
-        let Decoded::Character { code, length } = decode(word, at) else {
-            return true;
-        };
-        if is_special(code) {
-            return false;
+        // Most characters are ordinary ones, and need no decoder.
+        if is_ordinary(word[at]) {
+            at += 1;
+        } else {
+            let Decoded::Character { code, length } = decode(word, at) else {
+                return true;
+            };
+            if calls_for_quotes(code) {
+                return false;
+            }
+            at += length;
         }
-        if is_white_space(code) {
-            return false;
-        }
-        at += length;
     }
     true
 }

@@ -5,4 +5,5 @@ pub mod Pieces
 pub mod Prefix
 pub mod Sights
 pub mod Splits
+mod Examples
 pub mod Spaces

@@ -202,7 +202,7 @@ reading-on line s n end h w =
     }
 
 -- an ordinary byte is a character that is taken, inside quotes or not
-small : (b : ℕ) → ordinary b ≡ true → b < 0x80
+pub small : (b : ℕ) → ordinary b ≡ true → b < 0x80
 unfolding ordinary
 small b h = by (leb b 0x20) (leb 0x7F b) refl h
   where
@@ -211,7 +211,7 @@ small b h = by (leb b 0x20) (leb 0x7F b) refl h
     by false true e q = absurd (true-is-not-false (sym q))
     by false false e q = let k = leb-false 0x7F b e in omega arith
 
-implied : (a b : Bool) → cond a b true ≡ true → a ≡ true → b ≡ true
+pub implied : (a b : Bool) → cond a b true ≡ true → a ≡ true → b ≡ true
 implied true b e h = e
 implied false b e h = cc
 

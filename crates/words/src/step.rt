@@ -17,7 +17,7 @@ pub enum Step {
 }
 
 // Whether a byte is an ASCII character that is taken anywhere: neither white space nor a control nor `"` nor `\`.
-fn is_ordinary(byte: u8) -> bool
+pub fn is_ordinary(byte: u8) -> bool
     ensures { λ r. ⌜ r ≡ ordinary byte ⌝ }
 {
     if byte <= 0x20 {

@@ -1,0 +1,50 @@
+-- Worked examples: the code points of the Unicode Standard's Table 3-4 in UTF-8, what Table 3-7 refuses, and a text taken apart.
+use Prim.Native.Nat.{ℕ}
+use mathlib.Core.Path.{_≡_, refl}
+use mathlib.Core.Bool.{false}
+use mathlib.Core.List.{List, [], _∷_, map}
+use Rattle.text.specs.Unicode.{encode, encodeAll}
+use Rattle.text.specs.declared.utf8.Decoded.the-variants.{IllFormed}
+use Rattle.text.specs.Decoding.{leastSecond, greatestSecond, within, decodeTwo, decodeThree, decodeFour, table, decodeFirst, piecesFrom, piecesOf, bytesAll, codesOf, codesIn, wellFormedLength}
+use Rattle.text.specs.Space.{whiteSpace, among, isWhiteSpace}
+use Rattle.text.specs.Apart.{behindRun, trimEnd, trimmed, allWhite, blank, wordsAfter, wordsBetween}
+
+-- U+004D, U+0430, U+4E8C and U+10302, encoded and decoded
+codes : List ℕ
+codes = 0x4D ∷ 0x430 ∷ 0x4E8C ∷ 0x10302 ∷ []
+
+bytes : List ℕ
+bytes = 0x4D ∷ 0xD0 ∷ 0xB0 ∷ 0xE4 ∷ 0xBA ∷ 0x8C ∷ 0xF0 ∷ 0x90 ∷ 0x8C ∷ 0x82 ∷ []
+
+encoded : encodeAll codes ≡ bytes
+unfolding codes bytes encodeAll encode
+encoded = refl
+
+decoded : codesIn bytes ≡ codes
+unfolding codes bytes codesIn codesOf piecesOf piecesFrom decodeFirst table decodeTwo decodeThree decodeFour within leastSecond greatestSecond
+decoded = refl
+
+-- an overlong form of 00, of 7FF and of FFFF, a surrogate, what lies past 10FFFF, a byte that no text has, and a character cut off
+bad-beginnings : map decodeFirst
+    ((0xC0 ∷ 0x80 ∷ []) ∷ (0xE0 ∷ 0x9F ∷ 0xBF ∷ []) ∷ (0xF0 ∷ 0x8F ∷ 0xBF ∷ 0xBF ∷ []) ∷ (0xED ∷ 0xA0 ∷ 0x80 ∷ [])
+    ∷ (0xF4 ∷ 0x90 ∷ 0x80 ∷ 0x80 ∷ []) ∷ (0xFF ∷ []) ∷ (0xE2 ∷ 0x82 ∷ []) ∷ [])
+    ≡ IllFormed ∷ IllFormed ∷ IllFormed ∷ IllFormed ∷ IllFormed ∷ IllFormed ∷ IllFormed ∷ []
+unfolding decodeFirst table decodeTwo decodeThree decodeFour within leastSecond greatestSecond
+bad-beginnings = refl
+
+-- "a", NO-BREAK SPACE, "b" between a tab and a space: three well-formed bytes before FF; trimmed; two words; not blank
+prefix-length : wellFormedLength (0x61 ∷ 0xC2 ∷ 0xA0 ∷ 0xFF ∷ 0x62 ∷ []) ≡ 3
+unfolding wellFormedLength encodeAll encode codesIn codesOf piecesOf piecesFrom decodeFirst table decodeTwo within leastSecond greatestSecond
+prefix-length = refl
+
+trimmed-text : trimmed (0x09 ∷ 0x61 ∷ 0xC2 ∷ 0xA0 ∷ 0x62 ∷ 0x20 ∷ []) ≡ 0x61 ∷ 0xC2 ∷ 0xA0 ∷ 0x62 ∷ []
+unfolding trimmed trimEnd behindRun bytesAll encode piecesOf piecesFrom decodeFirst table decodeTwo within leastSecond greatestSecond isWhiteSpace among whiteSpace
+trimmed-text = refl
+
+two-words : wordsBetween (0x09 ∷ 0x61 ∷ 0xC2 ∷ 0xA0 ∷ 0x62 ∷ 0x20 ∷ []) ≡ (0x61 ∷ []) ∷ (0x62 ∷ []) ∷ []
+unfolding wordsBetween wordsAfter bytesAll encode piecesOf piecesFrom decodeFirst table decodeTwo within leastSecond greatestSecond isWhiteSpace among whiteSpace
+two-words = refl
+
+not-blank : blank (0x20 ∷ 0xFF ∷ []) ≡ false
+unfolding blank allWhite piecesOf piecesFrom decodeFirst table decodeTwo within leastSecond greatestSecond isWhiteSpace among whiteSpace
+not-blank = refl
