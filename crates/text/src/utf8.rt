@@ -1,7 +1,7 @@
 // UTF-8: the character at a place, after Unicode's Table 3-7, and the longest well-formed prefix.
 ghost use mathlib.Core.Path.{_≡_};
-ghost use lib.ListN.{drop, getD};
-ghost use Prim.Native.Nat.{_%_, _≤_};
+ghost use lib.ListN.{length, drop, getD};
+ghost use Prim.Native.Nat.{_%_, _≤_, _<_};
 ghost use Rattle.text.specs.Decoding.{leastSecond, greatestSecond, within, second, later, decodeTwo, decodeThree, decodeFour, table, decodeFirst, wellFormedLength};
 
 // What stands at a place of a text.
@@ -133,7 +133,20 @@ fn longer(a: u8, b: u8, c: u8, d: u8) -> Decoded
     }
 }
 
-// What stands at a place of a text: a character, nothing well-formed, or the end.
+// What stands at a place where a byte is no ASCII byte.
+fn decode_longer(s: &[u8], at: usize) -> Decoded
+    requires { ⌜ (at < length (now s)) × (0x80 ≤ getD (now s) at 0) ⌝ }
+    ensures { λ r. ⌜ r ≡ decodeFirst (drop at (now (s .entry))) ⌝ }
+{
+    longer(
+        s[at],
+        byte_at(s, at + 1),
+        byte_at(s, at + 2),
+        byte_at(s, at + 3),
+    )
+}
+
+// What stands at a place of a text: a character, nothing well-formed, or the end. Kept short, so that callers have it in line.
 pub fn decode(s: &[u8], at: usize) -> Decoded
     ensures { λ r. ⌜ r ≡ decodeFirst (drop at (now (s .entry))) ⌝ }
 {
@@ -147,12 +160,7 @@ pub fn decode(s: &[u8], at: usize) -> Decoded
             length: 1,
         };
     }
-    longer(
-        a,
-        byte_at(s, at + 1),
-        byte_at(s, at + 2),
-        byte_at(s, at + 3),
-    )
+    decode_longer(s, at)
 }
 
 // The length of the longest well-formed prefix of s: all of s exactly if s is well-formed.
@@ -165,7 +173,7 @@ pub fn well_formed_prefix(s: &[u8]) -> usize
         if s[at] < 0x80 {
             at += 1;
         } else {
-            let Decoded::Character { code: _, length } = decode(s, at) else {
+            let Decoded::Character { code: _, length } = decode_longer(s, at) else {
                 return at;
             };
             at += length;

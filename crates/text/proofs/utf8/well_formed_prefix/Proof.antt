@@ -31,27 +31,27 @@ loop-less c = omega arith
 loop-again : tie.Need-loop-again Inv-loop μ-loop
 loop-again c = (omega arith, prefix-turn _ _ _ _ _ (decode-ascii _ _ (c .before .before .loop-test .taken) (c .if1 .taken)) (c .before .before .before .loop .inv .1))
 
-decode-requires : tie.Need-decode-requires Inv-loop μ-loop
-decode-requires c κs = tt
+decode-longer-requires : tie.Need-decode-longer-requires Inv-loop μ-loop
+decode-longer-requires c κs = (c .before .before .loop-test .taken, c .if1 .left)
 
 enum-known-length : tie.Need-enum-known-length Inv-loop μ-loop
 enum-known-length c = c .match .keys1
 
 returns : tie.Need-returns Inv-loop μ-loop
-returns c = let e = prefix-none (drop (c .before .before .before .before .before .loop .at) (c .before .before .before .before .before .before .before .args .s .now)) (codes-stop _ _ (sym (c .before .decode .ensures)) (c .match .keys2)) in omega (arith, c .before .before .before .before .before .loop .inv .1, e)
+returns c = let e = prefix-none (drop (c .before .before .before .before .before .loop .at) (c .before .before .before .before .before .before .before .args .s .now)) (codes-stop _ _ (sym (c .before .decode-longer .ensures)) (c .match .keys2)) in omega (arith, c .before .before .before .before .before .loop .inv .1, e)
 
 add-at-2 : tie.Need-add-at-2 Inv-loop μ-loop
-add-at-2 c = let f = character-fits (c .before .before .before .before .before .before .before .before .before .args .s .now) (c .before .before .before .before .before .before .before .loop .at) _ _ (sym (c .before .before .before .decode .ensures) ∙ c .before .length .given .1) in omega arith
+add-at-2 c = let f = character-fits (c .before .before .before .before .before .before .before .before .before .args .s .now) (c .before .before .before .before .before .before .before .loop .at) _ _ (sym (c .before .before .before .decode-longer .ensures) ∙ c .before .length .given .1) in omega arith
 
 loop-less-2 : tie.Need-loop-less-2 Inv-loop μ-loop
 loop-less-2 c =
-    let f = character-fits (c .before .before .before .before .before .before .before .before .before .args .s .now) (c .before .before .before .before .before .before .before .loop .at) _ _ (sym (c .before .before .before .decode .ensures) ∙ c .before .length .given .1) in
-    let g = character-some (drop (c .before .before .before .before .before .before .before .loop .at) (c .before .before .before .before .before .before .before .before .before .args .s .now)) _ _ (sym (c .before .before .before .decode .ensures) ∙ c .before .length .given .1) in omega arith
+    let f = character-fits (c .before .before .before .before .before .before .before .before .before .args .s .now) (c .before .before .before .before .before .before .before .loop .at) _ _ (sym (c .before .before .before .decode-longer .ensures) ∙ c .before .length .given .1) in
+    let g = character-some (drop (c .before .before .before .before .before .before .before .loop .at) (c .before .before .before .before .before .before .before .before .before .args .s .now)) _ _ (sym (c .before .before .before .decode-longer .ensures) ∙ c .before .length .given .1) in omega arith
 
 loop-again-2 : tie.Need-loop-again-2 Inv-loop μ-loop
 loop-again-2 c =
-    let f = character-fits (c .before .before .before .before .before .before .before .before .before .args .s .now) (c .before .before .before .before .before .before .before .loop .at) _ _ (sym (c .before .before .before .decode .ensures) ∙ c .before .length .given .1) in
-    (f, prefix-turn _ _ _ _ _ (sym (c .before .before .before .decode .ensures) ∙ c .before .length .given .1) (c .before .before .before .before .before .before .before .loop .inv .1))
+    let f = character-fits (c .before .before .before .before .before .before .before .before .before .args .s .now) (c .before .before .before .before .before .before .before .loop .at) _ _ (sym (c .before .before .before .decode-longer .ensures) ∙ c .before .length .given .1) in
+    (f, prefix-turn _ _ _ _ _ (sym (c .before .before .before .decode-longer .ensures) ∙ c .before .length .given .1) (c .before .before .before .before .before .before .before .loop .inv .1))
 
 returns-2 : tie.Need-returns-2 Inv-loop μ-loop
 returns-2 c = let e = prefix-none (drop (c .before .loop .at) (c .before .before .before .args .s .now)) (codes-end _ _ (c .loop-test .left)) in omega (arith, c .before .loop .inv .1, e)
@@ -67,7 +67,7 @@ well-formed-prefix-spec =
     add-at
     loop-less
     loop-again
-    decode-requires
+    decode-longer-requires
     enum-known-length
     returns
     add-at-2

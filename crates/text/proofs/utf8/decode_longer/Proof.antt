@@ -1,0 +1,47 @@
+-- `text::utf8::decode_longer` meets its contract.
+use Rattle.text.proofs.Rows.{decode-at}
+use borrow.Author.Needs.{needs}
+use mathlib.Core.Path.{_∙_}
+use Rattle.text.proofs.utf8.decode_longer.Statement.{statement}
+use Rattle.text.proofs.utf8.decode_longer.Tie as tie
+
+shared-slice-read-longer : tie.Need-shared-slice-read-longer
+shared-slice-read-longer c = search needs
+
+add-byte-at : tie.Need-add-byte-at
+add-byte-at c = search needs
+
+byte-at-requires : tie.Need-byte-at-requires
+byte-at-requires c κs = search needs
+
+add-byte-at-2 : tie.Need-add-byte-at-2
+add-byte-at-2 c = search needs
+
+byte-at-requires-2 : tie.Need-byte-at-requires-2
+byte-at-requires-2 c κs = search needs
+
+add-byte-at-3 : tie.Need-add-byte-at-3
+add-byte-at-3 c = search needs
+
+byte-at-requires-3 : tie.Need-byte-at-requires-3
+byte-at-requires-3 c κs = search needs
+
+longer-requires : tie.Need-longer-requires
+longer-requires c κs = search needs
+
+returns : tie.Need-returns
+returns c = c .longer .ensures ∙ cc (decode-at (c .before .before .before .before .before .before .args .s .now) (c .before .before .before .before .before .before .args .at) (c .before .before .before .before .before .before .pre .0))
+
+pub decode-longer-spec : {M : Type 1} → statement M
+decode-longer-spec =
+    tie.close
+    (tie.spec
+    shared-slice-read-longer
+    add-byte-at
+    byte-at-requires
+    add-byte-at-2
+    byte-at-requires-2
+    add-byte-at-3
+    byte-at-requires-3
+    longer-requires
+    returns)
