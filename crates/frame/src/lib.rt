@@ -8,6 +8,7 @@ pub use framed::Framed;
 pub use framed::frame_size;
 pub use framed::read_frame;
 pub use framed::write_frame;
+pub use hex::unhex_into;
 pub use house::House;
 pub use house::Lined;
 pub use house::read_line;

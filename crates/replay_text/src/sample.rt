@@ -27,7 +27,7 @@ fn answer(s: &[u8], line: &mut [u8]) {
     line::write(line, end);
 }
 
-// Answers a line of digits. A text has at most 512 bytes: what is longer is cut, and shows in the answer.
+// Answers a line of digits. A text has at most 512 bytes: what is longer is read as none, and shows in the answer.
 fn answer_line(digits: &[u8]) {
     let mut text = [0u8; 512];
     let mut line = [0u8; 8192];

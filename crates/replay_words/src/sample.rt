@@ -13,7 +13,7 @@ fn answer(text: &[u8]) {
     line::write(&mut line, end);
 }
 
-// Answers a line of digits. A text has at most 1,100 bytes: what is longer is cut, and shows in the answer.
+// Answers a line of digits. A text has at most 1,100 bytes: what is longer is read as none, and shows in the answer.
 fn answer_line(digits: &[u8]) {
     let mut text = [0u8; 1100];
     let n = read_hex(digits, &mut text);
