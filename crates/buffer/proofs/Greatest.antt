@@ -1,9 +1,10 @@
 -- Laws of the greatest byte.
-use Prim.Native.Nat.{ℕ, zero, suc, _+_, _<_, _≤_, max}
-use mathlib.Core.Path.{_≡_}
+use Prim.Native.Nat.{ℕ, zero, suc, _+_, _-_, _<_, _≤_, max}
+use mathlib.Core.Path.{_≡_, sym, ap, _∙_}
 use mathlib.Core.List.{List, [], _∷_, _++_}
 use native.Mathlib.Omega.{arith}
-use lib.ListN.{length, drop, getD}
+use lib.ListN.{length, take, drop, getD, take-append-drop}
+use lib.Seq.{drop-nil, drop-drop}
 use Rattle.buffer.specs.Most.{greatest}
 use Rattle.buffer.proofs.Lists.{drop-step, drop-end}
 
@@ -28,3 +29,24 @@ unfolding greatest
 below-greatest [] i = omega arith
 below-greatest (x ∷ s) zero = omega arith
 below-greatest (x ∷ s) (suc i) = let h = below-greatest s i in omega arith
+
+-- what is left has no greater one
+greatest-drop : (s : List ℕ) (i : ℕ) → greatest (drop i s) ≤ greatest s
+unfolding greatest
+greatest-drop [] i = rw (drop-nil {A = ℕ} i) (omega arith)
+greatest-drop (x ∷ s) zero = omega arith
+greatest-drop (x ∷ s) (suc i) = let h = greatest-drop s i in omega arith
+
+-- a beginning and an end that together cover a list
+pub greatest-covered : (s : List ℕ) (i j : ℕ) → j ≤ i → max (greatest (take i s)) (greatest (drop j s)) ≡ greatest s
+greatest-covered s i j h =
+    let all : greatest s ≡ max (greatest (take i s)) (greatest (drop i s)) =
+    ap greatest (sym (take-append-drop i s)) ∙ greatest-append (take i s) (drop i s)
+    in
+    let sum : j + (i - j) ≡ i = omega arith in
+    let behind : greatest (drop (i - j) (drop j s)) ≡ greatest (drop i s) =
+    ap greatest (drop-drop (i - j) j s ∙ ap (λ (n : ℕ). drop n s) sum)
+    in
+    let k = greatest-drop (drop j s) (i - j) in
+    let l = greatest-drop s j in
+    omega arith

@@ -1,8 +1,8 @@
 -- Laws of the order by bytes, and of sameness.
 use Prim.Native.Nat.{ℕ, _+_, _<_, _≤_}
-use mathlib.Core.Path.{_≡_, refl, ap, _∙_}
+use mathlib.Core.Path.{_≡_, refl, sym, ap, _∙_}
 use mathlib.Core.Bool.{Bool, true, false, cond}
-use mathlib.Core.List.{List, [], _∷_}
+use mathlib.Core.List.{List, [], _∷_, _++_}
 use lib.Dec.{ltb, eqb}
 use lib.ListN.{length, drop, getD}
 use Rattle.buffer.specs.Compare.{order, sameBytes}
@@ -56,6 +56,21 @@ pub same-ends : (a b : List ℕ) (i : ℕ) → length a ≤ i → length b ≤ i
 unfolding sameBytes
 same-ends a b i ha hb = rw (drop-end a i, drop-end b i)
 
+-- a pass without an early exit: a turn, and the end
+pub same-turn : (a b : List ℕ) (i : ℕ) (t : Bool) → i < length a → i < length b
+    → cond (cond (eqb (getD a i 0) (getD b i 0)) t false) (sameBytes (drop (i + 1) a) (drop (i + 1) b)) false ≡ cond t (sameBytes (drop i a) (drop i b)) false
+unfolding sameBytes
+same-turn a b i t ha hb = rw (drop-step a i 0 ha, drop-step b i 0 hb) (by (eqb (getD a i 0) (getD b i 0)) t)
+  where
+    by : (u t : Bool) → cond (cond u t false) (sameBytes (drop (i + 1) a) (drop (i + 1) b)) false ≡ cond t (cond u (sameBytes (drop (i + 1) a) (drop (i + 1) b)) false) false
+    by true t = refl
+    by false true = refl
+    by false false = refl
+
+pub same-stop : (a b : List ℕ) (i : ℕ) (t : Bool) → length a ≤ i → length b ≤ i → cond t (sameBytes (drop i a) (drop i b)) false ≡ t
+same-stop a b i true ha hb = same-ends a b i ha hb
+same-stop a b i false ha hb = refl
+
 -- sameness is equality
 pub same-is : (a b : List ℕ) → sameBytes a b ≡ true → a ≡ b
 unfolding sameBytes
@@ -72,6 +87,35 @@ pub same-self : (a : List ℕ) → sameBytes a a ≡ true
 unfolding sameBytes
 same-self [] = refl
 same-self (x ∷ a) = then-is _ _ _ (eq-eqb x x refl) ∙ same-self a
+
+pub is-same : (a b : List ℕ) → a ≡ b → sameBytes a b ≡ true
+is-same a b e = sym (ap (sameBytes a) e) ∙ same-self a
+
+-- two parts each, the first ones of one length
+pub same-append : (x y a b : List ℕ) → length x ≡ length y → sameBytes (x ++ a) (y ++ b) ≡ cond (sameBytes x y) (sameBytes a b) false
+unfolding sameBytes
+same-append [] [] a b h = refl
+same-append [] (v ∷ y) a b h = absurd (omega arith)
+same-append (u ∷ x) [] a b h = absurd (omega arith)
+same-append (u ∷ x) (v ∷ y) a b h = by (eqb u v) (same-append x y a b (omega arith))
+  where
+    by : (t : Bool) → sameBytes (x ++ a) (y ++ b) ≡ cond (sameBytes x y) (sameBytes a b) false
+        → cond t (sameBytes (x ++ a) (y ++ b)) false ≡ cond (cond t (sameBytes x y) false) (sameBytes a b) false
+    by true k = k
+    by false k = refl
+
+pub same-behind : (x a b : List ℕ) → sameBytes (x ++ a) (x ++ b) ≡ sameBytes a b
+same-behind x a b = same-append x x a b refl ∙ then-is _ _ _ (same-self x)
+
+-- two pairs that are equal together
+pub same-as : (x y a b : List ℕ) → (x ≡ y → a ≡ b) → (a ≡ b → x ≡ y) → sameBytes x y ≡ sameBytes a b
+same-as x y a b f g = by (sameBytes x y) (sameBytes a b) refl refl
+  where
+    by : (t u : Bool) → sameBytes x y ≡ t → sameBytes a b ≡ u → t ≡ u
+    by true true p q = refl
+    by false false p q = refl
+    by true false p q = sym (is-same a b (f (same-is x y p))) ∙ q
+    by false true p q = sym p ∙ is-same x y (g (same-is a b q))
 
 -- lists of another length are not the same
 pub same-lengths : (a b : List ℕ) → (length a ≡ length b → ⊥) → sameBytes a b ≡ false

@@ -6,6 +6,7 @@ mod write;
 pub use order::Order;
 pub use order::compare;
 pub use order::same;
+pub use order::same_throughout;
 pub use scan::most;
 pub use write::copy;
 pub use write::push;

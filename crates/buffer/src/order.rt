@@ -1,5 +1,7 @@
 // Byte strings compared: their order by bytes, a prefix first, and whether they are the same.
 ghost use mathlib.Core.Path.{_≡_};
+ghost use mathlib.Core.Bool.{false, cond};
+ghost use lib.Dec.{eqb};
 ghost use Rattle.buffer.specs.Compare.{order, sameBytes};
 
 // How one byte string stands to another.
@@ -47,4 +49,27 @@ pub fn same(a: &[u8], b: &[u8]) -> bool
         i += 1;
     }
     true
+}
+
+// Whether two strings are still the same after one byte more of each.
+fn still_same(same: bool, x: u8, y: u8) -> bool
+    ensures { λ r. ⌜ r ≡ cond (eqb x y) same false ⌝ }
+{
+    if x == y { same } else { false }
+}
+
+// As `same`, for long strings: without an early exit, so that the backend can take many bytes at a time.
+pub fn same_throughout(a: &[u8], b: &[u8]) -> bool
+    ensures { λ r. ⌜ r ≡ sameBytes (now (a .entry)) (now (b .entry)) ⌝ }
+{
+    if a.len() != b.len() {
+        return false;
+    }
+    let mut same = true;
+    let mut i = 0;
+    while i < a.len() {
+        same = still_same(same, a[i], b[i]);
+        i += 1;
+    }
+    same
 }

@@ -1,50 +1,66 @@
--- `buffer::scan::most` meets its contract. The greatest byte so far and the greatest of what is left give the greatest of all.
-use Rattle.buffer.proofs.Greatest.{greatest-step, greatest-end}
-use Rattle.buffer.specs.Most.{greatest}
-use Prim.Native.Nat.{max, _≤_, _-_}
+-- `buffer::scan::most` meets its contract. The whole blocks and the last 32 bytes cover the part.
+use borrow.Author.Needs.{needs}
 use native.Mathlib.Omega.{arith}
-use mathlib.Core.Path.{_≡_, sym, _∙_}
-use lib.ListN.{length, drop}
+use Prim.Native.Nat.{ℕ, _-_, _*_, _/_, _≤_}
+use mathlib.Core.List.{List}
+use lib.ListN.{length}
+use mathlib.Core.Path.{sym, _∙_}
+use lib.Seq.{length-take-le}
+use Rattle.buffer.proofs.Lending.{rest-lent}
+use Rattle.buffer.proofs.Greatest.{greatest-covered}
 use Rattle.buffer.proofs.scan.most.Statement.{statement}
 use Rattle.buffer.proofs.scan.most.Tie as tie
 
-abbrev Inv-loop : tie.InvT-loop
-Inv-loop s top₀ i₀ top i = (i ≤ length s) × (max top (greatest (drop i s)) ≡ greatest s)
+pass-requires : tie.Need-pass-requires
+pass-requires c κs = search needs
 
-abbrev μ-loop : tie.MeasureT-loop
-μ-loop s top₀ i₀ top i = length s - i
+returns : tie.Need-returns
+returns c = search needs
 
-loop-holds : tie.Need-loop-holds Inv-loop μ-loop
-loop-holds c = (omega arith, omega arith)
+mul-whole : tie.Need-mul-whole
+mul-whole c = search needs
 
-shared-slice-read-greater : tie.Need-shared-slice-read-greater Inv-loop μ-loop
-shared-slice-read-greater c = omega arith
+slice-aggregate-pass : tie.Need-slice-aggregate-pass
+slice-aggregate-pass c = sym (length-take-le _ (c .before .before .before .args .s .now) (omega arith))
 
-greater-requires : tie.Need-greater-requires Inv-loop μ-loop
-greater-requires c κs = tt
+pass-requires-2 : tie.Need-pass-requires-2
+pass-requires-2 c κs = search needs
 
-add-i : tie.Need-add-i Inv-loop μ-loop
-add-i c = omega arith
+sub-pass : tie.Need-sub-pass
+sub-pass c = search needs
 
-loop-less : tie.Need-loop-less Inv-loop μ-loop
-loop-less c = omega arith
+part-pass-start : tie.Need-part-pass-start
+part-pass-start c = search needs
 
-loop-again : tie.Need-loop-again Inv-loop μ-loop
-loop-again c = (omega arith, rw (c .greater .ensures) (greatest-step _ _ _ (c .before .before .loop-test .taken) ∙ c .before .before .before .loop .inv .1))
+part-pass-end : tie.Need-part-pass-end
+part-pass-end c = search needs
 
-returns : tie.Need-returns Inv-loop μ-loop
-returns c = sym (greatest-end _ _ _ (c .loop-test .left)) ∙ c .before .loop .inv .1
+pass-requires-3 : tie.Need-pass-requires-3
+pass-requires-3 c κs = search needs
+
+greater-requires : tie.Need-greater-requires
+greater-requires c κs = search needs
+
+returns-2 : tie.Need-returns-2
+returns-2 c =
+    let s : List ℕ = c .before .before .before .before .before .before .before .args .s .now in
+    let k : length s - 32 ≤ length s / 32 * 32 = omega arith in
+    let l = rest-lent s (length s - 32) in
+    let m = greatest-covered s (length s / 32 * 32) (length s - 32) k in
+    c .greater .ensures ∙ cc (c .before .before .before .pass2 .ensures, c .before .pass3 .ensures)
 
 pub most-spec : {M : Type 1} → statement M
 most-spec =
     tie.close
     (tie.spec
-    Inv-loop
-    μ-loop
-    loop-holds
-    shared-slice-read-greater
+    pass-requires
+    returns
+    mul-whole
+    slice-aggregate-pass
+    pass-requires-2
+    sub-pass
+    part-pass-start
+    part-pass-end
+    pass-requires-3
     greater-requires
-    add-i
-    loop-less
-    loop-again
-    returns)
+    returns-2)

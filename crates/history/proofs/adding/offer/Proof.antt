@@ -1,0 +1,77 @@
+-- `history::adding::offer` meets its contract.
+use borrow.Author.Needs.{needs}
+use Rattle.history.proofs.States.{good-has, offered-old, offered-more, offered-full}
+use Rattle.buffer.specs.Write.{over, overAt}
+use Rattle.history.specs.Slots.{slot}
+use borrow.Author.Tests.{not-true, not-false}
+use native.Mathlib.Omega.{arith}
+use Prim.Native.Nat.{ℕ}
+use mathlib.Core.List.{List}
+use mathlib.Core.Path.{sym, ap, _∙_}
+use lib.ListN.{length, drop}
+use Rattle.history.proofs.adding.offer.Statement.{statement}
+use Rattle.history.proofs.adding.offer.Tie as tie
+
+is-new-requires : tie.Need-is-new-requires
+is-new-requires c κs = search needs
+
+same-length : tie.Need-same-length
+same-length c = search needs
+
+returns : tie.Need-returns
+returns c = offered-old (c .before .before .before .before .before .args .history) (c .before .before .before .before .before .args .slots .now) (c .before .before .before .before .before .args .text .now) (c .before .before .before .before .before .pre .0) (sym (c .before .is-new .ensures) ∙ not-true (c .before .is-new .result) (c .if1 .taken))
+
+mul-store : tie.Need-mul-store
+mul-store c = search needs
+
+store-requires : tie.Need-store-requires
+store-requires c κs =
+    let g = good-has (c .before .before .before .before .before .before .before .args .history .count) (c .before .before .before .before .before .before .before .args .history .place) (c .before .before .before .before .before .before .before .args .slots .now) (c .before .before .before .before .before .before .before .pre .0) in
+    let a = g .size in
+    (c .before .before .before .before .before .before .before .pre .1, omega arith)
+
+add-more : tie.Need-add-more
+add-more c = search needs
+
+same-length-2 : tie.Need-same-length-2
+same-length-2 c = search needs
+
+returns-2 : tie.Need-returns-2
+returns-2 c =
+    rw (c .before .before .store .ensures) (offered-more (c .before .before .before .before .before .before .before .before .before .before .args .history) (c .before .before .before .before .before .before .before .before .before .before .args .slots .now) (c .before .before .before .before .before .before .before .before .before .before .args .text .now) (c .before .before .before .before .before .before .before .before .before .before .pre .0) (sym (c .before .before .before .before .before .before .is-new .ensures) ∙ not-false (c .before .before .before .before .before .before .is-new .result) (c .before .before .before .before .before .if1 .left)) (c .before .before .before .before .if2 .taken) (c .before .before .before .before .before .before .before .before .before .before .pre .1))
+
+drop-oldest-requires : tie.Need-drop-oldest-requires
+drop-oldest-requires c κs =
+    let g = good-has (c .before .before .before .before .before .before .before .args .history .count) (c .before .before .before .before .before .before .before .args .history .place) (c .before .before .before .before .before .before .before .args .slots .now) (c .before .before .before .before .before .before .before .pre .0) in
+    let a = g .size in
+    omega arith
+
+store-requires-2 : tie.Need-store-requires-2
+store-requires-2 c κs =
+    let g = good-has (c .before .before .before .before .before .before .before .before .before .before .before .args .history .count) (c .before .before .before .before .before .before .before .before .before .before .before .args .history .place) (c .before .before .before .before .before .before .before .before .before .before .before .args .slots .now) (c .before .before .before .before .before .before .before .before .before .before .before .pre .0) in
+    let a = g .size in
+    (c .before .before .before .before .before .before .before .before .before .before .before .pre .1, omega arith)
+
+same-length-3 : tie.Need-same-length-3
+same-length-3 c = search needs
+
+returns-3 : tie.Need-returns-3
+returns-3 c =
+    rw (c .before .before .store2 .ensures, c .before .before .before .before .before .before .drop-oldest .ensures) (offered-full (c .before .before .before .before .before .before .before .before .before .before .before .before .before .before .args .history) (c .before .before .before .before .before .before .before .before .before .before .before .before .before .before .args .slots .now) (c .before .before .before .before .before .before .before .before .before .before .before .before .before .before .args .text .now) (c .before .before .before .before .before .before .before .before .before .before .before .before .before .before .pre .0) (sym (c .before .before .before .before .before .before .before .before .before .before .is-new .ensures) ∙ not-false (c .before .before .before .before .before .before .before .before .before .before .is-new .result) (c .before .before .before .before .before .before .before .before .before .if1 .left)) (c .before .before .before .before .before .before .before .before .if2 .left) (c .before .before .before .before .before .before .before .before .before .before .before .before .before .before .pre .1))
+
+pub offer-spec : {M : Type 1} → statement M
+offer-spec =
+    tie.close
+    (tie.spec
+    is-new-requires
+    same-length
+    returns
+    mul-store
+    store-requires
+    add-more
+    same-length-2
+    returns-2
+    drop-oldest-requires
+    store-requires-2
+    same-length-3
+    returns-3)

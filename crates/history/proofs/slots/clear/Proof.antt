@@ -1,0 +1,54 @@
+-- `history::slots::clear` meets its contract. The bytes from `at` up to i are zeros.
+use Rattle.history.specs.Slots.{zeros}
+use Rattle.history.proofs.Layouts.{clear-begin, clear-turn}
+use Rattle.buffer.specs.Write.{overAt}
+use native.Mathlib.Omega.{arith}
+use Prim.Native.Nat.{ℕ, _≤_, _-_}
+use mathlib.Core.Path.{_≡_, refl, ap, _∙_}
+use mathlib.Core.List.{List}
+use lib.ListN.{length, length-set}
+use Rattle.history.proofs.slots.clear.Statement.{statement}
+use Rattle.history.proofs.slots.clear.Tie as tie
+
+abbrev Inv-loop : tie.InvT-loop
+Inv-loop out₀ at end i₀ out i = (at ≤ i) × (i ≤ end) × (length out ≡ length out₀) × (out ≡ overAt (zeros (i - at)) out₀ at)
+
+abbrev μ-loop : tie.MeasureT-loop
+μ-loop out₀ at end i₀ out i = end - i
+
+loop-holds : tie.Need-loop-holds Inv-loop μ-loop
+loop-holds c = (omega arith, c .pre .0, refl, clear-begin _ _)
+
+slice-write-out : tie.Need-slice-write-out Inv-loop μ-loop
+slice-write-out c = omega (arith, c .before .before .pre .1)
+
+add-i : tie.Need-add-i Inv-loop μ-loop
+add-i c = omega arith
+
+loop-less : tie.Need-loop-less Inv-loop μ-loop
+loop-less c = omega arith
+
+loop-again : tie.Need-loop-again Inv-loop μ-loop
+loop-again c = (omega arith, omega arith, simp length-set (c .before .loop .inv .2), clear-turn (c .before .before .args .out .now) (c .before .loop .out) (c .before .before .args .at) (c .before .loop .i) (omega arith) (omega (arith, c .before .before .pre .1)) (c .before .loop .inv .3))
+
+same-length : tie.Need-same-length Inv-loop μ-loop
+same-length c = c .before .loop .inv .2
+
+returns : tie.Need-returns Inv-loop μ-loop
+returns c =
+    let e : c .before .loop .i ≡ c .before .before .args .end = omega arith in
+    c .before .loop .inv .3 ∙ ap (λ (n : ℕ). overAt (zeros (n - c .before .before .args .at)) (c .before .before .args .out .now) (c .before .before .args .at)) e
+
+pub clear-spec : {M : Type 1} → statement M
+clear-spec =
+    tie.close
+    (tie.spec
+    Inv-loop
+    μ-loop
+    loop-holds
+    slice-write-out
+    add-i
+    loop-less
+    loop-again
+    same-length
+    returns)

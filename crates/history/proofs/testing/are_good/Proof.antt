@@ -1,0 +1,82 @@
+-- `history::testing::are_good` meets its contract. The rest is good exactly if the whole is.
+use Rattle.history.proofs.Judging.{judged-begin, judged-bad, judged-repeated, judged-on, judged-end}
+use Rattle.history.specs.Steps.{slotBefore, judged}
+use borrow.Author.Tests.{not-true, not-false}
+use native.Mathlib.Omega.{arith}
+use Prim.Native.Nat.{_+_, _-_, _*_, _≤_}
+use mathlib.Core.List.{[]}
+use mathlib.Core.Path.{_≡_, refl, sym, ap, _∙_}
+use lib.ListN.{drop}
+use Rattle.history.proofs.testing.are_good.Statement.{statement}
+use Rattle.history.proofs.testing.are_good.Tie as tie
+
+abbrev Inv-loop : tie.InvT-loop
+Inv-loop slots count k₀ at₀ k at = (k ≤ count) × (at ≡ 256 * k) × (judged (slotBefore at slots) (count - k) (drop at slots) ≡ judged [] count slots)
+
+abbrev μ-loop : tie.MeasureT-loop
+μ-loop slots count k₀ at₀ k at = count - k
+
+loop-holds : tie.Need-loop-holds Inv-loop μ-loop
+loop-holds c = (omega arith, refl, judged-begin _ _)
+
+is-good-slot-requires : tie.Need-is-good-slot-requires Inv-loop μ-loop
+is-good-slot-requires c κs = omega (arith, c .before .before .before .pre)
+
+returns : tie.Need-returns Inv-loop μ-loop
+returns c = sym (judged-bad _ _ _ (omega arith) (sym (c .before .is-good-slot .ensures) ∙ not-true (c .before .is-good-slot .result) (c .if1 .taken))) ∙ c .before .before .before .loop .inv .2
+
+is-repeated-requires : tie.Need-is-repeated-requires Inv-loop μ-loop
+is-repeated-requires c κs = omega (arith, c .before .before .before .before .before .pre)
+
+returns-2 : tie.Need-returns-2 Inv-loop μ-loop
+returns-2 c = sym (judged-repeated _ _ _ (omega arith) (sym (c .before .before .before .is-good-slot .ensures) ∙ not-false (c .before .before .before .is-good-slot .result) (c .before .before .if1 .left)) (sym (c .before .is-repeated .ensures) ∙ c .if2 .taken)) ∙ c .before .before .before .before .before .loop .inv .2
+
+add-k : tie.Need-add-k Inv-loop μ-loop
+add-k c = omega arith
+
+add-at : tie.Need-add-at Inv-loop μ-loop
+add-at c = omega (arith, c .before .before .before .before .before .before .before .pre)
+
+loop-less : tie.Need-loop-less Inv-loop μ-loop
+loop-less c = omega arith
+
+loop-again : tie.Need-loop-again Inv-loop μ-loop
+loop-again c =
+    let less : c .before .before .before .before .before .before .before .args .count - (c .before .before .before .before .before .loop .k + 1) ≡ c .before .before .before .before .before .before .before .args .count - c .before .before .before .before .before .loop .k - 1 = omega arith in
+    (omega arith, omega arith, rw less (judged-on (c .before .before .before .before .before .before .before .args .slots .now) (c .before .before .before .before .before .loop .at) (c .before .before .before .before .before .before .before .args .count - c .before .before .before .before .before .loop .k) (omega arith) (sym (c .before .before .before .is-good-slot .ensures) ∙ not-false (c .before .before .before .is-good-slot .result) (c .before .before .if1 .left)) (sym (c .before .is-repeated .ensures) ∙ c .if2 .left) ∙ c .before .before .before .before .before .loop .inv .2))
+
+sub-most : tie.Need-sub-most Inv-loop μ-loop
+sub-most c = omega (arith, c .before .before .before .pre)
+
+part-most-start : tie.Need-part-most-start Inv-loop μ-loop
+part-most-start c = omega (arith, c .before .before .before .pre)
+
+part-most-end : tie.Need-part-most-end Inv-loop μ-loop
+part-most-end c = omega (arith, c .before .before .before .pre)
+
+most-requires : tie.Need-most-requires Inv-loop μ-loop
+most-requires c κs = tt
+
+returns-3 : tie.Need-returns-3 Inv-loop μ-loop
+returns-3 c = judged-end (c .before .before .before .before .before .args .slots .now) (c .before .before .before .loop .at) (c .before .before .before .before .before .args .count - c .before .before .before .loop .k) _ (omega arith) (c .most .ensures) ∙ c .before .before .before .loop .inv .2
+
+pub are-good-spec : {M : Type 1} → statement M
+are-good-spec =
+    tie.close
+    (tie.spec
+    Inv-loop
+    μ-loop
+    loop-holds
+    is-good-slot-requires
+    returns
+    is-repeated-requires
+    returns-2
+    add-k
+    add-at
+    loop-less
+    loop-again
+    sub-most
+    part-most-start
+    part-most-end
+    most-requires
+    returns-3)

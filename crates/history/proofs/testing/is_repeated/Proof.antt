@@ -1,0 +1,52 @@
+-- `history::testing::is_repeated` meets its contract.
+use borrow.Author.Needs.{needs}
+use Rattle.history.proofs.Judging.{before-first, slot-some, two-slots}
+use native.Mathlib.Omega.{arith}
+use mathlib.Core.Path.{sym, _∙_}
+use Rattle.history.proofs.testing.is_repeated.Statement.{statement}
+use Rattle.history.proofs.testing.is_repeated.Tie as tie
+
+returns : tie.Need-returns
+returns c = rw (before-first (c .before .before .args .slots .now) (c .before .before .args .at) (c .if1 .taken)) (sym (slot-some (c .before .before .args .slots .now) (c .before .before .args .at) (omega (arith, c .before .before .pre))))
+
+add-next : tie.Need-add-next
+add-next c = search needs
+
+sub-same-throughout : tie.Need-sub-same-throughout
+sub-same-throughout c = search needs
+
+part-same-throughout-start : tie.Need-part-same-throughout-start
+part-same-throughout-start c = search needs
+
+part-same-throughout-end : tie.Need-part-same-throughout-end
+part-same-throughout-end c = search needs
+
+sub-same-throughout-2 : tie.Need-sub-same-throughout-2
+sub-same-throughout-2 c = search needs
+
+part-same-throughout-start-2 : tie.Need-part-same-throughout-start-2
+part-same-throughout-start-2 c = search needs
+
+part-same-throughout-end-2 : tie.Need-part-same-throughout-end-2
+part-same-throughout-end-2 c = search needs
+
+same-throughout-requires : tie.Need-same-throughout-requires
+same-throughout-requires c κs = search needs
+
+returns-2 : tie.Need-returns-2
+returns-2 c = c .same-throughout .ensures ∙ two-slots (c .before .before .before .before .before .args .slots .now) (c .before .before .before .before .before .args .at) (c .before .before .before .if1 .left)
+
+pub is-repeated-spec : {M : Type 1} → statement M
+is-repeated-spec =
+    tie.close
+    (tie.spec
+    returns
+    add-next
+    sub-same-throughout
+    part-same-throughout-start
+    part-same-throughout-end
+    sub-same-throughout-2
+    part-same-throughout-start-2
+    part-same-throughout-end-2
+    same-throughout-requires
+    returns-2)

@@ -1,0 +1,42 @@
+-- `history::testing::is_usable` meets its contract.
+use borrow.Author.Needs.{needs}
+use Rattle.buffer.proofs.Choices.{then-is, else-is}
+use Rattle.text.proofs.Prefix.{ascii-well-formed, whole-is}
+use Rattle.history.specs.Entries.{usable, wellFormed}
+use borrow.Author.Tests.{eq-eqb}
+use mathlib.Core.Path.{sym, _∙_}
+use native.Mathlib.Omega.{arith}
+use Rattle.history.proofs.testing.is_usable.Statement.{statement}
+use Rattle.history.proofs.testing.is_usable.Tie as tie
+
+is-blank-requires : tie.Need-is-blank-requires
+is-blank-requires c κs = search needs
+
+returns : tie.Need-returns
+unfolding usable
+returns c = sym (then-is _ _ _ (sym (c .before .is-blank .ensures) ∙ c .if1 .taken))
+
+most-requires : tie.Need-most-requires
+most-requires c κs = search needs
+
+returns-2 : tie.Need-returns-2
+unfolding usable wellFormed
+returns-2 c = sym (else-is _ _ _ (sym (c .before .before .before .is-blank .ensures) ∙ c .before .before .if1 .left) ∙ eq-eqb _ _ (whole-is _ (ascii-well-formed (c .before .before .before .before .before .args .text .now) (omega (arith, c .before .most .ensures, c .if2 .taken)))))
+
+well-formed-prefix-requires : tie.Need-well-formed-prefix-requires
+well-formed-prefix-requires c κs = search needs
+
+returns-3 : tie.Need-returns-3
+unfolding usable wellFormed
+returns-3 c = sym (else-is _ _ _ (sym (c .before .before .before .before .is-blank .ensures) ∙ c .before .before .before .if1 .left) ∙ rw (c .well-formed-prefix .ensures))
+
+pub is-usable-spec : {M : Type 1} → statement M
+is-usable-spec =
+    tie.close
+    (tie.spec
+    is-blank-requires
+    returns
+    most-requires
+    returns-2
+    well-formed-prefix-requires
+    returns-3)

@@ -1,0 +1,43 @@
+-- History (01): at most 100 entries, here from oldest to newest, and a place from 0 to their count.
+use Prim.Native.Nat.{ℕ, pred}
+use mathlib.Core.Bool.{Bool, true, false, cond, not}
+use mathlib.Core.List.{List, [], _∷_, _++_}
+use lib.Dec.{ltb, eqb}
+use lib.ListN.{length, drop}
+use Rattle.buffer.specs.Compare.{sameBytes}
+use Rattle.text.specs.Decoding.{wellFormedLength}
+use Rattle.text.specs.Apart.{blank}
+
+-- how many entries a history has at most
+unfoldable pub mostEntries : ℕ
+mostEntries = 100
+
+-- the newest entry is this text
+unfoldable pub newestIs : List ℕ → List (List ℕ) → Bool
+newestIs text [] = false
+newestIs text (e ∷ []) = sameBytes e text
+newestIs text (e ∷ d ∷ es) = newestIs text (d ∷ es)
+
+-- a text that is added: it is non-blank and differs in bytes from the newest
+unfoldable pub isNew : List ℕ → List (List ℕ) → Bool
+isNew text es = cond (blank text) false (not (newestIs text es))
+
+-- without the oldest, if the history is full
+unfoldable pub withRoom : List (List ℕ) → List (List ℕ)
+withRoom es = cond (ltb (length es) mostEntries) es (drop 1 es)
+
+-- the entries after a text was offered; the place is then their count
+unfoldable pub added : List ℕ → List (List ℕ) → List (List ℕ)
+added text es = cond (isNew text es) (withRoom es ++ (text ∷ [])) es
+
+-- a well-formed text that is not blank
+unfoldable pub wellFormed : List ℕ → Bool
+wellFormed text = eqb (wellFormedLength text) (length text)
+
+unfoldable pub usable : List ℕ → Bool
+usable text = cond (blank text) false (wellFormed text)
+
+-- entries that follow another: each is usable and differs from the one before it. Before the first stands the empty text, which is blank.
+unfoldable pub sound : List ℕ → List (List ℕ) → Bool
+sound before [] = true
+sound before (e ∷ es) = cond (usable e) (cond (sameBytes before e) false (sound e es)) false

@@ -1,0 +1,72 @@
+-- The Rust's history (docs/src/src/shell/command/history.rs) as functions on values: a `Vec<String>` is a list of texts, a `String` its bytes.
+use Prim.Native.Nat.{ℕ, zero, suc, _+_, _-_}
+use mathlib.Core.Bool.{Bool, true, false, cond, not}
+use mathlib.Core.List.{List, [], _∷_, _++_}
+use mathlib.Core.Option.{Option, none, some}
+use lib.Dec.{ltb, leb}
+use lib.ListN.{length, drop, getElem?}
+use Rattle.buffer.specs.Compare.{sameBytes}
+use Rattle.text.specs.Apart.{trimmed}
+
+-- pub struct CommandHistory { history: Vec<String>, current_index: usize, max_size: usize }
+pub record CommandHistory : Type 0 where
+  pub history : List (List ℕ)
+  pub index : ℕ
+  pub size : ℕ
+
+-- CommandHistory::new
+abbrev pub new : ℕ → CommandHistory
+new size = record { history = []; index = 0; size = size }
+
+-- cmd.trim().is_empty()
+abbrev pub isEmpty : List ℕ → Bool
+isEmpty [] = true
+isEmpty (x ∷ s) = false
+
+-- self.history.last()
+unfoldable pub last : List (List ℕ) → Option (List ℕ)
+last [] = none
+last (e ∷ []) = some e
+last (e ∷ d ∷ es) = last (d ∷ es)
+
+-- .. != Some(&cmd)
+abbrev pub isSome : Option (List ℕ) → List ℕ → Bool
+isSome none cmd = false
+isSome (some e) cmd = sameBytes e cmd
+
+-- if self.history.len() >= self.max_size { self.history.remove(0); } self.history.push(cmd);
+unfoldable pub pushed : ℕ → List (List ℕ) → List ℕ → List (List ℕ)
+pushed size es cmd = cond (leb size (length es)) (drop 1 es) es ++ (cmd ∷ [])
+
+-- if !cmd.trim().is_empty() && self.history.last() != Some(&cmd) { .. }
+unfoldable pub kept : ℕ → List (List ℕ) → List ℕ → List (List ℕ)
+kept size es cmd = cond (not (isEmpty (trimmed cmd))) (cond (not (isSome (last es) cmd)) (pushed size es cmd) es) es
+
+-- pub fn add_command(&mut self, cmd: String): .. self.current_index = self.history.len();
+unfoldable pub addCommand : CommandHistory → List ℕ → CommandHistory
+addCommand h cmd =
+    record { history = kept (h .size) (h .history) cmd; index = length (kept (h .size) (h .history) cmd); size = h .size }
+
+-- what a step gives back: the history after it, and the text
+pub record Told : Type 0 where
+  pub after : CommandHistory
+  pub text : Option (List ℕ)
+
+abbrev pub at : CommandHistory → ℕ → CommandHistory
+at h i = record { history = h .history; index = i; size = h .size }
+
+-- pub fn previous(&mut self) -> Option<&String>
+unfoldable pub previous : CommandHistory → Told
+previous h =
+    cond (ltb 0 (h .index)) (record { after = at h (h .index - 1); text = getElem? (h .history) (h .index - 1) })
+    (record { after = h; text = none })
+
+-- pub fn next(&mut self) -> Option<&String>
+unfoldable pub next : CommandHistory → Told
+next h =
+    cond (ltb (h .index) (length (h .history)))
+    (record {
+      after = at h (h .index + 1);
+      text = cond (ltb (h .index + 1) (length (h .history))) (getElem? (h .history) (h .index + 1)) none;
+    })
+    (record { after = h; text = none })

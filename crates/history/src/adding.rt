@@ -1,0 +1,105 @@
+// Adding to a history: a text that is not blank and differs from the newest entry stands behind it; when full, the oldest goes.
+ghost use Prim.Native.Nat.{_+_, _*_, _≤_};
+ghost use mathlib.Core.Path.{_≡_};
+ghost use mathlib.Core.Bool.{true};
+ghost use lib.ListN.{length};
+ghost use Rattle.history.specs.Entries.{isNew};
+ghost use Rattle.history.specs.Slots.{good};
+ghost use Rattle.history.specs.Answer.{entriesIn, Offered, Addition};
+use super::past::History;
+use super::slots::drop_oldest;
+use super::slots::recall;
+use super::slots::store;
+use super::testing::is_good;
+use buffer::same;
+use text::is_blank;
+use text::well_formed_prefix;
+
+// What adding a text answers.
+pub enum Added {
+    // It was offered to the history.
+    Done,
+    // The state is bad.
+    BadState,
+    // The text has over 255 bytes: its length.
+    TooLong(usize),
+    // The text is ill-formed: the length of its longest well-formed prefix.
+    IllFormed(usize),
+}
+
+pub struct Adding {
+    pub history: History,
+    pub answer: Added,
+}
+
+// Whether a text is added: it is not blank and differs from the newest entry.
+fn is_new(history: History, slots: &[u8], text: &[u8]) -> bool
+    requires { ⌜ good (history .count) (history .place) (now slots) ≡ true ⌝ }
+    ensures { λ r. ⌜ r ≡ isNew (now (text .entry)) (entriesIn history (now (slots .entry))) ⌝ }
+{
+    if is_blank(text) {
+        return false;
+    }
+    if history.count == 0 {
+        return true;
+    }
+    !same(recall(slots, history.count - 1), text)
+}
+
+// Offers a text of at most 255 bytes to a good state.
+pub fn offer(history: History, slots: &mut [u8], text: &[u8]) -> History
+    requires { ⌜ good (history .count) (history .place) (now slots) ≡ true ⌝ }
+    requires { ⌜ length (now text) ≤ 255 ⌝ }
+    ensures { λ r. ⌜ Offered history (now (slots .entry)) (now (text .entry)) r (now (slots .exit)) ⌝ }
+{
+    let count = history.count;
+    if !is_new(history, slots, text) {
+        return History {
+            count,
+            place: count,
+        };
+    }
+    if count < 100 {
+        store(text, slots, 256 * count);
+        let more = count + 1;
+        return History {
+            count: more,
+            place: more,
+        };
+    }
+    drop_oldest(slots);
+    store(text, slots, 25344);
+    History {
+        count,
+        place: count,
+    }
+}
+
+// Adds a text to a history, as the Rust does: every add sets the place to the count.
+pub fn add_command(history: History, slots: &mut [u8], text: &[u8]) -> Adding
+    ensures { λ r. ⌜ Addition history (now (slots .entry)) (now (text .entry)) (r .history) (r .answer) (now (slots .exit)) ⌝ }
+{
+    if !is_good(history, slots) {
+        return Adding {
+            history,
+            answer: Added::BadState,
+        };
+    }
+    if 255 < text.len() {
+        return Adding {
+            history,
+            answer: Added::TooLong(text.len()),
+        };
+    }
+    let prefix = well_formed_prefix(text);
+    if prefix != text.len() {
+        return Adding {
+            history,
+            answer: Added::IllFormed(prefix),
+        };
+    }
+    Adding {
+        history: offer(history, slots, text),
+        answer: Added::Done,
+    }
+}

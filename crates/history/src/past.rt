@@ -1,0 +1,73 @@
+// A history by value: how many entries it has and the place among them, with the steps that the arrow keys take.
+ghost use mathlib.Core.Path.{_≡_};
+ghost use Rattle.history.specs.Steps.{back, onward};
+ghost use Rattle.history.specs.Answer.{atEnd};
+
+pub struct History {
+    pub count: usize,
+    pub place: usize,
+}
+
+// What a step through a history recalls.
+pub enum Recalled {
+    // The entry of that number, the oldest being 0.
+    Entry(usize),
+    Nothing,
+}
+
+// A history after a step, and what it recalls.
+pub struct Step {
+    pub history: History,
+    pub recalled: Recalled,
+}
+
+impl History {
+    // No entry.
+    pub fn fresh() -> History
+        ensures { λ r. ⌜ r ≡ atEnd 0 ⌝ }
+    {
+        History { count: 0, place: 0 }
+    }
+
+    // Up: a step back to an older entry.
+    pub fn previous(mut self) -> Step
+        ensures { λ r. ⌜ r ≡ back self ⌝ }
+    {
+        if self.place == 0 {
+            return Step {
+                history: self,
+                recalled: Recalled::Nothing,
+            };
+        }
+        self.place -= 1;
+        let place = self.place;
+        Step {
+            history: self,
+            recalled: Recalled::Entry(place),
+        }
+    }
+
+    // Down: a step on to a newer entry, or to the line that is being typed.
+    pub fn next(mut self) -> Step
+        ensures { λ r. ⌜ r ≡ onward self ⌝ }
+    {
+        if self.count <= self.place {
+            return Step {
+                history: self,
+                recalled: Recalled::Nothing,
+            };
+        }
+        self.place += 1;
+        let place = self.place;
+        if self.count <= place {
+            return Step {
+                history: self,
+                recalled: Recalled::Nothing,
+            };
+        }
+        Step {
+            history: self,
+            recalled: Recalled::Entry(place),
+        }
+    }
+}

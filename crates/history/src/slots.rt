@@ -1,0 +1,64 @@
+// The slots of 256 bytes: the entry in one, storing one, and moving all down by one.
+ghost use Prim.Native.Nat.{_+_, _-_, _≤_};
+ghost use mathlib.Core.Path.{_≡_};
+ghost use lib.ListN.{length, drop, getD};
+ghost use Rattle.buffer.specs.Write.{over, overAt};
+ghost use Rattle.history.specs.Slots.{zeros, slot, entryAt};
+use buffer::push;
+use buffer::push_byte;
+
+// The byte at a place, as a number to count with.
+pub fn wide(s: &[u8], at: usize) -> usize
+    requires { ⌜ at + 1 ≤ length (now s) ⌝ }
+    ensures { λ r. ⌜ (r ≡ getD (now (s .entry)) at 0) × (r ≤ 255) ⌝ }
+{
+    s[at] as usize
+}
+
+// The text of an entry, as a part of the slots; empty where they have no such slot.
+pub fn recall(slots: &[u8], number: usize) -> &[u8]
+    ensures { λ r. ⌜ now r ≡ entryAt number (now (slots .entry)) ⌝ }
+{
+    if slots.len() / 256 <= number {
+        return &slots[0..0];
+    }
+    let at = 256 * number;
+    let start = at + 1;
+    let end = start + wide(slots, at);
+    &slots[start..end]
+}
+
+// Writes zeros from a place up to another.
+fn clear(out: &mut [u8], at: usize, end: usize)
+    requires { ⌜ (at ≤ end) × (end ≤ length (now out)) ⌝ }
+    ensures { λ _. ⌜ now (out .exit) ≡ overAt (zeros (end - at)) (now (out .entry)) at ⌝ }
+{
+    let mut i = at;
+    while i < end {
+        out[i] = 0;
+        i += 1;
+    }
+}
+
+// Writes a text into the slot at a place: its length, its bytes, and zeros behind them.
+pub fn store(text: &[u8], slots: &mut [u8], at: usize)
+    requires { ⌜ (length (now text) ≤ 255) × (at + 256 ≤ length (now slots)) ⌝ }
+    ensures { λ _. ⌜ now (slots .exit) ≡ overAt (slot (now (text .entry))) (now (slots .entry)) at ⌝ }
+{
+    let start = push_byte(text.len() as u8, slots, at);
+    let end = push(text, slots, start);
+    clear(slots, end, at + 256);
+}
+
+// Moves every byte from the second slot on down by one slot. The last slot keeps what it held.
+pub fn drop_oldest(slots: &mut [u8])
+    requires { ⌜ 256 ≤ length (now slots) ⌝ }
+    ensures { λ _. ⌜ now (slots .exit) ≡ over (drop 256 (now (slots .entry))) (now (slots .entry)) ⌝ }
+{
+    let last = slots.len() - 256;
+    let mut i = 0;
+    while i < last {
+        slots[i] = slots[i + 256];
+        i += 1;
+    }
+}

@@ -1,0 +1,92 @@
+// The state test. Every key runs it, so it goes over the slots in passes without an early exit; only a text with a byte of 80 or more is read by character.
+ghost use Prim.Native.Nat.{_+_, _*_, _≤_};
+ghost use mathlib.Core.Path.{_≡_};
+ghost use mathlib.Core.List.{[]};
+ghost use lib.ListN.{length, take, drop};
+ghost use Rattle.buffer.specs.Compare.{sameBytes};
+ghost use Rattle.history.specs.Entries.{usable};
+ghost use Rattle.history.specs.Slots.{good};
+ghost use Rattle.history.specs.Steps.{goodSlot, slotBefore, judged};
+use super::past::History;
+use super::slots::wide;
+use buffer::most;
+use buffer::same_throughout;
+use text::is_blank;
+use text::well_formed_prefix;
+
+// Whether a text is well-formed and not blank.
+fn is_usable(text: &[u8]) -> bool
+    ensures { λ r. ⌜ r ≡ usable (now (text .entry)) ⌝ }
+{
+    if is_blank(text) {
+        return false;
+    }
+    if most(text) < 0x80 {
+        return true;
+    }
+    well_formed_prefix(text) == text.len()
+}
+
+// Whether the slot at a place holds a usable entry, with zeros behind it.
+fn is_good_slot(slots: &[u8], at: usize) -> bool
+    requires { ⌜ at + 256 ≤ length (now slots) ⌝ }
+    ensures { λ r. ⌜ r ≡ goodSlot (drop at (now (slots .entry))) ⌝ }
+{
+    let start = at + 1;
+    let end = start + wide(slots, at);
+    let next = at + 256;
+    if !is_usable(&slots[start..end]) {
+        return false;
+    }
+    most(&slots[end..next]) == 0
+}
+
+// Whether the slot at a place is the same as the one before it.
+fn is_repeated(slots: &[u8], at: usize) -> bool
+    requires { ⌜ at + 256 ≤ length (now slots) ⌝ }
+    ensures { λ r. ⌜ r ≡ sameBytes (slotBefore at (now (slots .entry))) (take 256 (drop at (now (slots .entry)))) ⌝ }
+{
+    if at < 256 {
+        return false;
+    }
+    let before = at - 256;
+    let next = at + 256;
+    same_throughout(&slots[before..at], &slots[at..next])
+}
+
+// Whether so many slots are good and no two neighbours the same, with zeros behind them.
+fn are_good(slots: &[u8], count: usize) -> bool
+    requires { ⌜ 256 * count ≤ length (now slots) ⌝ }
+    ensures { λ r. ⌜ r ≡ judged [] count (now (slots .entry)) ⌝ }
+{
+    let mut k = 0;
+    let mut at = 0;
+    while k < count {
+        if !is_good_slot(slots, at) {
+            return false;
+        }
+        if is_repeated(slots, at) {
+            return false;
+        }
+        k += 1;
+        at += 256;
+    }
+    most(&slots[at..]) == 0
+}
+
+// Whether a state is good.
+pub fn is_good(history: History, slots: &[u8]) -> bool
+    ensures { λ r. ⌜ r ≡ good (history .count) (history .place) (now (slots .entry)) ⌝ }
+{
+    let count = history.count;
+    if slots.len() != 25600 {
+        return false;
+    }
+    if 100 < count {
+        return false;
+    }
+    if count < history.place {
+        return false;
+    }
+    are_good(slots, count)
+}
