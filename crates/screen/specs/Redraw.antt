@@ -1,0 +1,50 @@
+-- What a redraw of the line writes (01, "The line editor"), and what `clear_line_and_redraw` answers and leaves.
+use Prim.Native.Nat.{ℕ, zero, suc, _-_, min}
+use mathlib.Core.Path.{_≡_}
+use mathlib.Core.Bool.{cond}
+use mathlib.Core.List.{List, [], _∷_, _++_}
+use lib.Dec.{ltb}
+use lib.ListN.{length}
+use Rattle.buffer.specs.Write.{over}
+use Rattle.screen.specs.Decimal.{decimal}
+use Rattle.screen.specs.declared.line.Redrawn.{Redrawn}
+use Rattle.screen.specs.declared.line.Redrawn.the-variants.{Shown, NoRoom}
+
+-- CR, then ESC `[2K`: the cursor goes to the left, and the line is cleared
+abbrev pub clearLine : List ℕ
+clearLine = 0x0D ∷ 0x1B ∷ 0x5B ∷ 0x32 ∷ 0x4B ∷ []
+
+-- ESC `[`nD: the cursor goes n places back; nothing for none
+unfoldable pub moveBack : ℕ → List ℕ
+moveBack zero = []
+moveBack (suc n) = 0x1B ∷ 0x5B ∷ (decimal (suc n) ++ (0x44 ∷ []))
+
+-- the bytes of a redraw; a cursor at the content's end or past it has nothing behind it
+unfoldable pub redraw : List ℕ → List ℕ → ℕ → List ℕ
+redraw prompt content cursor = clearLine ++ (prompt ++ (content ++ moveBack (length content - cursor)))
+
+-- the greatest number of 64 bits: a length needed that is above it is given as this one
+abbrev pub greatest : ℕ
+greatest = 0xFFFFFFFFFFFFFFFF
+
+-- the answer for n bytes and a buffer of `room` bytes
+unfoldable pub roomAnswer : ℕ → ℕ → Redrawn
+roomAnswer n room = cond (ltb room n) (NoRoom (min n greatest)) (Shown n)
+
+-- a refusal writes nothing; what is shown stands in the first bytes, and the rest stays
+abbrev pub leavesBy : Redrawn → List ℕ → List ℕ → List ℕ
+leavesBy (Shown n) bytes out = over bytes out
+leavesBy (NoRoom n) bytes out = out
+
+pub record Redraw (prompt content : List ℕ) (cursor : ℕ) (out : List ℕ) (r : Redrawn) (left : List ℕ) : Type 0 where
+  pub answer : r ≡ roomAnswer (length (redraw prompt content cursor)) (length out)
+  pub bytes : left ≡ leavesBy (roomAnswer (length (redraw prompt content cursor)) (length out)) (redraw prompt content cursor) out
+
+-- the refusal's number in 01 (0: none), and the value that goes with it
+abbrev pub number : Redrawn → ℕ
+number (Shown n) = 0
+number (NoRoom n) = 9
+
+abbrev pub value : Redrawn → ℕ
+value (Shown n) = n
+value (NoRoom n) = n
