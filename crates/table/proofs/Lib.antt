@@ -1,0 +1,9 @@
+-- The laws of the crate `table` that belong to no one function, and its worked examples.
+pub mod Maps
+pub mod Room
+pub mod Seeking
+pub mod Shifting
+pub mod Views
+pub mod Parts
+pub mod Putting
+mod Examples

@@ -1,0 +1,67 @@
+-- How a table holds a map: a number for each entry, in which the places of its key and its value are packed. A value lies in the words, a key in the
+-- words (a long form, as typed) or in the image (a name, for a short one).
+use Prim.Native.Nat.{ℕ, zero, suc, _+_, _*_, _/_, _%_}
+use mathlib.Core.List.{List, map}
+use lib.ListN.{length, take, drop, getD}
+use Rattle.table.specs.Map.{Map}
+use Rattle.table.specs.declared.packing.Source.{Source}
+use Rattle.table.specs.declared.packing.Source.the-variants.{Words, Image}
+use Rattle.table.specs.declared.sorted.Table.{Table}
+
+-- n bytes of a text from a place on
+abbrev pub partOf : List ℕ → ℕ → ℕ → List ℕ
+partOf s start n = take n (drop start s)
+
+-- the bit that says where a key lies
+abbrev pub bitOf : Source → ℕ
+bitOf Words = 0
+bitOf Image = 1
+
+abbrev pub sourceOf : List ℕ → List ℕ → Source → List ℕ
+sourceOf words image Words = words
+sourceOf words image Image = image
+
+-- 13 bits for each number of the value's place, 16 for each of the key's, and above them that bit
+unfoldable pub packed : ℕ → ℕ → ℕ → ℕ → ℕ → ℕ
+packed bit key keyLength value valueLength =
+    (((bit * 0x10000 + key) * 0x10000 + keyLength) * 0x2000 + value) * 0x2000 + valueLength
+
+abbrev pub valueLength : ℕ → ℕ
+valueLength e = e % 0x2000
+
+abbrev pub valueStart : ℕ → ℕ
+valueStart e = e / 0x2000 % 0x2000
+
+abbrev pub keyLength : ℕ → ℕ
+keyLength e = e / 0x2000 / 0x2000 % 0x10000
+
+abbrev pub keyStart : ℕ → ℕ
+keyStart e = e / 0x2000 / 0x2000 / 0x10000 % 0x10000
+
+abbrev pub keyBit : ℕ → ℕ
+keyBit e = e / 0x2000 / 0x2000 / 0x10000 / 0x10000
+
+-- the slice that the key lies in
+abbrev pub keySlice : List ℕ → List ℕ → ℕ → List ℕ
+keySlice words image zero = words
+keySlice words image (suc n) = image
+
+unfoldable pub keyOf : List ℕ → List ℕ → ℕ → List ℕ
+keyOf words image e = partOf (keySlice words image (keyBit e)) (keyStart e) (keyLength e)
+
+unfoldable pub valueOf : List ℕ → ℕ → List ℕ
+valueOf words e = partOf words (valueStart e) (valueLength e)
+
+-- the map that the first n numbers of a table hold
+unfoldable pub entries : List ℕ → List ℕ → ℕ → List ℕ → Map
+entries words image n table = map (λ e. (keyOf words image e, valueOf words e)) (take n table)
+
+unfoldable pub mapOf : List ℕ → List ℕ → Table → Map
+mapOf words image table = entries words image (table .count) (table .at)
+
+-- how many keys that are, and the number at a place
+unfoldable pub sizeOf : Table → ℕ
+sizeOf table = length (take (table .count) (table .at))
+
+unfoldable pub entryAt : Table → ℕ → ℕ
+entryAt table i = getD (table .at) i 0
