@@ -1,8 +1,8 @@
 -- `table::Table::put` meets its contract: one law for each way out.
-use Rattle.table.proofs.Putting.{found-at, here-below, here-put, gap-low, gap-put, gap-full}
-use Rattle.table.proofs.Views.{whole}
 use borrow.Author.Needs.{needs}
 use native.Mathlib.Omega.{arith}
+use Rattle.table.proofs.Putting.{found-at, here-below, here-put, gap-low, gap-put, gap-full}
+use Rattle.table.proofs.Views.{whole}
 use Rattle.table.proofs.sorted.Table.put.Statement.{statement}
 use Rattle.table.proofs.sorted.Table.put.Tie as tie
 
@@ -37,14 +37,14 @@ open-at-requires c κs =
     let a = c .before .before .before .before .before .before .before .before .args in
     let l = whole (a .t1 .at) (c .before .before .before .before .before .before .before .before .good .0 .1 .1 .1 .0 .1 .0 .1) in
     let f = found-at (a .words .now) (a .image .now) (a .t1) _ _ _ _ (c .before .before .before .before .before .key .ensures) (c .before .before .before .before .seek .ensures) (c .before .before .i2 .given .1) in
-    let h = gap-low (a .words .now) (a .image .now) (a .t1) l (a .e) _ f in (omega arith, c .if1 .taken)
+    let h = gap-low (a .words .now) (a .image .now) (a .t1) l (a .e) _ f in (omega arith, omega arith)
 
 returns : tie.Need-returns
 returns c =
     let a = c .before .before .before .before .before .before .before .before .before .args in
     let l = whole (a .t1 .at) (c .before .before .before .before .before .before .before .before .before .good .0 .1 .1 .1 .0 .1 .0 .1) in
     let f = found-at (a .words .now) (a .image .now) (a .t1) _ _ _ _ (c .before .before .before .before .before .before .key .ensures) (c .before .before .before .before .before .seek .ensures) (c .before .before .before .i2 .given .1) in
-    gap-put (a .words .now) (a .image .now) (a .t1) l (a .e) _ f (c .before .if1 .taken) _ (c .open-at .ensures .0) (c .open-at .ensures .1)
+    gap-put (a .words .now) (a .image .now) (a .t1) l (a .e) _ f (omega arith) _ (c .open-at .ensures .0) (c .open-at .ensures .1)
 
 returns-2 : tie.Need-returns-2
 returns-2 c =
@@ -58,7 +58,7 @@ returns-3 c =
     let a = c .before .before .before .before .before .before .before .before .args in
     let l = whole (a .t1 .at) (c .before .before .before .before .before .before .before .before .good .0 .1 .1 .1 .0 .1 .0 .1) in
     let f = found-at (a .words .now) (a .image .now) (a .t1) _ _ _ _ (c .before .before .before .before .before .key .ensures) (c .before .before .before .before .seek .ensures) (c .before .before .i2 .given .1) in
-    gap-full (a .words .now) (a .image .now) (a .t1) l (a .e) _ f (c .if1 .left)
+    gap-full (a .words .now) (a .image .now) (a .t1) l (a .e) _ f (omega arith)
 
 pub put-spec : {M : Type 1} → statement M
 put-spec =
