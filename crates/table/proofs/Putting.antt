@@ -10,7 +10,7 @@ use borrow.Author.Tests.{lt-ltb, le-ltb}
 use Rattle.buffer.proofs.Choices.{then-is, else-is}
 use Rattle.table.specs.Map.{Map, put, Rising, putWithin}
 use Rattle.table.specs.Seek.{seekFrom, opened}
-use Rattle.table.specs.Held.{keyOf, valueOf, entries, mapOf}
+use Rattle.table.specs.Held.{keyOf, valueOf, entries, mapOf, capacity}
 use Rattle.table.specs.declared.sorted.Table.{Table}
 use Rattle.table.specs.declared.sorted.Spot.{Spot}
 use Rattle.table.specs.declared.sorted.Spot.the-variants.{Here, Gap}
@@ -53,10 +53,10 @@ module _ (words image : List ℕ) (t : Table) (l : length (t .at) ≡ 64) (e j :
     pub here-below : j < min (t .count) 64
     here-below = let p = replaced in let w = p .within in let d = p .place in let n = map-size words image t ∙ size-is t l in omega arith
 
-    pub here-put : mapOf words image (record { count = t .count; at = set (t .at) j e })
-        ≡ putWithin 64 (keyOf words image e) (valueOf words e) (mapOf words image t)
+    pub here-put : (r : Table) → r .count ≡ t .count → r .at ≡ set (t .at) j e
+        → mapOf words image r ≡ putWithin capacity (keyOf words image e) (valueOf words e) (mapOf words image t)
     unfolding mapOf
-    here-put =
+    here-put r c b =
         let m : Map = mapOf words image t in
         let k : List ℕ = keyOf words image e in
         let v : List ℕ = valueOf words e in
@@ -66,7 +66,11 @@ module _ (words image : List ℕ) (t : Table) (l : length (t .at) ≡ 64) (e j :
         let n = map-size words image t ∙ size-is t l in
         let size : length (put k v m) ≡ length m = ap length same ∙ length-set m j (k, v) in
         let h = here-below in
-        entries-set words image (t .count) (t .at) j e (omega arith) ∙ sym same ∙ sym (within-room 64 k v m (omega arith))
+        ap (λ (i : ℕ). entries words image i (r .at)) c
+        ∙ ap (entries words image (t .count)) b
+        ∙ entries-set words image (t .count) (t .at) j e (omega arith)
+        ∙ sym same
+        ∙ sym (within-room capacity k v m (omega arith))
 
   module _ (found : seekFrom 0 (keyOf words image e) (mapOf words image t) ≡ Gap j) where
     gap : Opened (keyOf words image e) (valueOf words e) (mapOf words image t) 0 j
@@ -88,14 +92,14 @@ module _ (words image : List ℕ) (t : Table) (l : length (t .at) ≡ 64) (e j :
         ap length same ∙ length-opened j (keyOf words image e, valueOf words e) (mapOf words image t) (omega arith) ∙ ap (λ (i : ℕ). i + 1) n
 
     pub gap-put : t .count < 64 → (r : Table) → r .count ≡ t .count + 1 → take (t .count + 1) (r .at) ≡ opened j e (take (t .count) (t .at))
-        → mapOf words image r ≡ putWithin 64 (keyOf words image e) (valueOf words e) (mapOf words image t)
+        → mapOf words image r ≡ putWithin capacity (keyOf words image e) (valueOf words e) (mapOf words image t)
     unfolding mapOf
     gap-put h r n b =
         let s = size in
         ap (λ (i : ℕ). entries words image i (r .at)) n
         ∙ entries-opened words image (t .count) (t .count + 1) (t .at) (r .at) j e b
         ∙ sym same
-        ∙ sym (within-room 64 (keyOf words image e) (valueOf words e) (mapOf words image t) (omega arith))
+        ∙ sym (within-room capacity (keyOf words image e) (valueOf words e) (mapOf words image t) (omega arith))
 
-    pub gap-full : 64 ≤ t .count → mapOf words image t ≡ putWithin 64 (keyOf words image e) (valueOf words e) (mapOf words image t)
-    gap-full h = let s = size in sym (within-full 64 (keyOf words image e) (valueOf words e) (mapOf words image t) (omega arith))
+    pub gap-full : 64 ≤ t .count → mapOf words image t ≡ putWithin capacity (keyOf words image e) (valueOf words e) (mapOf words image t)
+    gap-full h = let s = size in sym (within-full capacity (keyOf words image e) (valueOf words e) (mapOf words image t) (omega arith))

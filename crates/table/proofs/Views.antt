@@ -13,7 +13,7 @@ use Rattle.buffer.proofs.Lists.{drop-step, drop-end}
 use Rattle.buffer.proofs.Choices.{then-is, else-is}
 use Rattle.table.specs.Map.{onOrder, has}
 use Rattle.table.specs.Seek.{seekFrom, opened}
-use Rattle.table.specs.Held.{keyOf, valueOf, entries, mapOf, sizeOf, entryAt}
+use Rattle.table.specs.Held.{keyOf, valueOf, entries, mapOf, sizeOf}
 use Rattle.table.specs.declared.sorted.Table.{Table}
 use Rattle.table.specs.declared.sorted.Spot.the-variants.{Here, Gap}
 
@@ -73,8 +73,8 @@ module _ (words image : List ℕ) where
     unfolding mapOf sizeOf entries
     map-size = length-map (take (t .count) (t .at)) pair
 
-    pub at-place : (i : ℕ) → i < sizeOf t → drop i (mapOf words image t) ≡ pair (entryAt t i) ∷ drop (i + 1) (mapOf words image t)
-    unfolding mapOf sizeOf entryAt
+    pub at-place : (i : ℕ) → i < sizeOf t → drop i (mapOf words image t) ≡ pair (getD (t .at) i 0) ∷ drop (i + 1) (mapOf words image t)
+    unfolding mapOf sizeOf
     at-place i h =
         let size = map-size in
         let cut = length-take (t .count) (t .at) in
@@ -94,22 +94,19 @@ module _ (words image : List ℕ) where
       unfolding seekFrom
       seek-end h = ap (seekFrom i k) (at-end i h)
 
-      module _ (e : ℕ) (h : i < sizeOf t) (q : e ≡ entryAt t i) (p : x ≡ keyOf words image e) where
-        lent : keyOf words image (entryAt t i) ≡ x
-        lent = ap (keyOf words image) (sym q) ∙ sym p
-
+      module _ (h : i < sizeOf t) (p : x ≡ keyOf words image (getD (t .at) i 0)) where
         pub has-here : sameBytes k x ≡ true → has k (drop i (mapOf words image t)) ≡ true
         unfolding has
-        has-here s = ap (has k) (at-place i h) ∙ then-is _ _ _ (ap (sameBytes k) lent ∙ s)
+        has-here s = ap (has k) (at-place i h) ∙ then-is _ _ _ (ap (sameBytes k) (sym p) ∙ s)
 
         pub has-on : sameBytes k x ≡ false → has k (drop i (mapOf words image t)) ≡ has k (drop (i + 1) (mapOf words image t))
         unfolding has
-        has-on s = ap (has k) (at-place i h) ∙ else-is _ _ _ (ap (sameBytes k) lent ∙ s)
+        has-on s = ap (has k) (at-place i h) ∙ else-is _ _ _ (ap (sameBytes k) (sym p) ∙ s)
 
         pub seek-turn : (o : Order) → order k x ≡ o
             → seekFrom i k (drop i (mapOf words image t)) ≡ onOrder o (Gap i) (Here i) (seekFrom (i + 1) k (drop (i + 1) (mapOf words image t)))
         unfolding seekFrom
         seek-turn o s =
             ap (seekFrom i k) (at-place i h)
-            ∙ ap (λ (q : Order). onOrder q (Gap i) (Here i) (seekFrom (suc i) k (drop (i + 1) (mapOf words image t)))) (ap (order k) lent ∙ s)
+            ∙ ap (λ (q : Order). onOrder q (Gap i) (Here i) (seekFrom (suc i) k (drop (i + 1) (mapOf words image t)))) (ap (order k) (sym p) ∙ s)
             ∙ ap (λ (n : ℕ). onOrder o (Gap i) (Here i) (seekFrom n k (drop (i + 1) (mapOf words image t)))) (sym (add-one i))

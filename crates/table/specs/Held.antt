@@ -2,8 +2,8 @@
 -- words (a long form, as typed) or in the image (a name, for a short one).
 use Prim.Native.Nat.{ℕ, zero, suc, _+_, _*_, _/_, _%_}
 use mathlib.Core.List.{List, map}
-use lib.ListN.{length, take, drop, getD}
-use Rattle.table.specs.Map.{Map}
+use lib.ListN.{length, take, drop}
+use Rattle.table.specs.Map.{Map, putWithin}
 use Rattle.table.specs.declared.packing.Source.{Source}
 use Rattle.table.specs.declared.packing.Source.the-variants.{Words, Image}
 use Rattle.table.specs.declared.sorted.Table.{Table}
@@ -59,9 +59,14 @@ entries words image n table = map (λ e. (keyOf words image e, valueOf words e))
 unfoldable pub mapOf : List ℕ → List ℕ → Table → Map
 mapOf words image table = entries words image (table .count) (table .at)
 
--- how many keys that are, and the number at a place
+-- how many keys that are
 unfoldable pub sizeOf : Table → ℕ
 sizeOf table = length (take (table .count) (table .at))
 
-unfoldable pub entryAt : Table → ℕ → ℕ
-entryAt table i = getD (table .at) i 0
+-- how many keys have room: names and longs of 32 options, or of 32 flags
+abbrev pub capacity : ℕ
+capacity = 64
+
+-- the map of a table in which the key and the value of an entry are put
+abbrev pub putEntry : List ℕ → List ℕ → ℕ → Table → Map
+putEntry words image e table = putWithin capacity (keyOf words image e) (valueOf words e) (mapOf words image table)

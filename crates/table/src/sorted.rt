@@ -6,15 +6,18 @@ use buffer::same;
 ghost use mathlib.Core.Path.{_≡_};
 ghost use mathlib.Core.List.{List, []};
 ghost use Prim.Native.Nat.{ℕ, _+_, _≤_, _<_};
-ghost use lib.ListN.{take};
-ghost use Rattle.table.specs.Map.{has, putWithin};
+ghost use lib.ListN.{take, set};
+ghost use Rattle.table.specs.Map.{has};
 ghost use Rattle.table.specs.Seek.{seekFrom, opened};
-ghost use Rattle.table.specs.Held.{keyOf, valueOf, mapOf, sizeOf, entryAt};
+ghost use Rattle.table.specs.Held.{mapOf, sizeOf, capacity, putEntry};
 
-// Room for 64 keys: a node has at most 32 options, and 32 flags, each with a name and a long.
+// How many keys have room: a node has at most 32 options, and 32 flags, each with a name and a long.
+const CAPACITY: usize = 64;
+
+// The entries stand in the order of their keys.
 pub struct Table {
-    count: usize,
-    at: [usize; 64],
+    pub count: usize,
+    pub at: [usize; CAPACITY],
 }
 
 // Where a key is: at a place, or missing there.
@@ -30,22 +33,19 @@ impl Table {
     {
         Self {
             count: 0,
-            at: [0usize; 64],
+            at: [0usize; CAPACITY],
         }
     }
 
     // How many keys there are.
     pub fn size(self) -> usize
-        ensures { λ r. ⌜ r ≡ sizeOf self ⌝ }
+        ensures { λ r. ⌜ (r ≡ sizeOf self) × (r ≤ capacity) ⌝ }
     {
-        if self.count < 64 { self.count } else { 64 }
-    }
-
-    // The entry at a place, from 0 on in the order of the keys.
-    pub fn entry_at(self, i: usize) -> usize
-        ensures { λ r. ⌜ r ≡ entryAt self i ⌝ }
-    {
-        if i < 64 { self.at[i] } else { 0 }
+        if self.count < CAPACITY {
+            self.count
+        } else {
+            CAPACITY
+        }
     }
 
     // Whether the key is there.
@@ -55,7 +55,7 @@ impl Table {
         let n = self.size();
         let mut i = 0;
         while i < n {
-            let e = self.entry_at(i);
+            let e = self.at[i];
             if same(wanted, key(words, image, e)) {
                 return true;
             }
@@ -71,7 +71,7 @@ impl Table {
         let n = self.size();
         let mut i = 0;
         while i < n {
-            let e = self.entry_at(i);
+            let e = self.at[i];
             match compare(wanted, key(words, image, e)) {
                 Order::Less => return Spot::Gap(i),
                 Order::Equal => return Spot::Here(i),
@@ -83,9 +83,18 @@ impl Table {
         Spot::Gap(i)
     }
 
+    // The entry stored at a place, over the one that is there.
+    fn store_at(mut self, place: usize, e: usize) -> Self
+        requires { ⌜ place < capacity ⌝ }
+        ensures { λ r. ⌜ (r .count ≡ self .count) × (r .at ≡ set (self .at) place e) ⌝ }
+    {
+        self.at[place] = e;
+        self
+    }
+
     // The entry stored at a place, and those from there on one place further.
     fn open_at(mut self, place: usize, e: usize) -> Self
-        requires { ⌜ (place ≤ self .count) × (self .count < 64) ⌝ }
+        requires { ⌜ (place ≤ self .count) × (self .count < capacity) ⌝ }
         ensures { λ r. ⌜ (r .count ≡ self .count + 1) × (take (self .count + 1) (r .at) ≡ opened place e (take (self .count) (self .at))) ⌝ }
     {
         let n = self.count;
@@ -101,17 +110,15 @@ impl Table {
         self
     }
 
-    // BTreeMap::insert: the entry under its key, a later value in the place of an earlier one. A new key that finds the table full is not stored.
-    pub fn put<'a>(mut self, words: &'a [u8], image: &'a [u8], e: usize) -> Self
-        ensures { λ r. ⌜ mapOf (now (words .entry)) (now (image .entry)) r ≡ putWithin 64 (keyOf (now (words .entry)) (now (image .entry)) e) (valueOf (now (words .entry)) e) (mapOf (now (words .entry)) (now (image .entry)) self) ⌝ }
+    // BTreeMap::insert: the entry under its key, a later value in the place of an earlier one. A new key that finds the table full is not stored;
+    // the names and longs of one node always find room (law `put-fits`).
+    pub fn put<'a>(self, words: &'a [u8], image: &'a [u8], e: usize) -> Self
+        ensures { λ r. ⌜ mapOf (now (words .entry)) (now (image .entry)) r ≡ putEntry (now (words .entry)) (now (image .entry)) e self ⌝ }
     {
         match self.seek(words, image, key(words, image, e)) {
-            Spot::Here(i) => {
-                self.at[i] = e;
-                self
-            }
+            Spot::Here(i) => self.store_at(i, e),
             Spot::Gap(i) => {
-                if self.count < 64 {
+                if self.count < CAPACITY {
                     return self.open_at(i, e);
                 }
                 self

@@ -12,10 +12,10 @@ use Rattle.table.proofs.sorted.Table.has.Statement.{statement}
 use Rattle.table.proofs.sorted.Table.has.Tie as tie
 
 abbrev Inv-loop : tie.InvT-loop
-Inv-loop self words image wanted n i₀ i = (i ≤ n) × (has wanted (drop i (mapOf words image self)) ≡ has wanted (mapOf words image self))
+Inv-loop words image wanted self n i₀ i = (i ≤ n) × (has wanted (drop i (mapOf words image self)) ≡ has wanted (mapOf words image self))
 
 abbrev μ-loop : tie.MeasureT-loop
-μ-loop self words image wanted n i₀ i = n - i
+μ-loop words image wanted self n i₀ i = n - i
 
 size-requires : tie.Need-size-requires Inv-loop μ-loop
 size-requires c κs = search needs
@@ -23,8 +23,11 @@ size-requires c κs = search needs
 loop-holds : tie.Need-loop-holds Inv-loop μ-loop
 loop-holds c = (omega arith, refl)
 
-entry-at-requires : tie.Need-entry-at-requires Inv-loop μ-loop
-entry-at-requires c κs = search needs
+mul-e : tie.Need-mul-e Inv-loop μ-loop
+mul-e c = search needs
+
+element-copy-out-e : tie.Need-element-copy-out-e Inv-loop μ-loop
+element-copy-out-e c = search needs
 
 key-requires : tie.Need-key-requires Inv-loop μ-loop
 key-requires c κs = search needs
@@ -35,8 +38,8 @@ same-requires c κs = search needs
 returns : tie.Need-returns Inv-loop μ-loop
 returns c =
     let a = c .before .before .before .before .before .before .before .before .before .before .args in
-    let h : c .before .before .before .before .before .loop .i < sizeOf (a .self) = omega arith in
-    sym (has-here (a .words .now) (a .image .now) (a .self) (a .wanted .now) _ _ _ h (c .before .before .before .entry-at .ensures) (c .before .before .key .ensures) (sym (c .before .same .ensures) ∙ c .if1 .taken)) ∙ c .before .before .before .before .before .loop .inv .1
+    let h : c .before .before .before .before .before .loop .i < sizeOf (a .t1) = omega arith in
+    sym (has-here (a .words .now) (a .image .now) (a .t1) (a .wanted .now) _ _ h (c .before .before .key .ensures) (sym (c .before .same .ensures) ∙ c .if1 .taken)) ∙ c .before .before .before .before .before .loop .inv .1
 
 add-i : tie.Need-add-i Inv-loop μ-loop
 add-i c = search needs
@@ -47,14 +50,14 @@ loop-less c = search needs
 loop-again : tie.Need-loop-again Inv-loop μ-loop
 loop-again c =
     let a = c .before .before .before .before .before .before .before .before .before .before .args in
-    let h : c .before .before .before .before .before .loop .i < sizeOf (a .self) = omega arith in
-    (omega arith, sym (has-on (a .words .now) (a .image .now) (a .self) (a .wanted .now) _ _ _ h (c .before .before .before .entry-at .ensures) (c .before .before .key .ensures) (sym (c .before .same .ensures) ∙ c .if1 .left)) ∙ c .before .before .before .before .before .loop .inv .1)
+    let h : c .before .before .before .before .before .loop .i < sizeOf (a .t1) = omega arith in
+    (omega arith, sym (has-on (a .words .now) (a .image .now) (a .t1) (a .wanted .now) _ _ h (c .before .before .key .ensures) (sym (c .before .same .ensures) ∙ c .if1 .left)) ∙ c .before .before .before .before .before .loop .inv .1)
 
 returns-2 : tie.Need-returns-2 Inv-loop μ-loop
 returns-2 c =
     let a = c .before .before .before .before .before .before .args in
-    let h : sizeOf (a .self) ≤ c .before .loop .i = omega arith in
-    sym (has-end (a .words .now) (a .image .now) (a .self) (a .wanted .now) [] _ h) ∙ c .before .loop .inv .1
+    let h : sizeOf (a .t1) ≤ c .before .loop .i = omega arith in
+    sym (has-end (a .words .now) (a .image .now) (a .t1) (a .wanted .now) [] _ h) ∙ c .before .loop .inv .1
 
 pub has-spec : {M : Type 1} → statement M
 has-spec =
@@ -64,7 +67,8 @@ has-spec =
     μ-loop
     size-requires
     loop-holds
-    entry-at-requires
+    mul-e
+    element-copy-out-e
     key-requires
     same-requires
     returns

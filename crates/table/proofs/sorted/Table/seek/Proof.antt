@@ -12,10 +12,10 @@ use Rattle.table.proofs.sorted.Table.seek.Statement.{statement}
 use Rattle.table.proofs.sorted.Table.seek.Tie as tie
 
 abbrev Inv-loop : tie.InvT-loop
-Inv-loop self words image wanted n i₀ i = (i ≤ n) × (seekFrom i wanted (drop i (mapOf words image self)) ≡ seekFrom 0 wanted (mapOf words image self))
+Inv-loop words image wanted self n i₀ i = (i ≤ n) × (seekFrom i wanted (drop i (mapOf words image self)) ≡ seekFrom 0 wanted (mapOf words image self))
 
 abbrev μ-loop : tie.MeasureT-loop
-μ-loop self words image wanted n i₀ i = n - i
+μ-loop words image wanted self n i₀ i = n - i
 
 size-requires : tie.Need-size-requires Inv-loop μ-loop
 size-requires c κs = search needs
@@ -23,8 +23,11 @@ size-requires c κs = search needs
 loop-holds : tie.Need-loop-holds Inv-loop μ-loop
 loop-holds c = (omega arith, refl)
 
-entry-at-requires : tie.Need-entry-at-requires Inv-loop μ-loop
-entry-at-requires c κs = search needs
+mul-e : tie.Need-mul-e Inv-loop μ-loop
+mul-e c = search needs
+
+element-copy-out-e : tie.Need-element-copy-out-e Inv-loop μ-loop
+element-copy-out-e c = search needs
 
 key-requires : tie.Need-key-requires Inv-loop μ-loop
 key-requires c κs = search needs
@@ -38,8 +41,8 @@ enum-told c = search needs
 returns : tie.Need-returns Inv-loop μ-loop
 returns c =
     let a = c .before .before .before .before .before .before .before .before .before .before .before .args in
-    let h : c .before .before .before .before .before .before .loop .i < sizeOf (a .self) = omega arith in
-    sym (seek-turn (a .words .now) (a .image .now) (a .self) (a .wanted .now) _ _ _ h (c .before .before .before .before .entry-at .ensures) (c .before .before .before .key .ensures) _ (sym (c .before .before .compare .ensures) ∙ c .enum-told .given .1)) ∙ c .before .before .before .before .before .before .loop .inv .1
+    let h : c .before .before .before .before .before .before .loop .i < sizeOf (a .t1) = omega arith in
+    sym (seek-turn (a .words .now) (a .image .now) (a .t1) (a .wanted .now) _ _ h (c .before .before .before .key .ensures) _ (sym (c .before .before .compare .ensures) ∙ c .enum-told .given .1)) ∙ c .before .before .before .before .before .before .loop .inv .1
 
 enum-told-2 : tie.Need-enum-told-2 Inv-loop μ-loop
 enum-told-2 c = search needs
@@ -47,8 +50,8 @@ enum-told-2 c = search needs
 returns-2 : tie.Need-returns-2 Inv-loop μ-loop
 returns-2 c =
     let a = c .before .before .before .before .before .before .before .before .before .before .before .args in
-    let h : c .before .before .before .before .before .before .loop .i < sizeOf (a .self) = omega arith in
-    sym (seek-turn (a .words .now) (a .image .now) (a .self) (a .wanted .now) _ _ _ h (c .before .before .before .before .entry-at .ensures) (c .before .before .before .key .ensures) _ (sym (c .before .before .compare .ensures) ∙ c .enum-told2 .given .1)) ∙ c .before .before .before .before .before .before .loop .inv .1
+    let h : c .before .before .before .before .before .before .loop .i < sizeOf (a .t1) = omega arith in
+    sym (seek-turn (a .words .now) (a .image .now) (a .t1) (a .wanted .now) _ _ h (c .before .before .before .key .ensures) _ (sym (c .before .before .compare .ensures) ∙ c .enum-told2 .given .1)) ∙ c .before .before .before .before .before .before .loop .inv .1
 
 enum-told-3 : tie.Need-enum-told-3 Inv-loop μ-loop
 enum-told-3 c = search needs
@@ -62,14 +65,14 @@ loop-less c = search needs
 loop-again : tie.Need-loop-again Inv-loop μ-loop
 loop-again c =
     let a = c .before .before .before .before .before .before .before .before .before .before .before .args in
-    let h : c .before .before .before .before .before .before .loop .i < sizeOf (a .self) = omega arith in
-    (omega arith, sym (seek-turn (a .words .now) (a .image .now) (a .self) (a .wanted .now) _ _ _ h (c .before .before .before .before .entry-at .ensures) (c .before .before .before .key .ensures) _ (sym (c .before .before .compare .ensures) ∙ c .enum-told3 .given .1)) ∙ c .before .before .before .before .before .before .loop .inv .1)
+    let h : c .before .before .before .before .before .before .loop .i < sizeOf (a .t1) = omega arith in
+    (omega arith, sym (seek-turn (a .words .now) (a .image .now) (a .t1) (a .wanted .now) _ _ h (c .before .before .before .key .ensures) _ (sym (c .before .before .compare .ensures) ∙ c .enum-told3 .given .1)) ∙ c .before .before .before .before .before .before .loop .inv .1)
 
 returns-3 : tie.Need-returns-3 Inv-loop μ-loop
 returns-3 c =
     let a = c .before .before .before .before .before .before .args in
-    let h : sizeOf (a .self) ≤ c .before .loop .i = omega arith in
-    sym (seek-end (a .words .now) (a .image .now) (a .self) (a .wanted .now) [] _ h) ∙ c .before .loop .inv .1
+    let h : sizeOf (a .t1) ≤ c .before .loop .i = omega arith in
+    sym (seek-end (a .words .now) (a .image .now) (a .t1) (a .wanted .now) [] _ h) ∙ c .before .loop .inv .1
 
 pub seek-spec : {M : Type 1} → statement M
 seek-spec =
@@ -79,7 +82,8 @@ seek-spec =
     μ-loop
     size-requires
     loop-holds
-    entry-at-requires
+    mul-e
+    element-copy-out-e
     key-requires
     compare-requires
     enum-told
