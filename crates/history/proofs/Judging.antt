@@ -22,7 +22,7 @@ use Rattle.history.specs.Steps.{unused, goodSlot, slotBefore, judged}
 use Rattle.history.proofs.Layouts.{length-zeros, length-slot, length-entries, entry-slot}
 
 -- all zero
-zero-bytes : (t : List ℕ) → sameBytes (zeros (length t)) t ≡ eqb (greatest t) 0
+pub zero-bytes : (t : List ℕ) → sameBytes (zeros (length t)) t ≡ eqb (greatest t) 0
 unfolding zeros sameBytes greatest
 zero-bytes [] = refl
 zero-bytes (zero ∷ t) = zero-bytes t ∙ let e : greatest t ≡ max 0 (greatest t) = omega arith in ap (λ (n : ℕ). eqb n 0) e

@@ -1,20 +1,21 @@
 -- What a good state has, and that adding keeps it good.
-use Prim.Native.Nat.{ℕ, _+_, _-_, _*_, _<_, _≤_}
+use Prim.Native.Nat.{ℕ, zero, suc, _+_, _-_, _*_, _/_, _<_, _≤_}
 use mathlib.Core.Path.{_≡_, refl, sym, ap, _∙_}
 use mathlib.Core.Bool.{Bool, true, false, cond}
 use mathlib.Core.List.{List, [], _∷_, _++_}
 use native.Mathlib.Omega.{arith}
 use lib.Dec.{leb, eqb}
-use lib.ListN.{length, drop, length-append, length-drop}
+use lib.ListN.{length, drop, getD, length-append, length-drop}
+use lib.Seq.{drop-drop}
 use borrow.Author.Tests.{eqb-true, leb-true, eq-eqb, ne-eqb, le-leb, lt-leb, lt-ltb, le-ltb}
 use Rattle.buffer.proofs.Choices.{true-is-not-false, then-is, else-is}
 use Rattle.buffer.specs.Write.{over, overAt}
 use Rattle.buffer.proofs.Ordering.{same-is}
 use Rattle.history.specs.Entries.{mostEntries, isNew, withRoom, added, sound}
-use Rattle.history.specs.Slots.{slot, layout, entriesOf, good}
+use Rattle.history.specs.Slots.{slot, layout, entry, entriesOf, entryAt, good}
 use Rattle.history.specs.Answer.{atEnd, entriesIn, entriesAfter, Offered}
 use Rattle.history.specs.declared.past.History.{History}
-use Rattle.history.proofs.Layouts.{Short, layout-short, layout-more, layout-full, length-entries}
+use Rattle.history.proofs.Layouts.{Short, none, more, layout-short, layout-more, layout-full, length-entries}
 
 -- a chain of tests of which all hold
 pub holds : (t u : Bool) → cond t u false ≡ true → (t ≡ true) × (u ≡ true)
@@ -126,3 +127,28 @@ module _ (h : History) (slots text : List ℕ) (is : good (h .count) (h .place) 
             ∙ full-layout es text are-short full l
             ∙ ap layout (sym e);
       }
+
+-- an entry of a good state, by its number
+entry-in : (count n : ℕ) (slots : List ℕ) → n < count → getD (entriesOf count slots) n [] ≡ entry (drop (256 * n) slots)
+unfolding entriesOf
+entry-in zero n slots h = absurd (omega arith)
+entry-in (suc count) zero slots h = refl
+entry-in (suc count) (suc n) slots h =
+    let place : 256 + 256 * n ≡ 256 * suc n = omega arith in
+    entry-in count n (drop 256 slots) (omega arith) ∙ ap entry (drop-drop (256 * n) 256 slots ∙ ap (λ (k : ℕ). drop k slots) place)
+
+pub entry-of : (count place n : ℕ) (slots : List ℕ) → good count place slots ≡ true → n < count → entryAt n slots ≡ getD (entriesOf count slots) n []
+unfolding entryAt
+entry-of count place n slots g h =
+    let k = good-has count place slots g in
+    let size = k .size in
+    let few = k .counted in
+    then-is _ _ _ (lt-ltb n (length slots / 256) (omega arith)) ∙ sym (entry-in count n slots h)
+
+short-at : (es : List (List ℕ)) (n : ℕ) → Short es → length (getD es n []) ≤ 255
+short-at [] n none = omega arith
+short-at (e ∷ es) zero (more h hs) = h
+short-at (e ∷ es) (suc n) (more h hs) = short-at es n hs
+
+pub entry-short : (count place n : ℕ) (slots : List ℕ) → good count place slots ≡ true → length (getD (entriesOf count slots) n []) ≤ 255
+entry-short count place n slots g = short-at (entriesOf count slots) n (good-short count place slots (good-has count place slots g))

@@ -1,0 +1,60 @@
+-- `editor::drawing::redraw` meets its contract.
+use borrow.Author.Needs.{needs}
+use Rattle.editor.specs.Line.{lineOf, content, limit}
+use Rattle.editor.proofs.Lines.{within-limit, line-short}
+use Rattle.editor.proofs.Showings.{told-as, redraw-fits, redraw-short}
+use native.Mathlib.Omega.{arith}
+use mathlib.Core.Path.{sym, ap, _∙_}
+use lib.Seq.{length-take-le}
+use lib.ListN.{length}
+use Rattle.editor.proofs.drawing.redraw.Statement.{statement}
+use Rattle.editor.proofs.drawing.redraw.Tie as tie
+
+array-share-prefix-line : tie.Need-array-share-prefix-line
+array-share-prefix-line c = omega (arith, c .before .before .before .pre .0, c .before .before .before .pre .1)
+
+slice-aggregate-shown-part : tie.Need-slice-aggregate-shown-part
+slice-aggregate-shown-part c = sym (length-take-le _ (c .before .before .before .before .args .goes .line) (omega (arith, c .before .before .before .before .pre .0, c .before .before .before .before .pre .1)))
+
+shown-part-requires : tie.Need-shown-part-requires
+shown-part-requires c κs = search needs
+
+clear-line-and-redraw-requires : tie.Need-clear-line-and-redraw-requires
+clear-line-and-redraw-requires c κs = search needs
+
+enum-known-n : tie.Need-enum-known-n
+enum-known-n c = search needs
+
+enum-known-n-2 : tie.Need-enum-known-n-2
+enum-known-n-2 c = search needs
+
+same-length : tie.Need-same-length
+same-length c = search needs
+
+returns : tie.Need-returns
+unfolding lineOf
+returns c = redraw-fits (c .before .before .before .before .before .before .before .before .before .before .before .before .args .prompt .now) (content (lineOf (c .before .before .before .before .before .before .before .before .before .before .before .before .args .goes))) _ _ _ _ _ (c .before .before .before .before .before .before .before .before .before .before .before .before .args .screen .now) _ _ (told-as (c .before .before .before .before .before .before .before .before .before .before .before .before .args .prompt .now) _ (content (lineOf (c .before .before .before .before .before .before .before .before .before .before .before .before .args .goes))) _ (c .before .before .before .before .before .before .before .before .before .before .before .before .args .screen .now) _ _ _ (c .before .before .before .before .before .before .before .shown-part .ensures) (c .before .n .given .1) (c .before .before .before .before .before .clear-line-and-redraw .ensures))
+
+same-length-2 : tie.Need-same-length-2
+same-length-2 c = search needs
+
+returns-2 : tie.Need-returns-2
+unfolding lineOf
+returns-2 c =
+    let h = line-short (c .before .before .before .before .before .before .before .before .before .before .before .before .args .goes) 255 (within-limit _ (c .before .before .before .before .before .before .before .before .before .before .before .before .pre .0)) in
+    redraw-short (c .before .before .before .before .before .before .before .before .before .before .before .before .args .prompt .now) (content (lineOf (c .before .before .before .before .before .before .before .before .before .before .before .before .args .goes))) _ _ _ _ _ (c .before .before .before .before .before .before .before .before .before .before .before .before .args .screen .now) _ _ (omega (arith, c .before .before .before .before .before .before .before .before .before .before .before .before .pre .2)) (told-as (c .before .before .before .before .before .before .before .before .before .before .before .before .args .prompt .now) _ (content (lineOf (c .before .before .before .before .before .before .before .before .before .before .before .before .args .goes))) _ (c .before .before .before .before .before .before .before .before .before .before .before .before .args .screen .now) _ _ _ (c .before .before .before .before .before .before .before .shown-part .ensures) (c .before .n2 .given .1) (c .before .before .before .before .before .clear-line-and-redraw .ensures))
+
+pub redraw-spec : {M : Type 1} → statement M
+redraw-spec =
+    tie.close
+    (tie.spec
+    array-share-prefix-line
+    slice-aggregate-shown-part
+    shown-part-requires
+    clear-line-and-redraw-requires
+    enum-known-n
+    enum-known-n-2
+    same-length
+    returns
+    same-length-2
+    returns-2)

@@ -1,0 +1,60 @@
+-- `editor::line::Editor::recalled` meets its contract. The first i bytes are the text's.
+use Rattle.editor.proofs.Lines.{within-limit, fresh-line, recall-end}
+use Rattle.history.specs.Slots.{zeros}
+use Rattle.history.proofs.Layouts.{length-zeros}
+use Rattle.buffer.proofs.Lending.{copy-step}
+use native.Mathlib.Omega.{arith}
+use Prim.Native.Nat.{_≤_, _-_}
+use mathlib.Core.Path.{_≡_, refl, sym, ap, _∙_}
+use mathlib.Core.List.{List, _++_}
+use lib.ListN.{length, take, drop, length-set}
+use Rattle.editor.proofs.line.Editor.recalled.Statement.{statement}
+use Rattle.editor.proofs.line.Editor.recalled.Tie as tie
+
+abbrev Inv-loop : tie.InvT-loop
+Inv-loop text line₀ i₀ line i = (i ≤ length text) × (line ≡ take i text ++ drop i (zeros 255))
+
+abbrev μ-loop : tie.MeasureT-loop
+μ-loop text line₀ i₀ line i = length text - i
+
+fresh-requires : tie.Need-fresh-requires Inv-loop μ-loop
+fresh-requires c κs = tt
+
+loop-holds : tie.Need-loop-holds Inv-loop μ-loop
+loop-holds c = (omega arith, rw (c .before .fresh .ensures) fresh-line)
+
+shared-slice-read-line : tie.Need-shared-slice-read-line Inv-loop μ-loop
+shared-slice-read-line c = omega arith
+
+array-write-line : tie.Need-array-write-line Inv-loop μ-loop
+array-write-line c = let h = within-limit _ (c .before .before .before .before .before .before .pre) in omega arith
+
+add-i : tie.Need-add-i Inv-loop μ-loop
+add-i c = omega arith
+
+loop-less : tie.Need-loop-less Inv-loop μ-loop
+loop-less c = omega arith
+
+loop-again : tie.Need-loop-again Inv-loop μ-loop
+loop-again c =
+    let h = within-limit _ (c .before .before .before .before .before .before .pre) in
+    let z = length-zeros 255 in
+    (omega arith, rw (c .before .before .loop .inv .1) (copy-step (c .before .before .before .before .before .before .args .text .now) (zeros 255) (c .before .before .loop .i) (omega arith) (omega arith)))
+
+returns : tie.Need-returns Inv-loop μ-loop
+returns c = recall-end (c .before .before .before .before .before .args .text .now) (c .before .loop .line) (c .before .loop .i) _ (within-limit _ (c .before .before .before .before .before .pre)) (omega arith) (c .before .loop .inv .1)
+
+pub recalled-spec : {M : Type 1} → statement M
+recalled-spec =
+    tie.close
+    (tie.spec
+    Inv-loop
+    μ-loop
+    fresh-requires
+    loop-holds
+    shared-slice-read-line
+    array-write-line
+    add-i
+    loop-less
+    loop-again
+    returns)

@@ -1,0 +1,95 @@
+-- What `key` answers and leaves (01, "Numbers given back": 12, 11, 9, a line buffer under 255 first).
+use Prim.Native.Nat.{ℕ}
+use mathlib.Core.Path.{_≡_}
+use mathlib.Core.Bool.{Bool, true, false, cond}
+use mathlib.Core.List.{List}
+use lib.Dec.{ltb, leb}
+use lib.ListN.{length}
+use Rattle.buffer.specs.Write.{over}
+use Rattle.history.specs.Entries.{wellFormed}
+use Rattle.history.specs.Slots.{layout, good}
+use Rattle.history.specs.Answer.{entriesIn}
+use Rattle.history.specs.declared.past.History.{History}
+use Rattle.editor.specs.declared.line.Editor.{Editor}
+use Rattle.editor.specs.declared.drawing.Key.{Key}
+use Rattle.editor.specs.declared.drawing.Pressed.{Pressed}
+use Rattle.editor.specs.declared.drawing.Pressed.the-variants.{Shown, Entered, Dropped, BadState, BadPrompt, NoRoom}
+use Rattle.editor.specs.Line.{limit, holding, lineOf, goodLine}
+use Rattle.editor.specs.Keys.{State, Kind, shows, enters, drops, Turn, turnOf}
+
+-- the state that editor, record and slots hold, and what holds a state
+unfoldable pub stateOf : Editor → History → List ℕ → State
+stateOf e h slots = record { line = lineOf e; cursor = e .cursor; mode = e .mode; entries = entriesIn h slots; place = h .place }
+
+unfoldable pub editorOf : State → Editor
+editorOf s = holding (s .line) (s .cursor) (s .mode)
+
+unfoldable pub historyOf : State → History
+historyOf s = record { count = length (s .entries); place = s .place }
+
+unfoldable pub slotsOf : State → List ℕ
+slotsOf s = layout (s .entries)
+
+-- a state is good if its line is and its history is
+unfoldable pub goodState : Editor → History → List ℕ → Bool
+goodState e h slots = cond (goodLine e) (good (h .count) (h .place) slots) false
+
+-- the prompt is 0 to 128 bytes of UTF-8
+unfoldable pub goodPrompt : List ℕ → Bool
+goodPrompt prompt = cond (leb (length prompt) 128) (wellFormed prompt) false
+
+-- what a key that is taken answers
+abbrev pub taken : Turn → Kind → Pressed
+taken t shows = Shown (length (t .screen))
+taken t enters = Entered (length (t .submitted))
+taken t drops = Dropped
+
+-- the answer for a turn, and buffers of so many bytes for the line and for the screen
+unfoldable pub turnAnswer : Turn → ℕ → ℕ → Pressed
+turnAnswer t line screen =
+    cond (ltb line limit) (NoRoom limit)
+    (cond (ltb screen (length (t .screen))) (NoRoom (length (t .screen)))
+    (taken t (t .kind)))
+
+unfoldable pub keyAnswer : Bool → List ℕ → Turn → ℕ → ℕ → Pressed
+keyAnswer is prompt t line screen =
+    cond is
+    (cond (goodPrompt prompt) (turnAnswer t line screen)
+    (BadPrompt (length prompt)))
+    BadState
+
+-- a refusal keeps the state and every byte
+abbrev pub refused : Pressed → Bool
+refused (Shown n) = false
+refused (Entered n) = false
+refused Dropped = false
+refused BadState = true
+refused (BadPrompt n) = true
+refused (NoRoom n) = true
+
+pub record Pressing (e : Editor) (h : History) (slots prompt : List ℕ) (byte : ℕ) (line screen : List ℕ)
+    (k : Key) (slots′ line′ screen′ : List ℕ) : Type 0 where
+  pub answer : k .answer ≡ keyAnswer (goodState e h slots) prompt (turnOf prompt (stateOf e h slots) byte) (length line) (length screen)
+  pub editor : k .editor ≡ cond (refused (k .answer)) e (editorOf (turnOf prompt (stateOf e h slots) byte .after))
+  pub history : k .history ≡ cond (refused (k .answer)) h (historyOf (turnOf prompt (stateOf e h slots) byte .after))
+  pub held : slots′ ≡ cond (refused (k .answer)) slots (slotsOf (turnOf prompt (stateOf e h slots) byte .after))
+  pub given : line′ ≡ cond (refused (k .answer)) line (over (turnOf prompt (stateOf e h slots) byte .submitted) line)
+  pub shown : screen′ ≡ cond (refused (k .answer)) screen (over (turnOf prompt (stateOf e h slots) byte .screen) screen)
+
+-- the refusal's number in 01 (0: none), and the value that goes with it
+abbrev pub number : Pressed → ℕ
+number (Shown n) = 0
+number (Entered n) = 0
+number Dropped = 0
+number BadState = 12
+number (BadPrompt n) = 11
+number (NoRoom n) = 9
+
+-- at Enter one byte is shown
+abbrev pub value : Pressed → ℕ
+value (Shown n) = n
+value (Entered n) = 1
+value Dropped = 0
+value BadState = 0
+value (BadPrompt n) = n
+value (NoRoom n) = n

@@ -1,0 +1,45 @@
+-- The line that is being typed (01, "The line editor"): 0 to 255 bytes, zero beyond its length, with a cursor at most that length.
+use Prim.Native.Nat.{ℕ, _-_}
+use mathlib.Core.Bool.{Bool, true, false, cond}
+use mathlib.Core.List.{List, [], _∷_, _++_}
+use lib.Dec.{leb}
+use lib.ListN.{length, take, drop}
+use Rattle.buffer.specs.Compare.{sameBytes}
+use Rattle.history.specs.Entries.{wellFormed}
+use Rattle.history.specs.Slots.{zeros}
+use Rattle.editor.specs.declared.line.Mode.{Mode}
+use Rattle.editor.specs.declared.line.Mode.the-variants.{Typing}
+use Rattle.editor.specs.declared.line.Editor.{Editor}
+
+-- how many bytes a line holds at most: `Editor::LIMIT`
+unfoldable pub limit : ℕ
+limit = 255
+
+-- the editor that holds a line, and the line that an editor holds
+unfoldable pub padded : List ℕ → List ℕ
+padded line = line ++ zeros (limit - length line)
+
+unfoldable pub holding : List ℕ → ℕ → Mode → Editor
+holding line cursor mode = record { line = padded line; length = length line; cursor = cursor; mode = mode }
+
+unfoldable pub lineOf : Editor → List ℕ
+lineOf e = take (e .length) (e .line)
+
+-- no line: `Editor::fresh`
+unfoldable pub freshEditor : Editor
+freshEditor = holding [] 0 Typing
+
+-- the rules of a line
+unfoldable pub goodLine : Editor → Bool
+goodLine e = cond (leb (e .length) limit) (cond (leb (e .cursor) (e .length)) (sameBytes (padded (lineOf e)) (e .line)) false) false
+
+-- a byte more at a place, and a byte less before it
+unfoldable pub inserted : List ℕ → ℕ → ℕ → List ℕ
+inserted line cursor byte = take cursor line ++ (byte ∷ drop cursor line)
+
+unfoldable pub erased : List ℕ → ℕ → List ℕ
+erased line cursor = take (cursor - 1) line ++ drop cursor line
+
+-- what is shown of a line, and offered to history: nothing if it is ill-formed
+unfoldable pub content : List ℕ → List ℕ
+content line = cond (wellFormed line) line []

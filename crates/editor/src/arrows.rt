@@ -1,0 +1,100 @@
+// The arrow keys: Up and Down through history, Right and Left along the line. Each comes after ESC `[`, and typing goes on behind it.
+ghost use Prim.Native.Nat.{_≤_};
+ghost use mathlib.Core.Path.{_≡_};
+ghost use mathlib.Core.Bool.{true};
+ghost use lib.ListN.{length};
+ghost use Rattle.editor.specs.Line.{goodLine};
+ghost use Rattle.editor.specs.Keys.{inMode, up, down, right, left};
+ghost use Rattle.editor.specs.Answer.{stateOf, goodState};
+ghost use Rattle.editor.specs.Steps.{Acts, ActsFor};
+use super::drawing::Key;
+use super::drawing::Pressed;
+use super::drawing::redraw;
+use super::drawing::show_arrow;
+use super::line::Editor;
+use super::line::Mode;
+use history::History;
+use history::Recalled;
+use history::recall;
+
+impl Editor {
+    // Up: a step back through history.
+    pub fn up(self, history: History, slots: &[u8], prompt: &[u8], screen: &mut [u8]) -> Key
+        requires { ⌜ (goodState self history (now slots) ≡ true) × (length (now prompt) ≤ 128) ⌝ }
+        ensures { λ r. ⌜ Acts self history (up (now (prompt .entry)) (inMode (stateOf self history (now (slots .entry))) Mode.Typing)) (now (screen .entry)) r (now (screen .exit)) ⌝ }
+    {
+        let step = history.previous();
+        let recalled = step.recalled;
+        let Recalled::Entry(number) = recalled else {
+            return Key {
+                editor: self.in_mode(Mode::Typing),
+                history,
+                answer: Pressed::Shown(0),
+            };
+        };
+        let past = step.history;
+        redraw(
+            self,
+            history,
+            Editor::recalled(recall(slots, number)),
+            past,
+            prompt,
+            screen,
+        )
+    }
+
+    // Down: a step on through history, and to an empty line behind the newest entry.
+    pub fn down(self, history: History, slots: &[u8], prompt: &[u8], screen: &mut [u8]) -> Key
+        requires { ⌜ (goodState self history (now slots) ≡ true) × (length (now prompt) ≤ 128) ⌝ }
+        ensures { λ r. ⌜ Acts self history (down (now (prompt .entry)) (inMode (stateOf self history (now (slots .entry))) Mode.Typing)) (now (screen .entry)) r (now (screen .exit)) ⌝ }
+    {
+        let step = history.next();
+        let recalled = step.recalled;
+        let past = step.history;
+        let Recalled::Entry(number) = recalled else {
+            return redraw(self, history, Editor::fresh(), past, prompt, screen);
+        };
+        redraw(
+            self,
+            history,
+            Editor::recalled(recall(slots, number)),
+            past,
+            prompt,
+            screen,
+        )
+    }
+
+    // Right: the cursor goes on by a byte, unless it stands at the end.
+    pub fn right(self, history: History, screen: &mut [u8]) -> Key
+        requires { ⌜ goodLine self ≡ true ⌝ }
+        ensures { λ r. ⌜ ActsFor (λ slots. right (inMode (stateOf self history slots) Mode.Typing)) self history (now (screen .entry)) r (now (screen .exit)) ⌝ }
+    {
+        let cursor = self.cursor;
+        if self.length <= cursor {
+            return Key {
+                editor: self.in_mode(Mode::Typing),
+                history,
+                answer: Pressed::Shown(0),
+            };
+        }
+        let typing = self.in_mode(Mode::Typing);
+        show_arrow(self, typing.moved(cursor + 1), history, 0x43, screen)
+    }
+
+    // Left: the cursor goes back by a byte, unless it stands at the beginning.
+    pub fn left(self, history: History, screen: &mut [u8]) -> Key
+        requires { ⌜ goodLine self ≡ true ⌝ }
+        ensures { λ r. ⌜ ActsFor (λ slots. left (inMode (stateOf self history slots) Mode.Typing)) self history (now (screen .entry)) r (now (screen .exit)) ⌝ }
+    {
+        let cursor = self.cursor;
+        if cursor == 0 {
+            return Key {
+                editor: self.in_mode(Mode::Typing),
+                history,
+                answer: Pressed::Shown(0),
+            };
+        }
+        let typing = self.in_mode(Mode::Typing);
+        show_arrow(self, typing.moved(cursor - 1), history, 0x44, screen)
+    }
+}
