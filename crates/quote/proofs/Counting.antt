@@ -17,10 +17,11 @@ use Rattle.quote.specs.Shown.{shown}
 use Rattle.quote.specs.Joined.{gap, joinedFrom, joined}
 use Rattle.quote.specs.Answer.{quoteLine, lineOf}
 use Rattle.quote.specs.Steps.{itemFirst, measured, IsFine}
-use Rattle.quote.specs.declared.given.Item.the-variants.{Word, Bad as NoWord, Bad}
+use Rattle.quote.specs.declared.given.Item.the-variants.{Bad as NoWord}
 use Rattle.quote.specs.declared.quoter.Measured.{Measured}
 use Rattle.quote.specs.declared.quoter.Measured.the-variants.{Needs, Bad}
-use Rattle.quote.proofs.Listing.{good-formed, frame-room, part-is, word-told, judge-word, judge-bad, listed-end, item-other, item-judged as item-tested}
+use Rattle.quote.proofs.Listing.{good-formed, frame-room, part-is, part-length, WordTold, ItemTold, judge-word, judge-bad, listed-end, item-first, item-other}
+use Rattle.buffer.proofs.Choices.{else-is}
 use Rattle.quote.proofs.Showing.{shown-most}
 
 pub gap-none : (n : ℕ) → n ≡ 0 → gap n ≡ []
@@ -38,18 +39,15 @@ gap-most zero = omega arith
 gap-most (suc n) = omega arith
 
 -- a word that is read at a place
-module _ (words : List ℕ) (at len : ℕ) (e : itemFirst (drop at words) ≡ Word len) where
-  pub item-room : at + 3 + len ≤ length words
-  item-room = frame-room words at 0x14 len (word-told (drop at words) len e .head)
+module _ (words : List ℕ) (at len : ℕ) (t : WordTold (drop at words) len) where
+  pub word-within : at + 3 + len ≤ length words
+  word-within = frame-room words at 0x14 len (t .head)
 
-  pub item-formed : wellFormedLength (take (at + 3 + len - (at + 3)) (drop (at + 3) words)) ≡ length (take (at + 3 + len - (at + 3)) (drop (at + 3) words))
-  item-formed = rw (part-is words at len) (good-formed (take len (drop 3 (drop at words))) (word-told (drop at words) len e .good))
+  pub word-formed : wellFormedLength (take (at + 3 + len - (at + 3)) (drop (at + 3) words)) ≡ length (take (at + 3 + len - (at + 3)) (drop (at + 3) words))
+  word-formed = rw (part-is words at len) (good-formed (take len (drop 3 (drop at words))) (t .good))
 
-  pub item-length : length (take (at + 3 + len - (at + 3)) (drop (at + 3) words)) ≡ len
-  item-length = let h = item-room in rw (length-take, length-drop) (omega arith)
-
-  pub item-judged : judge (listed (drop at words)) ≡ before (take (at + 3 + len - (at + 3)) (drop (at + 3) words)) (judge (listed (drop (at + 3 + len) words)))
-  item-judged = judge-word words at len e ∙ ap (λ (w : List ℕ). before w (judge (listed (drop (at + 3 + len) words)))) (sym (part-is words at len))
+  pub word-judged : judge (listed (drop at words)) ≡ before (take (at + 3 + len - (at + 3)) (drop (at + 3) words)) (judge (listed (drop (at + 3 + len) words)))
+  word-judged = judge-word words at len t ∙ ap (λ (w : List ℕ). before w (judge (listed (drop (at + 3 + len) words)))) (sym (part-is words at len))
 
 -- what measuring finds, where n words of `size` bytes are passed
 abbrev pub resume : ℕ → ℕ → Judged → Measured
@@ -82,27 +80,28 @@ unfolding measured
 counted-start words = record { inside = omega arith; few = omega arith; cost = omega arith; all = resume-start (judge (listed words)) }
 
 module _ (words : List ℕ) (size n at : ℕ) (h : Counted words size n at) where
-  pub counted-cost : (len g r : ℕ) → itemFirst (drop at words) ≡ Word len → g ≡ length (gap n)
-      → r ≡ length (shown (take (at + 3 + len - (at + 3)) (drop (at + 3) words))) → size + g + r ≤ 2 * (at + 3 + len)
-  counted-cost len g r e p q =
-      let l = item-length words at len e in
-      let m = shown-most (take (at + 3 + len - (at + 3)) (drop (at + 3) words)) (item-formed words at len e) in
+  pub counted-cost : (len g r : ℕ) → ItemTold (drop at words) len r → g ≡ length (gap n) → size + g + r ≤ 2 * (at + 3 + len)
+  counted-cost len g r i p =
+      let w : List ℕ = take len (drop 3 (drop at words)) in
+      let l = part-length words at len (word-within words at len (i .word)) in
+      let same = ap length (part-is words at len) in
+      let m = shown-most w (good-formed w (i .word .good)) in
+      let s = i .shows in
       let k = gap-most n in
       let c = h .cost in
       omega arith
 
-  pub counted-turn : (len g r : ℕ) → itemFirst (drop at words) ≡ Word len → g ≡ length (gap n)
-      → r ≡ length (shown (take (at + 3 + len - (at + 3)) (drop (at + 3) words))) → Counted words (size + g + r) (n + 1) (at + 3 + len)
-  counted-turn len g r e p q =
+  pub counted-turn : (len g r : ℕ) → ItemTold (drop at words) len r → g ≡ length (gap n) → Counted words (size + g + r) (n + 1) (at + 3 + len)
+  counted-turn len g r i p =
       record {
-        inside = item-room words at len e;
+        inside = word-within words at len (i .word);
         few = let f = h .few in omega arith;
-        cost = counted-cost len g r e p q;
+        cost = counted-cost len g r i p;
         all =
             h .all
-            ∙ ap (resume n size) (item-judged words at len e)
-            ∙ resume-turn n size (take (at + 3 + len - (at + 3)) (drop (at + 3) words)) (judge (listed (drop (at + 3 + len) words)))
-            ∙ rw (p, q);
+            ∙ ap (resume n size) (judge-word words at len (i .word))
+            ∙ resume-turn n size (take len (drop 3 (drop at words))) (judge (listed (drop (at + 3 + len) words)))
+            ∙ rw (p, i .shows);
       }
 
   pub counted-bad : at < length words → itemFirst (drop at words) ≡ NoWord → measured words ≡ Bad n
@@ -139,16 +138,16 @@ fine-behind w (bad k) f = f
 fine-behind w (fine ws) f = tt
 
 module _ (words : List ℕ) (n at : ℕ) (f : IsFine (judge (listed (drop at words)))) where
-  pub fine-turn : (len : ℕ) → itemFirst (drop at words) ≡ Word len → IsFine (judge (listed (drop (at + 3 + len) words)))
-  fine-turn len e =
-      fine-behind (take (at + 3 + len - (at + 3)) (drop (at + 3) words)) (judge (listed (drop (at + 3 + len) words))) (rw (item-judged words at len e) at f)
+  pub fine-turn : (len : ℕ) → WordTold (drop at words) len → IsFine (judge (listed (drop (at + 3 + len) words)))
+  fine-turn len t =
+      fine-behind (take (at + 3 + len - (at + 3)) (drop (at + 3) words)) (judge (listed (drop (at + 3 + len) words))) (rw (word-judged words at len t) at f)
 
-  pub rest-turn : (len : ℕ) → itemFirst (drop at words) ≡ Word len
+  pub rest-turn : (len : ℕ) → WordTold (drop at words) len
       → restLine n (judge (listed (drop at words)))
       ≡ (gap n ++ shown (take (at + 3 + len - (at + 3)) (drop (at + 3) words))) ++ restLine (n + 1) (judge (listed (drop (at + 3 + len) words)))
-  rest-turn len e =
-      ap (restLine n) (item-judged words at len e)
-      ∙ rest-more n (take (at + 3 + len - (at + 3)) (drop (at + 3) words)) (judge (listed (drop (at + 3 + len) words))) (fine-turn len e)
+  rest-turn len t =
+      ap (restLine n) (word-judged words at len t)
+      ∙ rest-more n (take (at + 3 + len - (at + 3)) (drop (at + 3) words)) (judge (listed (drop (at + 3 + len) words))) (fine-turn len t)
 
   pub rest-bad : at < length words → itemFirst (drop at words) ≡ NoWord → ⊥
   rest-bad k e =
@@ -160,13 +159,13 @@ unfolding joinedFrom
 rest-end words n at k = ap (restLine n) (listed-end words at k)
 
 -- where all words are good, a frame holds one
-pub fine-item : (s : List ℕ) (kind n : ℕ) → IsFine (judge (listed s)) → frameFirst s ≡ Frame kind n → itemFirst s ≡ Word n
-fine-item s kind n f e = by (eqb kind 0x14) (goodWord (take n (drop 3 s))) refl refl
+pub fine-word : (s : List ℕ) (kind n : ℕ) → IsFine (judge (listed s)) → frameFirst s ≡ Frame kind n → WordTold s n
+fine-word s kind n f e = by (eqb kind 0x14) (goodWord (take n (drop 3 s))) refl refl
   where
-    none : itemFirst s ≡ Bad → itemFirst s ≡ Word n
+    none : itemFirst s ≡ NoWord → WordTold s n
     none b = absurd (rw (judge-bad s (let r = frame-within s kind n e in omega arith) b) at f)
 
-    by : (t u : Bool) → eqb kind 0x14 ≡ t → goodWord (take n (drop 3 s)) ≡ u → itemFirst s ≡ Word n
+    by : (t u : Bool) → eqb kind 0x14 ≡ t → goodWord (take n (drop 3 s)) ≡ u → WordTold s n
     by false u p q = none (item-other s kind n e (eqb-false kind 0x14 p))
-    by true true p q = item-tested s kind n true e (eqb-true kind 0x14 p) q
-    by true false p q = none (item-tested s kind n false e (eqb-true kind 0x14 p) q)
+    by true true p q = record { head = e ∙ ap (λ (k : ℕ). Frame k n) (eqb-true kind 0x14 p); good = q }
+    by true false p q = none (item-first s kind n e (eqb-true kind 0x14 p) ∙ else-is _ _ _ q)

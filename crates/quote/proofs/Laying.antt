@@ -13,8 +13,8 @@ use Rattle.text.specs.declared.utf8.Decoded.the-variants.{Character}
 use Rattle.quote.specs.Given.{listed, judge}
 use Rattle.quote.specs.Shown.{special, escaped, shown}
 use Rattle.quote.specs.Joined.{gap}
-use Rattle.quote.specs.Steps.{escapedBytes, itemFirst, IsFine}
-use Rattle.quote.specs.declared.given.Item.the-variants.{Word}
+use Rattle.quote.specs.Steps.{escapedBytes, IsFine}
+use Rattle.quote.proofs.Listing.{WordTold}
 use Rattle.quote.proofs.Showing.{escaped-turn}
 use Rattle.quote.proofs.Counting.{restLine, rest-turn}
 
@@ -66,14 +66,14 @@ module _ (w out₀ : List ℕ) (start o at code n : ℕ) (out : List ℕ) (h : L
 
 -- a word more of a line
 module _ (line words out₀ : List ℕ) (o n at len : ℕ) (out : List ℕ) (h : Laying line (restLine n (judge (listed (drop at words)))) out₀ 0 o out)
-    (f : IsFine (judge (listed (drop at words)))) (e : itemFirst (drop at words) ≡ Word len) (room : length line ≤ length out₀) where
+    (f : IsFine (judge (listed (drop at words)))) (t : WordTold (drop at words) len) (room : length line ≤ length out₀) where
   pub word-room : o + length (gap n ++ shown (take (at + 3 + len - (at + 3)) (drop (at + 3) words))) ≤ length out₀
   word-room =
       laying-room line (restLine n (judge (listed (drop at words)))) (gap n ++ shown (take (at + 3 + len - (at + 3)) (drop (at + 3) words)))
-      (restLine (n + 1) (judge (listed (drop (at + 3 + len) words)))) out₀ 0 o out h (rest-turn words n at f len e) (omega arith)
+      (restLine (n + 1) (judge (listed (drop (at + 3 + len) words)))) out₀ 0 o out h (rest-turn words n at f len t) (omega arith)
 
   pub word-turn : (r : ℕ) (left : List ℕ) → Pushed (gap n ++ shown (take (at + 3 + len - (at + 3)) (drop (at + 3) words))) out o r left
       → Laying line (restLine (n + 1) (judge (listed (drop (at + 3 + len) words)))) out₀ 0 r left
   word-turn r left p =
       laying-turn line (restLine n (judge (listed (drop at words)))) (gap n ++ shown (take (at + 3 + len - (at + 3)) (drop (at + 3) words)))
-      (restLine (n + 1) (judge (listed (drop (at + 3 + len) words)))) out₀ 0 o out h (rest-turn words n at f len e) (omega arith) r left p
+      (restLine (n + 1) (judge (listed (drop (at + 3 + len) words)))) out₀ 0 o out h (rest-turn words n at f len t) (omega arith) r left p

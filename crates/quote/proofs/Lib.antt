@@ -1,6 +1,6 @@
 -- The laws of the crate `quote` that belong to no one function.
-pub mod Listing
 pub mod Showing
+pub mod Listing
 pub mod Counting
 pub mod Laying
 pub mod Answers

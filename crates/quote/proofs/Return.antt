@@ -31,7 +31,7 @@ use Rattle.quote.specs.Answer.{quoteLine}
 use Rattle.quote.specs.Steps.{itemFirst}
 use Rattle.quote.specs.declared.given.Item.{Item}
 use Rattle.quote.specs.declared.given.Item.the-variants.{Word, Bad}
-use Rattle.quote.proofs.Listing.{good-some, good-formed, word-told, judge-first, judge-bad}
+use Rattle.quote.proofs.Listing.{good-some, good-formed, item-told, judge-first, judge-bad}
 
 tokens-step : (w : List ℕ) (quotes after : Bool) (code : ℕ) (codes : List ℕ) (t : Turn) → turnOf quotes after code ≡ t
     → tokensFrom w quotes after (code ∷ codes)
@@ -300,13 +300,13 @@ frames-within (suc k) (a ∷ s) ws h b e = by (itemFirst (a ∷ s)) refl (λ t v
     by : (i : Item) → itemFirst (a ∷ s) ≡ i → ((t : List ℕ) (vs : List (List ℕ)) → length t < k → Bytes t → judge (listed t) ≡ fine vs → framesOf vs ≡ t)
         → framesOf ws ≡ a ∷ s
     by Bad q again = absurd (not-fine 0 ws (sym (judge-bad (a ∷ s) (omega arith) q) ∙ e))
-    by (Word n) q again =
-        let t = word-told (a ∷ s) n q in
+    by (Word n size) q again =
+        let t = item-told (a ∷ s) n size q .word in
         let fits = frame-within (a ∷ s) 0x14 n (t .head) in
         let size = length-drop (3 + n) (a ∷ s) in
         let rest : List ℕ = drop (3 + n) (a ∷ s) in
         step-back (a ∷ s) (take n (drop 3 (a ∷ s))) rest ws (frame-back (a ∷ s) 0x14 n b (t .head)) (judge (listed rest))
-        (λ vs r. again rest vs (omega arith) (bytes-behind (a ∷ s) (3 + n) b) r) (sym (judge-first (a ∷ s) n q) ∙ e)
+        (λ vs r. again rest vs (omega arith) (bytes-behind (a ∷ s) (3 + n) b) r) (sym (judge-first (a ∷ s) n t) ∙ e)
 
 pub frames-back : (words : List ℕ) (ws : List (List ℕ)) → Bytes words → judge (listed words) ≡ fine ws → framesOf ws ≡ words
 frames-back words ws b e = frames-within (suc (length words)) words ws (omega arith) b e

@@ -1,26 +1,44 @@
 // The words that are given: frames of kind 14, of which each must hold a good word.
+ghost use Prim.Native.Nat.{_+_, _≤_};
 ghost use mathlib.Core.Path.{_≡_};
-ghost use lib.ListN.{drop};
-ghost use Rattle.quote.specs.Given.{goodWord};
-ghost use Rattle.quote.specs.Steps.{itemFirst};
+ghost use lib.ListN.{length, drop};
+ghost use Rattle.quote.specs.Steps.{itemOf, itemFirst};
+use super::word::is_plain;
+use super::word::quoted_size;
 use frame::Framed;
 use frame::read_frame;
 use text::well_formed_prefix;
 
-// What stands at a place: a good word of that many bytes, behind the three bytes of its frame's head, or none.
+// What stands at a place: a good word of that many bytes, behind the three bytes of its frame's head, which takes `size` bytes
+// when it is shown; or none.
 pub enum Item {
-    Word(usize),
+    Word { length: usize, size: usize },
     Bad,
 }
 
-// Whether a word has some bytes and is well-formed.
-fn is_good(word: &[u8]) -> bool
-    ensures { λ r. ⌜ r ≡ goodWord (now (word .entry)) ⌝ }
+// What a word is: good if it has some bytes and is well-formed. The pass that finds a word plain, as most are, finds it
+// well-formed too.
+fn item_of(word: &[u8]) -> Item
+    requires { ⌜ 3 + length (now word) ≤ 0x8000000000000000 ⌝ }
+    ensures { λ r. ⌜ r ≡ itemOf (length (now (word .entry))) (now (word .entry)) ⌝ }
 {
-    if word.len() == 0 {
-        return false;
+    let length = word.len();
+    if length == 0 {
+        return Item::Bad;
     }
-    well_formed_prefix(word) == word.len()
+    if is_plain(word) {
+        return Item::Word {
+            length,
+            size: length,
+        };
+    }
+    if well_formed_prefix(word) < length {
+        return Item::Bad;
+    }
+    Item::Word {
+        length,
+        size: quoted_size(word),
+    }
 }
 
 // The good word at the place `at`.
@@ -35,8 +53,5 @@ pub fn word_at(words: &[u8], at: usize) -> Item
     }
     let start = at + 3;
     let end = start + length;
-    if is_good(&words[start..end]) {
-        return Item::Word(length);
-    }
-    Item::Bad
+    item_of(&words[start..end])
 }

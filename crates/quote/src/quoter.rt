@@ -13,7 +13,6 @@ ghost use Rattle.quote.specs.Steps.{measured, IsFine};
 use super::given::Item;
 use super::given::word_at;
 use super::word::push_shown;
-use super::word::shown_size;
 use buffer::push_byte;
 use frame::Framed;
 use frame::read_frame;
@@ -50,14 +49,16 @@ fn measure(words: &[u8]) -> Measured
     let mut n = 0;
     let mut at = 0;
     while at < words.len() {
-        let Item::Word(length) = word_at(words, at) else {
+        let Item::Word {
+            length,
+            size: shown,
+        } = word_at(words, at)
+        else {
             return Measured::Bad(n);
         };
-        let start = at + 3;
-        let end = start + length;
-        size = size + gap_size(n) + shown_size(&words[start..end]);
+        size = size + gap_size(n) + shown;
         n += 1;
-        at = end;
+        at = at + 3 + length;
     }
     Measured::Needs(size)
 }

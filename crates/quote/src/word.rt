@@ -1,18 +1,19 @@
 // A word shown: plain, or in quotes with `\` before `"` and `\`; measured, and written at a place.
 ghost use Prim.Native.Nat.{_+_, _≤_};
 ghost use mathlib.Core.Path.{_≡_};
-ghost use lib.ListN.{length};
+ghost use mathlib.Core.Bool.{false};
+ghost use lib.ListN.{length, drop};
 ghost use Rattle.buffer.specs.Write.{Pushed};
 ghost use Rattle.text.specs.Unicode.{encodeAll};
 ghost use Rattle.text.specs.Decoding.{codesIn, wellFormedLength};
-ghost use Rattle.quote.specs.Shown.{special, quoting, plain, escaped, shown};
-ghost use Rattle.quote.specs.Steps.{specials, escapedBytes};
+ghost use Rattle.quote.specs.Shown.{special, quoting, escaped, shown};
+ghost use Rattle.quote.specs.Steps.{quietFirst, plainWord, specials, escapedBytes};
 use buffer::push;
 use buffer::push_byte;
 use text::Decoded;
 use text::decode;
 use text::is_white_space;
-use words::is_ordinary;
+use words::ordinary_at;
 
 // Whether a character is `"` or `\`.
 fn is_special(code: u32) -> bool
@@ -34,24 +35,35 @@ fn calls_for_quotes(code: u32) -> bool
     is_white_space(code)
 }
 
-// Whether no character of a word is white space, `"` or `\`.
-fn is_plain(word: &[u8]) -> bool
-    ensures { λ r. ⌜ r ≡ plain (codesIn (now (word .entry))) ⌝ }
+// The length of the character at a place if it calls for no quotes; 0 if it does, or if there is none.
+fn quiet_at(word: &[u8], at: usize) -> usize
+    ensures { λ r. ⌜ r ≡ quietFirst (drop at (now (word .entry))) ⌝ }
+{
+    // Most characters are ordinary ones, and need no decoder.
+    let n = ordinary_at(word, at);
+    if n != 0 {
+        return n;
+    }
+    let Decoded::Character { code, length } = decode(word, at) else {
+        return 0;
+    };
+    if calls_for_quotes(code) {
+        return 0;
+    }
+    length
+}
+
+// Whether a word is well-formed and no character of it is white space, `"` or `\`.
+pub fn is_plain(word: &[u8]) -> bool
+    ensures { λ r. ⌜ r ≡ plainWord (now (word .entry)) ⌝ }
 {
     let mut at = 0;
     while at < word.len() {
-        // Most characters are ordinary ones, and need no decoder.
-        if is_ordinary(word[at]) {
-            at += 1;
-        } else {
-            let Decoded::Character { code, length } = decode(word, at) else {
-                return true;
-            };
-            if calls_for_quotes(code) {
-                return false;
-            }
-            at += length;
+        let n = quiet_at(word, at);
+        if n == 0 {
+            return false;
         }
+        at += n;
     }
     true
 }
@@ -74,14 +86,12 @@ fn escapes(word: &[u8]) -> usize
     n
 }
 
-// How many bytes a well-formed word takes when it is shown.
-pub fn shown_size(word: &[u8]) -> usize
-    requires { ⌜ (wellFormedLength (now word) ≡ length (now word)) × (3 + length (now word) ≤ 0x8000000000000000) ⌝ }
+// How many bytes a well-formed word that is not plain takes when it is shown.
+pub fn quoted_size(word: &[u8]) -> usize
+    requires { ⌜ (wellFormedLength (now word) ≡ length (now word)) × (plainWord (now word) ≡ false) ⌝ }
+    requires { ⌜ 3 + length (now word) ≤ 0x8000000000000000 ⌝ }
     ensures { λ r. ⌜ r ≡ length (shown (now (word .entry))) ⌝ }
 {
-    if is_plain(word) {
-        return word.len();
-    }
     word.len() + escapes(word) + 2
 }
 

@@ -29,11 +29,11 @@ within-is : (x y b : ℕ) → x ≤ b → b ≤ y → within x y b ≡ true
 unfolding within
 within-is x y b h k = then-is _ _ _ (le-leb x b h) ∙ le-leb b y k
 
-record Within (x y b : ℕ) : Type 0 where
-  least : x ≤ b
-  most : b ≤ y
+pub record Within (x y b : ℕ) : Type 0 where
+  pub least : x ≤ b
+  pub most : b ≤ y
 
-within-has : (x y b : ℕ) → within x y b ≡ true → Within x y b
+pub within-has : (x y b : ℕ) → within x y b ≡ true → Within x y b
 unfolding within
 within-has x y b e = by (leb x b) refl e
   where
@@ -42,11 +42,11 @@ within-has x y b e = by (leb x b) refl e
     by false p q = absurd (true-is-not-false (sym q))
 
 -- the bounds of the second byte
-after-E0 : (a : ℕ) → a ≡ 0xE0 → leastSecond a ≡ 0xA0
+pub after-E0 : (a : ℕ) → a ≡ 0xE0 → leastSecond a ≡ 0xA0
 unfolding leastSecond
 after-E0 a e = rw e
 
-after-F0 : (a : ℕ) → a ≡ 0xF0 → leastSecond a ≡ 0x90
+pub after-F0 : (a : ℕ) → a ≡ 0xF0 → leastSecond a ≡ 0x90
 unfolding leastSecond
 after-F0 a e = rw e
 
@@ -110,7 +110,7 @@ greatest-BF true q = omega arith
 greatest-BF false true = omega arith
 greatest-BF false false = omega arith
 
-second-in : (a b : ℕ) → second a b ≡ true → Within 0x80 0xBF b
+pub second-in : (a b : ℕ) → second a b ≡ true → Within 0x80 0xBF b
 unfolding leastSecond greatestSecond
 second-in a b e =
     let w = within-has (leastSecond a) (greatestSecond a) b e in
@@ -118,7 +118,7 @@ second-in a b e =
     let g = greatest-BF (eqb a 0xED) (eqb a 0xF4) in
     record { least = le-trans l (w .least); most = le-trans (w .most) g }
 
-second-least : (a b x : ℕ) → second a b ≡ true → leastSecond a ≡ x → x ≤ b
+pub second-least : (a b x : ℕ) → second a b ≡ true → leastSecond a ≡ x → x ≤ b
 second-least a b x e q = rw q at (within-has (leastSecond a) (greatestSecond a) b e .least)
 
 second-most : (a b y : ℕ) → second a b ≡ true → greatestSecond a ≡ y → b ≤ y

@@ -7,3 +7,4 @@ pub mod Sights
 pub mod Splits
 mod Examples
 pub mod Spaces
+pub mod Letters

@@ -10,4 +10,5 @@ pub use apart::trim;
 pub use space::is_white_space;
 pub use utf8::Decoded;
 pub use utf8::decode;
+pub use utf8::letter_at;
 pub use utf8::well_formed_prefix;

@@ -2,7 +2,7 @@
 ghost use mathlib.Core.Path.{_≡_};
 ghost use lib.ListN.{length, drop, getD};
 ghost use Prim.Native.Nat.{_%_, _≤_, _<_};
-ghost use Rattle.text.specs.Decoding.{leastSecond, greatestSecond, within, second, later, decodeTwo, decodeThree, decodeFour, table, decodeFirst, wellFormedLength};
+ghost use Rattle.text.specs.Decoding.{leastSecond, greatestSecond, within, second, later, decodeTwo, decodeThree, decodeFour, table, decodeFirst, lengthOf, letterHead, letterFirst, wellFormedLength};
 
 // What stands at a place of a text.
 pub enum Decoded {
@@ -161,6 +161,56 @@ pub fn decode(s: &[u8], at: usize) -> Decoded
         };
     }
     decode_longer(s, at)
+}
+
+// The length of the character of two bytes, 0 if they are none.
+fn length_of_two(a: u8, b: u8) -> usize
+    ensures { λ r. ⌜ r ≡ lengthOf (decodeTwo a b) ⌝ }
+{
+    if is_second(a, b) { 2 } else { 0 }
+}
+
+// The length of the character of three bytes, 0 if they are none.
+fn length_of_three(a: u8, b: u8, c: u8) -> usize
+    ensures { λ r. ⌜ r ≡ lengthOf (decodeThree a b c) ⌝ }
+{
+    if is_second(a, b) {
+        if is_later(c) {
+            return 3;
+        }
+    }
+    0
+}
+
+// Whether a character of three bytes that begins with a is a letter: among those that begin with E1 to E3 is white space.
+fn is_letter_head(a: u8) -> bool
+    ensures { λ r. ⌜ r ≡ letterHead a ⌝ }
+{
+    if a == 0xE0 {
+        return true;
+    }
+    is_within(0xE4, 0xEF, a)
+}
+
+// The length of the letter at a place, 0 if there is none: most characters outside ASCII, and whoever looks for white space
+// can pass over them without their code.
+pub fn letter_at(s: &[u8], at: usize) -> usize
+    ensures { λ r. ⌜ r ≡ letterFirst (drop at (now (s .entry))) ⌝ }
+{
+    if s.len() <= at {
+        return 0;
+    }
+    let a = s[at];
+    if a < 0xC3 {
+        return 0;
+    }
+    if a < 0xE0 {
+        return length_of_two(a, byte_at(s, at + 1));
+    }
+    if is_letter_head(a) {
+        return length_of_three(a, byte_at(s, at + 1), byte_at(s, at + 2));
+    }
+    0
 }
 
 // The length of the longest well-formed prefix of s: all of s exactly if s is well-formed.

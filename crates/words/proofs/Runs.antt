@@ -5,17 +5,21 @@ use mathlib.Core.Bool.{Bool, true, false, cond, not}
 use mathlib.Core.List.{List, [], _∷_, _++_, append-nil, append-assoc}
 use native.Mathlib.Omega.{arith}
 use lib.Dec.{leb, eqb}
-use borrow.Author.Tests.{leb-false}
+use borrow.Author.Tests.{leb-false, ne-eqb, not-true}
 use Rattle.text.proofs.Rows.{decode-ascii}
-use Rattle.text.proofs.Spaces.{below-passes}
+use Rattle.text.proofs.Spaces.{allBelow, below-passes}
+use Rattle.text.proofs.Letters.{Letter, letter-told}
+use Rattle.text.proofs.Encoding.{below-or-not}
+use mathlib.Core.Logic.{⊎-elim}
+use Rattle.buffer.proofs.Lists.{drop-step, drop-end}
 use Rattle.text.specs.Space.{whiteSpace, among, isWhiteSpace}
 use lib.ListN.{getD, length, take, drop}
 use lib.Seq.{drop-drop, take-add, append-snoc}
 use types.Run.{OneOf, miss}
 use denote.Enum.Declared.{tagOf}
-use Rattle.buffer.proofs.Choices.{then-is, true-is-not-false}
+use Rattle.buffer.proofs.Choices.{then-is, else-is, true-is-not-false}
 use Rattle.text.specs.Unicode.{encode, encodeAll}
-use Rattle.text.specs.Decoding.{decodeFirst, codesIn}
+use Rattle.text.specs.Decoding.{decodeFirst, codesIn, letterFirst}
 use Rattle.text.specs.declared.utf8.Decoded.the-variants.{Character}
 use Rattle.text.proofs.Pieces.{character-bytes, character-some, character-fits}
 use Rattle.text.proofs.Prefix.{codes-step, prefix-turn, encode-append}
@@ -23,7 +27,7 @@ use Rattle.words.specs.declared.turn.Turn.{Turn}
 use Rattle.words.specs.declared.turn.Turn.the-variants.{Take, Escape, Toggle, Gap}
 use Rattle.words.specs.declared.scan.Scan.{Scan}
 use Rattle.words.specs.Tokens.{backslash, quote, turnOf, tokensFrom}
-use Rattle.words.specs.Scan.{ordinary, doneBy, isTake, runFirst, Reading, StepOf, Run, WholeRun}
+use Rattle.words.specs.Scan.{ordinary, ordinaryFirst, doneBy, isTake, runFirst, Reading, StepOf, Run, WholeRun}
 use Rattle.words.specs.declared.step.Step.{Step}
 use Rattle.words.specs.declared.step.Step.the-variants.{Go, IllFormed}
 use Rattle.words.proofs.turn.Turn.{the-type}
@@ -201,8 +205,8 @@ reading-on line s n end h w =
           ∙ ap (λ (l : List ℕ). tokensFrom l (s .quotes) false rest) (append-assoc word (h .run) (r .run));
     }
 
--- an ordinary byte is a character that is taken, inside quotes or not
-pub small : (b : ℕ) → ordinary b ≡ true → b < 0x80
+-- an ordinary byte is an ASCII character
+small : (b : ℕ) → ordinary b ≡ true → b < 0x80
 unfolding ordinary
 small b h = by (leb b 0x20) (leb 0x7F b) refl h
   where
@@ -211,24 +215,72 @@ small b h = by (leb b 0x20) (leb 0x7F b) refl h
     by false true e q = absurd (true-is-not-false (sym q))
     by false false e q = let k = leb-false 0x7F b e in omega arith
 
-pub implied : (a b : Bool) → cond a b true ≡ true → a ≡ true → b ≡ true
+implied : (a b : Bool) → cond a b true ≡ true → a ≡ true → b ≡ true
 implied true b e h = e
 implied false b e h = cc
 
-is-take : (t : Turn) → isTake t ≡ true → t ≡ Take
-is-take Take e = refl
-is-take Escape e = cc
-is-take Toggle e = cc
-is-take Gap e = cc
+-- an ordinary character: neither `\` nor `"` nor white space
+pub record Ordinary (s : List ℕ) (n : ℕ) : Type 0 where
+  pub code : ℕ
+  pub decodes : decodeFirst s ≡ Character code n
+  pub no-escape : eqb code backslash ≡ false
+  pub no-quote : eqb code quote ≡ false
+  pub solid : isWhiteSpace code ≡ false
 
-takes : (quotes : Bool) (b : ℕ) → ordinary b ≡ true → turnOf quotes false b ≡ Take
-unfolding ordinary turnOf isWhiteSpace whiteSpace among
-takes true b h = is-take (turnOf true false b) (implied (ordinary b) (isTake (turnOf true false b)) (below-passes (λ n. cond (ordinary n) (isTake (turnOf true false n)) true) 0x80 b refl (small b h)) h)
-takes false b h = is-take (turnOf false false b) (implied (ordinary b) (isTake (turnOf false false b)) (below-passes (λ n. cond (ordinary n) (isTake (turnOf false false n)) true) 0x80 b refl (small b h)) h)
+-- what no ordinary byte is
+never : (f : ℕ → Bool) (b : ℕ) → allBelow (λ n. cond (ordinary n) (not (f n)) true) 0x80 ≡ true → ordinary b ≡ true → f b ≡ false
+never f b h k = not-true (f b) (implied (ordinary b) (not (f b)) (below-passes (λ n. cond (ordinary n) (not (f n)) true) 0x80 b h (small b k)) k)
 
-pub run-ordinary : (line : List ℕ) (start : ℕ) (quotes : Bool) (at : ℕ) → Run line start quotes at → at < length line → ordinary (getD line at 0) ≡ true → Run line start quotes (at + 1)
-run-ordinary line start quotes at r h k =
-    run-on line start quotes at (at + 1) r (run-one line quotes at (getD line at 0) 1 (decode-ascii line at h (small (getD line at 0) k)) (takes quotes (getD line at 0) k))
+ordinary-byte : (s : List ℕ) (at : ℕ) → at < length s → ordinary (getD s at 0) ≡ true → Ordinary (drop at s) 1
+unfolding ordinary isWhiteSpace whiteSpace among
+ordinary-byte s at h k =
+    record {
+      code = getD s at 0;
+      decodes = decode-ascii s at h (small (getD s at 0) k);
+      no-escape = never (λ n. eqb n backslash) (getD s at 0) refl k;
+      no-quote = never (λ n. eqb n quote) (getD s at 0) refl k;
+      solid = never isWhiteSpace (getD s at 0) refl k;
+    }
+
+ordinary-letter : (s : List ℕ) (n : ℕ) → Letter s n → Ordinary s n
+ordinary-letter s n l =
+    let p = l .past in
+    record {
+      code = l .code;
+      decodes = l .decodes;
+      no-escape = ne-eqb (l .code) backslash (λ e. omega arith);
+      no-quote = ne-eqb (l .code) quote (λ e. omega arith);
+      solid = l .solid;
+    }
+
+-- the ordinary character at a place
+pub ordinary-end : (s : List ℕ) (at : ℕ) → length s ≤ at → ordinaryFirst (drop at s) ≡ 0
+unfolding ordinaryFirst
+ordinary-end s at h = rw (drop-end s at h)
+
+pub ordinary-is : (s : List ℕ) (at : ℕ) (t : Bool) → at < length s → ordinary (getD s at 0) ≡ t → ordinaryFirst (drop at s) ≡ cond t 1 (letterFirst (drop at s))
+unfolding ordinaryFirst
+ordinary-is s at t h e = rw (drop-step s at 0 h, e)
+
+pub ordinary-told : (s : List ℕ) (at n : ℕ) → n ≡ ordinaryFirst (drop at s) → (n ≡ 0 → ⊥) → Ordinary (drop at s) n
+ordinary-told s at n e some = ⊎-elim (λ (h : at < length s). by h (ordinary (getD s at 0)) refl) (λ (h : length s ≤ at). absurd (some (e ∙ ordinary-end s at h))) (below-or-not at (length s))
+  where
+    by : at < length s → (t : Bool) → ordinary (getD s at 0) ≡ t → Ordinary (drop at s) n
+    by h true k = rw (e ∙ ordinary-is s at true h k) (ordinary-byte s at h k)
+    by h false k = ordinary-letter (drop at s) n (letter-told (drop at s) n (sym (e ∙ ordinary-is s at false h k)) some)
+
+-- it is taken, inside quotes or not
+takes : (quotes : Bool) (s : List ℕ) (n : ℕ) (o : Ordinary s n) → turnOf quotes false (o .code) ≡ Take
+unfolding turnOf
+takes true s n o = else-is _ _ _ (o .no-escape) ∙ else-is _ _ _ (o .no-quote)
+takes false s n o = else-is _ _ _ (o .no-escape) ∙ else-is _ _ _ (o .no-quote) ∙ else-is _ _ _ (o .solid)
+
+pub run-ordinary : (line : List ℕ) (start : ℕ) (quotes : Bool) (at n : ℕ) → Run line start quotes at → Ordinary (drop at line) n → Run line start quotes (at + n)
+run-ordinary line start quotes at n r o =
+    run-on line start quotes at (at + n) r (run-one line quotes at (o .code) n (o .decodes) (takes quotes (drop at line) n o))
+
+pub ordinary-fits : (line : List ℕ) (at n : ℕ) → n ≡ ordinaryFirst (drop at line) → (n ≡ 0 → ⊥) → at + n ≤ length line
+ordinary-fits line at n e some = let o = ordinary-told line at n e some in character-fits line at (o .code) n (o .decodes)
 
 -- what a step found, by its answer
 pub step-goes : (line : List ℕ) (s : Scan) (r : Step) (t : Turn) (n : ℕ) → StepOf line s r → r ≡ Go t n → Reading line s t n

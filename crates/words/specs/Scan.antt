@@ -7,7 +7,7 @@ use lib.Dec.{eqb, ltb, leb}
 use lib.ListN.{length, take, drop}
 use Rattle.buffer.specs.Write.{overAt}
 use Rattle.frame.specs.Text.{number}
-use Rattle.text.specs.Decoding.{codesIn, wellFormedLength}
+use Rattle.text.specs.Decoding.{codesIn, letterFirst, wellFormedLength}
 use Rattle.words.specs.Answer.{written}
 use Rattle.words.specs.declared.turn.Turn.{Turn}
 use Rattle.words.specs.declared.turn.Turn.the-variants.{Take, Escape, Toggle, Gap}
@@ -56,6 +56,11 @@ advanced s Gap n = record { at = s .at + n; done = closedAt (s .done) (s .word);
 -- an ASCII character that is taken anywhere
 unfoldable pub ordinary : ℕ → Bool
 ordinary b = cond (leb b 0x20) false (cond (leb 0x7F b) false (cond (eqb b quote) false (not (eqb b backslash))))
+
+-- the length of the ordinary character that a text begins with, an ASCII character or a letter; 0 if it begins with any other
+unfoldable pub ordinaryFirst : List ℕ → ℕ
+ordinaryFirst [] = 0
+ordinaryFirst (a ∷ s) = cond (ordinary a) 1 (letterFirst (a ∷ s))
 
 -- what a step reads: characters that fill n bytes, and together do what the turn says
 pub record Reading (line : List ℕ) (s : Scan) (turn : Turn) (n : ℕ) : Type 0 where

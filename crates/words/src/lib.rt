@@ -4,6 +4,6 @@ mod step;
 mod tokenizer;
 mod turn;
 
-pub use step::is_ordinary;
+pub use step::ordinary_at;
 pub use tokenizer::Tokens;
 pub use tokenizer::tokenize;

@@ -2,13 +2,14 @@
 ghost use Prim.Native.Nat.{_≤_, _<_};
 ghost use mathlib.Core.Path.{_≡_};
 ghost use mathlib.Core.Bool.{Bool};
-ghost use lib.ListN.{length};
-ghost use Rattle.words.specs.Scan.{StepOf, Run, WholeRun, ordinary};
+ghost use lib.ListN.{length, drop};
+ghost use Rattle.words.specs.Scan.{StepOf, Run, WholeRun, ordinary, ordinaryFirst};
 use super::scan::Scan;
 use super::turn::Turn;
 use super::turn::turn_of;
 use text::Decoded;
 use text::decode;
+use text::letter_at;
 
 // What a step finds: characters that fill a length and together do one thing, or no character.
 pub enum Step {
@@ -17,7 +18,7 @@ pub enum Step {
 }
 
 // Whether a byte is an ASCII character that is taken anywhere: neither white space nor a control nor `"` nor `\`.
-pub fn is_ordinary(byte: u8) -> bool
+fn is_ordinary(byte: u8) -> bool
     ensures { λ r. ⌜ r ≡ ordinary byte ⌝ }
 {
     if byte <= 0x20 {
@@ -32,17 +33,32 @@ pub fn is_ordinary(byte: u8) -> bool
     byte != 0x5C
 }
 
-// The place behind the ordinary characters from a place on: most of a line, and they need no decoder.
+// The length of the character at a place if it is taken anywhere, as far as its bytes show it without a decoder: an ordinary
+// ASCII character or a letter. 0 for any other.
+pub fn ordinary_at(line: &[u8], at: usize) -> usize
+    ensures { λ r. ⌜ r ≡ ordinaryFirst (drop at (now (line .entry))) ⌝ }
+{
+    if line.len() <= at {
+        return 0;
+    }
+    if is_ordinary(line[at]) {
+        return 1;
+    }
+    letter_at(line, at)
+}
+
+// The place behind the ordinary characters from a place on: most of a line.
 fn ordinary_end(line: &[u8], start: usize) -> usize
     requires { ⌜ start ≤ length (now line) ⌝ }
     ensures { λ r. ⌜ ((quotes : Bool) → Run (now (line .entry)) start quotes r) ⌝ }
 {
     let mut at = start;
     while at < line.len() {
-        if !is_ordinary(line[at]) {
+        let n = ordinary_at(line, at);
+        if n == 0 {
             return at;
         }
-        at += 1;
+        at += n;
     }
     at
 }

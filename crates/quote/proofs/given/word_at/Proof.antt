@@ -1,11 +1,8 @@
 -- `quote::given::word_at` meets its contract: a whole frame of kind 14 whose text is good, and nothing else.
-use Rattle.quote.proofs.Listing.{item-none, item-other, item-judged, frame-room, part-is}
-use Rattle.quote.specs.Given.{goodWord}
-use borrow.Author.Needs.{needs}
+use Rattle.quote.proofs.Listing.{item-none, item-other, item-judged, frame-room, part-length}
 use native.Mathlib.Omega.{arith}
-use mathlib.Core.Path.{sym, ap, _∙_}
-use mathlib.Core.Bool.{true, false}
-use lib.ListN.{drop}
+use mathlib.Core.Path.{sym, _∙_}
+use borrow.Author.Needs.{needs}
 use Rattle.quote.proofs.given.word_at.Statement.{statement}
 use Rattle.quote.proofs.given.word_at.Tie as tie
 
@@ -27,23 +24,23 @@ add-start c = let f = frame-room (c .before .before .before .before .before .bef
 add-end : tie.Need-add-end
 add-end c = let f = frame-room (c .before .before .before .before .before .before .args .words .now) (c .before .before .before .before .before .before .args .at) _ _ (sym (c .before .before .before .before .read-frame .ensures) ∙ c .before .before .kind .given .1) in omega arith
 
-sub-is-good : tie.Need-sub-is-good
-sub-is-good c = search needs
+sub-item-of : tie.Need-sub-item-of
+sub-item-of c = search needs
 
-part-is-good-start : tie.Need-part-is-good-start
-part-is-good-start c = search needs
+part-item-of-start : tie.Need-part-item-of-start
+part-item-of-start c = search needs
 
-part-is-good-end : tie.Need-part-is-good-end
-part-is-good-end c = let f = frame-room (c .before .before .before .before .before .before .args .words .now) (c .before .before .before .before .before .before .args .at) _ _ (sym (c .before .before .before .before .read-frame .ensures) ∙ c .before .before .kind .given .1) in omega arith
+part-item-of-end : tie.Need-part-item-of-end
+part-item-of-end c = let f = frame-room (c .before .before .before .before .before .before .args .words .now) (c .before .before .before .before .before .before .args .at) _ _ (sym (c .before .before .before .before .read-frame .ensures) ∙ c .before .before .kind .given .1) in omega arith
 
-is-good-requires : tie.Need-is-good-requires
-is-good-requires c κs = search needs
+item-of-requires : tie.Need-item-of-requires
+item-of-requires c κs =
+    let f = frame-room (c .before .before .before .before .before .before .before .args .words .now) (c .before .before .before .before .before .before .before .args .at) _ _ (sym (c .before .before .before .before .before .read-frame .ensures) ∙ c .before .before .before .kind .given .1) in
+    let l = part-length (c .before .before .before .before .before .before .before .args .words .now) (c .before .before .before .before .before .before .before .args .at) _ f in
+    omega arith
 
 returns-3 : tie.Need-returns-3
-returns-3 c = sym (item-judged (drop (c .before .before .before .before .before .before .before .before .before .args .at) (c .before .before .before .before .before .before .before .before .before .args .words .now)) _ _ true (sym (c .before .before .before .before .before .before .before .read-frame .ensures) ∙ c .before .before .before .before .before .kind .given .1) (c .before .before .before .if1 .left) (ap goodWord (sym (part-is (c .before .before .before .before .before .before .before .before .before .args .words .now) (c .before .before .before .before .before .before .before .before .before .args .at) _)) ∙ sym (c .before .is-good .ensures) ∙ c .if2 .taken))
-
-returns-4 : tie.Need-returns-4
-returns-4 c = sym (item-judged (drop (c .before .before .before .before .before .before .before .before .before .args .at) (c .before .before .before .before .before .before .before .before .before .args .words .now)) _ _ false (sym (c .before .before .before .before .before .before .before .read-frame .ensures) ∙ c .before .before .before .before .before .kind .given .1) (c .before .before .before .if1 .left) (ap goodWord (sym (part-is (c .before .before .before .before .before .before .before .before .before .args .words .now) (c .before .before .before .before .before .before .before .before .before .args .at) _)) ∙ sym (c .before .is-good .ensures) ∙ c .if2 .left))
+returns-3 c = item-judged (c .before .before .before .before .before .before .before .before .args .words .now) (c .before .before .before .before .before .before .before .before .args .at) _ _ _ (sym (c .before .before .before .before .before .before .read-frame .ensures) ∙ c .before .before .before .before .kind .given .1) (c .before .before .if1 .left) (c .item-of .ensures)
 
 pub word-at-spec : {M : Type 1} → statement M
 word-at-spec =
@@ -55,9 +52,8 @@ word-at-spec =
     returns-2
     add-start
     add-end
-    sub-is-good
-    part-is-good-start
-    part-is-good-end
-    is-good-requires
-    returns-3
-    returns-4)
+    sub-item-of
+    part-item-of-start
+    part-item-of-end
+    item-of-requires
+    returns-3)

@@ -1,5 +1,6 @@
 -- `quote::quoter::measure` meets its contract: what is counted and what the words still to come add make up the whole.
-use Rattle.quote.proofs.Counting.{gap-most, item-room, item-formed, item-length, Counted, counted-start, counted-cost, counted-turn, counted-bad, counted-end}
+use Rattle.quote.proofs.Listing.{item-told}
+use Rattle.quote.proofs.Counting.{gap-most, word-within, Counted, counted-start, counted-cost, counted-turn, counted-bad, counted-end}
 use native.Mathlib.Omega.{arith}
 use Prim.Native.Nat.{_-_}
 use mathlib.Core.Path.{sym, _∙_}
@@ -28,49 +29,33 @@ enum-told c = c .match .keys2
 returns : tie.Need-returns Inv-loop μ-loop
 returns c = sym (counted-bad (c .before .before .before .before .before .before .args .words .now) _ _ (c .before .before .before .before .loop .at) (c .before .before .before .before .loop .inv) (c .before .before .before .loop-test .taken) (sym (c .before .before .word-at .ensures) ∙ c .enum-told .given .1))
 
-add-start : tie.Need-add-start Inv-loop μ-loop
-add-start c = let f = item-room (c .before .before .before .before .before .before .before .args .words .now) (c .before .before .before .before .before .loop .at) _ (sym (c .before .before .before .word-at .ensures) ∙ c .before .length .given .1) in omega arith
-
-add-end : tie.Need-add-end Inv-loop μ-loop
-add-end c = let f = item-room (c .before .before .before .before .before .before .before .args .words .now) (c .before .before .before .before .before .loop .at) _ (sym (c .before .before .before .word-at .ensures) ∙ c .before .length .given .1) in omega arith
-
 gap-size-requires : tie.Need-gap-size-requires Inv-loop μ-loop
 gap-size-requires c κs = tt
 
 add-size : tie.Need-add-size Inv-loop μ-loop
-add-size c = let f = item-room (c .before .before .before .before .before .before .before .before .args .words .now) (c .before .before .before .before .before .before .loop .at) _ (sym (c .before .before .before .before .word-at .ensures) ∙ c .before .before .length .given .1) in omega (arith, f, gap-most (c .before .before .before .before .before .before .loop .n), c .gap-size .ensures, c .before .before .before .before .before .before .loop .inv .cost)
-
-sub-shown-size : tie.Need-sub-shown-size Inv-loop μ-loop
-sub-shown-size c = omega arith
-
-part-shown-size-start : tie.Need-part-shown-size-start Inv-loop μ-loop
-part-shown-size-start c = let f = item-room (c .before .before .before .before .before .before .before .before .args .words .now) (c .before .before .before .before .before .before .loop .at) _ (sym (c .before .before .before .before .word-at .ensures) ∙ c .before .before .length .given .1) in omega arith
-
-part-shown-size-end : tie.Need-part-shown-size-end Inv-loop μ-loop
-part-shown-size-end c = let f = item-room (c .before .before .before .before .before .before .before .before .args .words .now) (c .before .before .before .before .before .before .loop .at) _ (sym (c .before .before .before .before .word-at .ensures) ∙ c .before .before .length .given .1) in omega arith
-
-shown-size-requires : tie.Need-shown-size-requires Inv-loop μ-loop
-shown-size-requires c κs =
-    let e = sym (c .before .before .before .before .before .word-at .ensures) ∙ c .before .before .before .length .given .1 in
-    let f = item-room (c .before .before .before .before .before .before .before .before .before .args .words .now) (c .before .before .before .before .before .before .before .loop .at) _ e in
-    let l = item-length (c .before .before .before .before .before .before .before .before .before .args .words .now) (c .before .before .before .before .before .before .before .loop .at) _ e in
-    (item-formed (c .before .before .before .before .before .before .before .before .before .args .words .now) (c .before .before .before .before .before .before .before .loop .at) _ e, omega arith)
+add-size c = omega (arith, gap-most (c .before .before .before .before .before .before .loop .n), c .gap-size .ensures, c .before .before .before .before .before .before .loop .inv .cost, c .before .before .before .before .before .loop-test .taken)
 
 add-size-2 : tie.Need-add-size-2 Inv-loop μ-loop
 add-size-2 c =
-    let e = sym (c .before .before .before .before .before .before .word-at .ensures) ∙ c .before .before .before .before .length .given .1 in
-    let f = item-room (c .before .before .before .before .before .before .before .before .before .before .args .words .now) (c .before .before .before .before .before .before .before .before .loop .at) _ e in
-    let k = counted-cost (c .before .before .before .before .before .before .before .before .before .before .args .words .now) _ _ (c .before .before .before .before .before .before .before .before .loop .at) (c .before .before .before .before .before .before .before .before .loop .inv) _ _ _ e (c .before .before .gap-size .ensures) (c .shown-size .ensures) in
+    let i = item-told _ _ _ (sym (c .before .before .before .before .word-at .ensures) ∙ c .before .before .length .given .1) in
+    let f = word-within (c .before .before .before .before .before .before .before .before .args .words .now) (c .before .before .before .before .before .before .loop .at) _ (i .word) in
+    let k = counted-cost (c .before .before .before .before .before .before .before .before .args .words .now) _ _ (c .before .before .before .before .before .before .loop .at) (c .before .before .before .before .before .before .loop .inv) _ _ _ i (c .gap-size .ensures) in
     omega arith
 
 add-n : tie.Need-add-n Inv-loop μ-loop
-add-n c = omega (arith, c .before .before .before .before .before .before .before .before .loop .inv .few, c .before .before .before .before .before .before .before .loop-test .taken)
+add-n c = omega (arith, c .before .before .before .before .before .before .loop .inv .few, c .before .before .before .before .before .loop-test .taken)
+
+add-at : tie.Need-add-at Inv-loop μ-loop
+add-at c = omega (arith, c .before .before .before .before .before .loop-test .taken)
+
+add-at-2 : tie.Need-add-at-2 Inv-loop μ-loop
+add-at-2 c = let f = word-within (c .before .before .before .before .before .before .before .before .args .words .now) (c .before .before .before .before .before .before .loop .at) _ (item-told _ _ _ (sym (c .before .before .before .before .word-at .ensures) ∙ c .before .before .length .given .1) .word) in omega arith
 
 loop-less : tie.Need-loop-less Inv-loop μ-loop
-loop-less c = let f = item-room (c .before .before .before .before .before .before .before .before .before .before .args .words .now) (c .before .before .before .before .before .before .before .before .loop .at) _ (sym (c .before .before .before .before .before .before .word-at .ensures) ∙ c .before .before .before .before .length .given .1) in omega arith
+loop-less c = let f = word-within (c .before .before .before .before .before .before .before .before .args .words .now) (c .before .before .before .before .before .before .loop .at) _ (item-told _ _ _ (sym (c .before .before .before .before .word-at .ensures) ∙ c .before .before .length .given .1) .word) in omega (arith, f, c .before .before .before .before .before .loop-test .taken)
 
 loop-again : tie.Need-loop-again Inv-loop μ-loop
-loop-again c = counted-turn (c .before .before .before .before .before .before .before .before .before .before .args .words .now) _ _ (c .before .before .before .before .before .before .before .before .loop .at) (c .before .before .before .before .before .before .before .before .loop .inv) _ _ _ (sym (c .before .before .before .before .before .before .word-at .ensures) ∙ c .before .before .before .before .length .given .1) (c .before .before .gap-size .ensures) (c .shown-size .ensures)
+loop-again c = counted-turn (c .before .before .before .before .before .before .before .before .args .words .now) _ _ (c .before .before .before .before .before .before .loop .at) (c .before .before .before .before .before .before .loop .inv) _ _ _ (item-told _ _ _ (sym (c .before .before .before .before .word-at .ensures) ∙ c .before .before .length .given .1)) (c .gap-size .ensures)
 
 returns-2 : tie.Need-returns-2 Inv-loop μ-loop
 returns-2 c = sym (counted-end (c .before .before .before .args .words .now) _ _ (c .before .loop .at) (c .before .loop .inv) (c .loop-test .left))
@@ -86,16 +71,12 @@ measure-spec =
     enum-known-length
     enum-told
     returns
-    add-start
-    add-end
     gap-size-requires
     add-size
-    sub-shown-size
-    part-shown-size-start
-    part-shown-size-end
-    shown-size-requires
     add-size-2
     add-n
+    add-at
+    add-at-2
     loop-less
     loop-again
     returns-2)

@@ -1,7 +1,7 @@
 -- `quote::quoter::write` meets its contract: each word is a write right behind those before it; a bad word does not come up.
 use Rattle.quote.proofs.Listing.{item-none}
 use Rattle.quote.proofs.Laying.{Laying, laying-start, laying-end, word-room, word-turn}
-use Rattle.quote.proofs.Counting.{fine-item, item-room, item-formed, restLine, rest-start, rest-bad, rest-end, fine-turn}
+use Rattle.quote.proofs.Counting.{fine-word, word-within, word-formed, restLine, rest-start, rest-bad, rest-end, fine-turn}
 use Rattle.quote.specs.Steps.{IsFine}
 use Rattle.quote.specs.Answer.{lineOf}
 use Rattle.quote.specs.Given.{listed, judge}
@@ -35,35 +35,35 @@ returns : tie.Need-returns Inv-loop μ-loop
 returns c = absurd (rest-bad (c .before .before .before .before .before .before .args .words .now) (c .before .before .before .loop .n) (c .before .before .before .loop .at) (c .before .before .before .loop .inv .2) (c .before .before .loop-test .taken) (item-none _ _ (sym (c .before .read-frame .ensures)) (c .match .keys2)))
 
 add-start : tie.Need-add-start Inv-loop μ-loop
-add-start c = let f = item-room (c .before .before .before .before .before .before .before .before .args .words .now) (c .before .before .before .before .before .loop .at) _ (fine-item _ _ _ (c .before .before .before .before .before .loop .inv .2) (sym (c .before .before .before .read-frame .ensures) ∙ c .before .length .given .1)) in omega arith
+add-start c = let f = word-within (c .before .before .before .before .before .before .before .before .args .words .now) (c .before .before .before .before .before .loop .at) _ (fine-word _ _ _ (c .before .before .before .before .before .loop .inv .2) (sym (c .before .before .before .read-frame .ensures) ∙ c .before .length .given .1)) in omega arith
 
 add-end : tie.Need-add-end Inv-loop μ-loop
-add-end c = let f = item-room (c .before .before .before .before .before .before .before .before .args .words .now) (c .before .before .before .before .before .loop .at) _ (fine-item _ _ _ (c .before .before .before .before .before .loop .inv .2) (sym (c .before .before .before .read-frame .ensures) ∙ c .before .length .given .1)) in omega arith
+add-end c = let f = word-within (c .before .before .before .before .before .before .before .before .args .words .now) (c .before .before .before .before .before .loop .at) _ (fine-word _ _ _ (c .before .before .before .before .before .loop .inv .2) (sym (c .before .before .before .read-frame .ensures) ∙ c .before .length .given .1)) in omega arith
 
 sub-push-word : tie.Need-sub-push-word Inv-loop μ-loop
 sub-push-word c = omega arith
 
 part-push-word-start : tie.Need-part-push-word-start Inv-loop μ-loop
-part-push-word-start c = let f = item-room (c .before .before .before .before .before .before .before .before .args .words .now) (c .before .before .before .before .before .loop .at) _ (fine-item _ _ _ (c .before .before .before .before .before .loop .inv .2) (sym (c .before .before .before .read-frame .ensures) ∙ c .before .length .given .1)) in omega arith
+part-push-word-start c = let f = word-within (c .before .before .before .before .before .before .before .before .args .words .now) (c .before .before .before .before .before .loop .at) _ (fine-word _ _ _ (c .before .before .before .before .before .loop .inv .2) (sym (c .before .before .before .read-frame .ensures) ∙ c .before .length .given .1)) in omega arith
 
 part-push-word-end : tie.Need-part-push-word-end Inv-loop μ-loop
-part-push-word-end c = let f = item-room (c .before .before .before .before .before .before .before .before .args .words .now) (c .before .before .before .before .before .loop .at) _ (fine-item _ _ _ (c .before .before .before .before .before .loop .inv .2) (sym (c .before .before .before .read-frame .ensures) ∙ c .before .length .given .1)) in omega arith
+part-push-word-end c = let f = word-within (c .before .before .before .before .before .before .before .before .args .words .now) (c .before .before .before .before .before .loop .at) _ (fine-word _ _ _ (c .before .before .before .before .before .loop .inv .2) (sym (c .before .before .before .read-frame .ensures) ∙ c .before .length .given .1)) in omega arith
 
 push-word-requires : tie.Need-push-word-requires Inv-loop μ-loop
 push-word-requires c κs =
-    let e = fine-item _ _ _ (c .before .before .before .before .before .before .before .loop .inv .2) (sym (c .before .before .before .before .before .read-frame .ensures) ∙ c .before .before .before .length .given .1) in
+    let e = fine-word _ _ _ (c .before .before .before .before .before .before .before .loop .inv .2) (sym (c .before .before .before .before .before .read-frame .ensures) ∙ c .before .before .before .length .given .1) in
     let r = word-room (lineOf (c .before .before .before .before .before .before .before .before .before .before .args .words .now)) (c .before .before .before .before .before .before .before .before .before .before .args .words .now) (c .before .before .before .before .before .before .before .before .before .before .args .out .now) _ (c .before .before .before .before .before .before .before .loop .n) (c .before .before .before .before .before .before .before .loop .at) _ _ (c .before .before .before .before .before .before .before .loop .inv .3) (c .before .before .before .before .before .before .before .loop .inv .2) e (c .before .before .before .before .before .before .before .before .before .before .pre .1) in
-    (item-formed (c .before .before .before .before .before .before .before .before .before .before .args .words .now) (c .before .before .before .before .before .before .before .loop .at) _ e, omega (arith, r, c .before .before .before .before .before .before .before .loop .inv .0))
+    (word-formed (c .before .before .before .before .before .before .before .before .before .before .args .words .now) (c .before .before .before .before .before .before .before .loop .at) _ e, omega (arith, r, c .before .before .before .before .before .before .before .loop .inv .0))
 
 add-n : tie.Need-add-n Inv-loop μ-loop
 add-n c = omega (arith, c .before .before .before .before .before .before .before .before .before .before .loop .inv .1, c .before .before .before .before .before .before .before .before .before .loop-test .taken)
 
 loop-less : tie.Need-loop-less Inv-loop μ-loop
-loop-less c = let f = item-room (c .before .before .before .before .before .before .before .before .before .before .before .before .before .args .words .now) (c .before .before .before .before .before .before .before .before .before .before .loop .at) _ (fine-item _ _ _ (c .before .before .before .before .before .before .before .before .before .before .loop .inv .2) (sym (c .before .before .before .before .before .before .before .before .read-frame .ensures) ∙ c .before .before .before .before .before .before .length .given .1)) in omega arith
+loop-less c = let f = word-within (c .before .before .before .before .before .before .before .before .before .before .before .before .before .args .words .now) (c .before .before .before .before .before .before .before .before .before .before .loop .at) _ (fine-word _ _ _ (c .before .before .before .before .before .before .before .before .before .before .loop .inv .2) (sym (c .before .before .before .before .before .before .before .before .read-frame .ensures) ∙ c .before .before .before .before .before .before .length .given .1)) in omega arith
 
 loop-again : tie.Need-loop-again Inv-loop μ-loop
 loop-again c =
-    let e = fine-item _ _ _ (c .before .before .before .before .before .before .before .before .before .before .loop .inv .2) (sym (c .before .before .before .before .before .before .before .before .read-frame .ensures) ∙ c .before .before .before .before .before .before .length .given .1) in (
+    let e = fine-word _ _ _ (c .before .before .before .before .before .before .before .before .before .before .loop .inv .2) (sym (c .before .before .before .before .before .before .before .before .read-frame .ensures) ∙ c .before .before .before .before .before .before .length .given .1) in (
       c .before .before .push-word .kept .1 .1 .0 ∙ c .before .before .before .before .before .before .before .before .before .before .loop .inv .0,
       omega (arith, c .before .before .before .before .before .before .before .before .before .before .loop .inv .1),
       fine-turn (c .before .before .before .before .before .before .before .before .before .before .before .before .before .args .words .now) (c .before .before .before .before .before .before .before .before .before .before .loop .n) (c .before .before .before .before .before .before .before .before .before .before .loop .at) (c .before .before .before .before .before .before .before .before .before .before .loop .inv .2) _ e,

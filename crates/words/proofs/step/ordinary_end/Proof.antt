@@ -1,12 +1,9 @@
 -- `words::step::ordinary_end` meets its contract. What is passed is a run, inside quotes or not.
-use Rattle.words.proofs.Runs.{run-start, run-ordinary}
+use Rattle.words.proofs.Runs.{run-start, run-ordinary, ordinary-told, ordinary-fits}
 use Rattle.words.specs.Scan.{Run}
-use borrow.Author.Needs.{needs}
 use native.Mathlib.Omega.{arith}
 use Prim.Native.Nat.{_≤_, _-_}
-use mathlib.Core.Path.{sym, _∙_}
 use mathlib.Core.Bool.{Bool}
-use borrow.Author.Tests.{not-false}
 use lib.ListN.{length}
 use Rattle.words.proofs.step.ordinary_end.Statement.{statement}
 use Rattle.words.proofs.step.ordinary_end.Tie as tie
@@ -20,26 +17,23 @@ abbrev μ-loop : tie.MeasureT-loop
 loop-holds : tie.Need-loop-holds Inv-loop μ-loop
 loop-holds c = (c .before .pre, λ quotes. run-start _ _ quotes (c .before .pre))
 
-shared-slice-read-is-ordinary : tie.Need-shared-slice-read-is-ordinary Inv-loop μ-loop
-shared-slice-read-is-ordinary c = search needs
-
-is-ordinary-requires : tie.Need-is-ordinary-requires Inv-loop μ-loop
-is-ordinary-requires c κs = search needs
+ordinary-at-requires : tie.Need-ordinary-at-requires Inv-loop μ-loop
+ordinary-at-requires c κs = tt
 
 returns : tie.Need-returns Inv-loop μ-loop
-returns c = search needs
+returns c = c .before .before .before .loop .inv .1
 
 add-at : tie.Need-add-at Inv-loop μ-loop
-add-at c = search needs
+add-at c = let f = ordinary-fits (c .before .before .before .before .before .args .line .now) (c .before .before .before .loop .at) _ (c .before .ordinary-at .ensures) (c .if1 .left) in omega arith
 
 loop-less : tie.Need-loop-less Inv-loop μ-loop
-loop-less c = search needs
+loop-less c = let f = ordinary-fits (c .before .before .before .before .before .args .line .now) (c .before .before .before .loop .at) _ (c .before .ordinary-at .ensures) (c .if1 .left) in omega (arith, f, c .if1 .left)
 
 loop-again : tie.Need-loop-again Inv-loop μ-loop
-loop-again c = (omega arith, λ quotes. run-ordinary _ _ quotes _ (c .before .before .before .before .loop .inv .1 quotes) (c .before .before .before .loop-test .taken) (sym (c .before .is-ordinary .ensures) ∙ not-false _ (c .if1 .left)))
+loop-again c = (ordinary-fits (c .before .before .before .before .before .args .line .now) (c .before .before .before .loop .at) _ (c .before .ordinary-at .ensures) (c .if1 .left), λ quotes. run-ordinary _ _ quotes _ _ (c .before .before .before .loop .inv .1 quotes) (ordinary-told (c .before .before .before .before .before .args .line .now) (c .before .before .before .loop .at) _ (c .before .ordinary-at .ensures) (c .if1 .left)))
 
 returns-2 : tie.Need-returns-2 Inv-loop μ-loop
-returns-2 c = search needs
+returns-2 c = c .before .loop .inv .1
 
 pub ordinary-end-spec : {M : Type 1} → statement M
 ordinary-end-spec =
@@ -48,8 +42,7 @@ ordinary-end-spec =
     Inv-loop
     μ-loop
     loop-holds
-    shared-slice-read-is-ordinary
-    is-ordinary-requires
+    ordinary-at-requires
     returns
     add-at
     loop-less
