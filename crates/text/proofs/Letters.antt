@@ -2,7 +2,10 @@
 use Prim.Native.Nat.{ℕ, zero, suc, _+_, _*_, _%_, _<_, _≤_}
 use mathlib.Core.Path.{_≡_, refl, sym, ap, _∙_}
 use mathlib.Core.Bool.{Bool, true, false, cond}
-use mathlib.Core.List.{List}
+use mathlib.Core.List.{List, [], _∷_}
+use types.Run.{OneOf, hit, miss}
+use denote.Enum.Declared.{tagOf}
+use Rattle.text.proofs.utf8.Decoded.{the-type}
 use mathlib.Core.Logic.{_⊎_, inl, inr, ⊎-elim}
 use native.Mathlib.Omega.{arith}
 use borrow.Author.Tests.{lt-ltb, le-ltb, ltb-true, ltb-false, eqb-true, eqb-false, leb-false}
@@ -12,10 +15,12 @@ use Rattle.buffer.proofs.Choices.{then-is, else-is, true-is-not-false}
 use Rattle.text.specs.declared.utf8.Decoded.{Decoded}
 use Rattle.text.specs.declared.utf8.Decoded.the-variants.{Character, IllFormed, End}
 use Rattle.text.specs.Space.{gap, isWhiteSpace}
-use Rattle.text.specs.Decoding.{within, second, later, decodeTwo, decodeThree, decodeFour, table, decodeFirst, onDecoded, lengthOf, letter, letterHead, letterOf, letterFirst}
+use Rattle.text.specs.Decoding.{within, second, later, decodeTwo, decodeThree, decodeFour, table, decodeFirst, onDecoded, lengthOf, letter, letterHead, letterOf, letterFirst, codesIn, wellFormedLength}
 use Rattle.text.proofs.Rows.{two-is, two-not, three-is, three-not, three-cut, four-is, four-not, four-cut, four-cut-last, row-ascii, row-none, row-two, row-three, row-four, row-past, decode-at, decode-end}
 use Rattle.text.proofs.Encoding.{below-or-not, second-in, second-least, after-E0, after-F0, within-has}
 use Rattle.text.proofs.Spaces.{none-in-a-gap}
+use Rattle.text.proofs.Pieces.{character-some, character-fits}
+use Rattle.text.proofs.Prefix.{codes-stop, prefix-turn, prefix-none}
 
 -- which codes are letters
 letter-below : (n : ℕ) → n < 0xC0 → letter n ≡ false
@@ -253,3 +258,43 @@ module _ (s : List ℕ) (i : ℕ) (h : i < length s) where
 
   pub at-none : 0xE0 ≤ getD s i 0 → letterHead (getD s i 0) ≡ false → letterFirst (drop i s) ≡ 0
   at-none k e = letter-is s i h ∙ letter-none _ _ _ _ k e
+
+-- the length of the character that a text begins with, found with its code or without
+pub length-letter : (s : List ℕ) (i n : ℕ) → n ≡ letterFirst (drop i s) → (n ≡ 0 → ⊥) → n ≡ lengthOf (decodeFirst (drop i s))
+length-letter s i n e some = sym (ap lengthOf (letter-told (drop i s) n (sym e) some .decodes))
+
+pub length-is : (s : List ℕ) (code n : ℕ) → decodeFirst s ≡ Character code n → n ≡ lengthOf (decodeFirst s)
+length-is s code n e = sym (ap lengthOf e)
+
+pub length-stop : (s : List ℕ) (d : Decoded) → decodeFirst s ≡ d → OneOf (1 ∷ 2 ∷ []) (tagOf the-type d) → 0 ≡ lengthOf (decodeFirst s)
+length-stop s (Character code n) e k = absurd (miss (1 ∷ 2 ∷ []) 0 tt k)
+length-stop s IllFormed e k = sym (ap lengthOf e)
+length-stop s End e k = sym (ap lengthOf e)
+
+record Counted (s : List ℕ) (n : ℕ) : Type 0 where
+  code : ℕ
+  decodes : decodeFirst s ≡ Character code n
+
+counted : (s : List ℕ) (n : ℕ) → n ≡ lengthOf (decodeFirst s) → (n ≡ 0 → ⊥) → Counted s n
+counted s n e some = by (decodeFirst s) refl e
+  where
+    by : (d : Decoded) → decodeFirst s ≡ d → n ≡ lengthOf d → Counted s n
+    by (Character code m) p q = record { code = code; decodes = p ∙ ap (λ (k : ℕ). Character code k) (sym q) }
+    by IllFormed p q = absurd (some q)
+    by End p q = absurd (some q)
+
+-- the well-formed prefix goes on by that length, and ends where there is none
+module _ (s : List ℕ) (at n : ℕ) (e : n ≡ lengthOf (decodeFirst (drop at s))) where
+  pub length-fits : (n ≡ 0 → ⊥) → at + n ≤ length s
+  length-fits some = let c = counted (drop at s) n e some in character-fits s at (c .code) n (c .decodes)
+
+  pub prefix-more : (total : ℕ) → (n ≡ 0 → ⊥) → at + wellFormedLength (drop at s) ≡ total → at + n + wellFormedLength (drop (at + n) s) ≡ total
+  prefix-more total some h = let c = counted (drop at s) n e some in prefix-turn s at (c .code) n total (c .decodes) h
+
+  pub prefix-stop : (total : ℕ) → n ≡ 0 → at + wellFormedLength (drop at s) ≡ total → at ≡ total
+  prefix-stop total z h = let k = prefix-none (drop at s) (by (decodeFirst (drop at s)) refl (sym e ∙ z)) in omega arith
+    where
+      by : (d : Decoded) → decodeFirst (drop at s) ≡ d → lengthOf d ≡ 0 → codesIn (drop at s) ≡ []
+      by (Character code m) p q = absurd (let k = character-some (drop at s) code m p in omega arith)
+      by IllFormed p q = codes-stop (drop at s) IllFormed p (hit (1 ∷ 2 ∷ []) 1 tt)
+      by End p q = codes-stop (drop at s) End p (hit (1 ∷ 2 ∷ []) 2 tt)

@@ -34,9 +34,11 @@ const WHITE_SPACE: [u32; 25] = [
 fn is_listed(code: u32) -> bool
     ensures { λ r. ⌜ r ≡ isWhiteSpace code ⌝ }
 {
+    // Named once: a constant that is indexed in a loop would be built anew at each turn.
+    let table = WHITE_SPACE;
     let mut i = 0;
     while i < 25 {
-        if WHITE_SPACE[i] == code {
+        if table[i] == code {
             return true;
         }
         i += 1;

@@ -213,20 +213,37 @@ pub fn letter_at(s: &[u8], at: usize) -> usize
     0
 }
 
+// The length of the character at a place where a byte is no ASCII byte, 0 if none begins there.
+fn longer_length(s: &[u8], at: usize) -> usize
+    requires { ⌜ (at < length (now s)) × (0x80 ≤ getD (now s) at 0) ⌝ }
+    ensures { λ r. ⌜ r ≡ lengthOf (decodeFirst (drop at (now (s .entry)))) ⌝ }
+{
+    // Most are letters, and need no decoder.
+    let n = letter_at(s, at);
+    if n != 0 {
+        return n;
+    }
+    let Decoded::Character { code: _, length } = decode_longer(s, at) else {
+        return 0;
+    };
+    length
+}
+
 // The length of the longest well-formed prefix of s: all of s exactly if s is well-formed.
 pub fn well_formed_prefix(s: &[u8]) -> usize
     ensures { λ r. ⌜ r ≡ wellFormedLength (now (s .entry)) ⌝ }
 {
     let mut at = 0;
     while at < s.len() {
-        // An ASCII byte is a character by itself, and needs no decoder.
+        // An ASCII byte is a character by itself.
         if s[at] < 0x80 {
             at += 1;
         } else {
-            let Decoded::Character { code: _, length } = decode_longer(s, at) else {
+            let n = longer_length(s, at);
+            if n == 0 {
                 return at;
-            };
-            at += length;
+            }
+            at += n;
         }
     }
     at

@@ -9,10 +9,10 @@ use Rattle.text.proofs.space.is_listed.Statement.{statement}
 use Rattle.text.proofs.space.is_listed.Tie as tie
 
 abbrev Inv-loop : tie.InvT-loop
-Inv-loop code i₀ i = (i ≤ 25) × (among code (drop i whiteSpace) ≡ isWhiteSpace code)
+Inv-loop code table₀ i₀ i = (i ≤ 25) × (among code (drop i whiteSpace) ≡ isWhiteSpace code)
 
 abbrev μ-loop : tie.MeasureT-loop
-μ-loop code i₀ i = 25 - i
+μ-loop code table₀ i₀ i = 25 - i
 
 loop-holds : tie.Need-loop-holds Inv-loop μ-loop
 unfolding isWhiteSpace

@@ -1,11 +1,11 @@
 -- `text::utf8::well_formed_prefix` meets its contract. The place reached and the well-formed length of what is left give that of the whole.
-use Rattle.text.proofs.Prefix.{prefix-turn, prefix-none, codes-stop, codes-end}
-use Rattle.text.proofs.Pieces.{character-some, character-fits}
+use Rattle.text.proofs.Prefix.{prefix-turn, prefix-none, codes-end}
+use Rattle.text.proofs.Letters.{length-fits, prefix-more, prefix-stop}
 use Rattle.text.proofs.Rows.{decode-ascii}
 use Rattle.text.specs.Decoding.{wellFormedLength}
 use native.Mathlib.Omega.{arith}
 use Prim.Native.Nat.{_+_, _≤_, _-_}
-use mathlib.Core.Path.{_≡_, sym, _∙_}
+use mathlib.Core.Path.{_≡_}
 use lib.ListN.{length, drop}
 use Rattle.text.proofs.utf8.well_formed_prefix.Statement.{statement}
 use Rattle.text.proofs.utf8.well_formed_prefix.Tie as tie
@@ -31,27 +31,20 @@ loop-less c = omega arith
 loop-again : tie.Need-loop-again Inv-loop μ-loop
 loop-again c = (omega arith, prefix-turn _ _ _ _ _ (decode-ascii _ _ (c .before .before .loop-test .taken) (c .if1 .taken)) (c .before .before .before .loop .inv .1))
 
-decode-longer-requires : tie.Need-decode-longer-requires Inv-loop μ-loop
-decode-longer-requires c κs = (c .before .before .loop-test .taken, c .if1 .left)
-
-enum-known-length : tie.Need-enum-known-length Inv-loop μ-loop
-enum-known-length c = c .match .keys1
+longer-length-requires : tie.Need-longer-length-requires Inv-loop μ-loop
+longer-length-requires c κs = (c .before .before .loop-test .taken, c .if1 .left)
 
 returns : tie.Need-returns Inv-loop μ-loop
-returns c = let e = prefix-none (drop (c .before .before .before .before .before .loop .at) (c .before .before .before .before .before .before .before .args .s .now)) (codes-stop _ _ (sym (c .before .decode-longer .ensures)) (c .match .keys2)) in omega (arith, c .before .before .before .before .before .loop .inv .1, e)
+returns c = prefix-stop (c .before .before .before .before .before .before .before .args .s .now) (c .before .before .before .before .before .loop .at) _ (c .before .longer-length .ensures) _ (c .if2 .taken) (c .before .before .before .before .before .loop .inv .1)
 
 add-at-2 : tie.Need-add-at-2 Inv-loop μ-loop
-add-at-2 c = let f = character-fits (c .before .before .before .before .before .before .before .before .before .args .s .now) (c .before .before .before .before .before .before .before .loop .at) _ _ (sym (c .before .before .before .decode-longer .ensures) ∙ c .before .length .given .1) in omega arith
+add-at-2 c = let f = length-fits (c .before .before .before .before .before .before .before .args .s .now) (c .before .before .before .before .before .loop .at) _ (c .before .longer-length .ensures) (c .if2 .left) in omega arith
 
 loop-less-2 : tie.Need-loop-less-2 Inv-loop μ-loop
-loop-less-2 c =
-    let f = character-fits (c .before .before .before .before .before .before .before .before .before .args .s .now) (c .before .before .before .before .before .before .before .loop .at) _ _ (sym (c .before .before .before .decode-longer .ensures) ∙ c .before .length .given .1) in
-    let g = character-some (drop (c .before .before .before .before .before .before .before .loop .at) (c .before .before .before .before .before .before .before .before .before .args .s .now)) _ _ (sym (c .before .before .before .decode-longer .ensures) ∙ c .before .length .given .1) in omega arith
+loop-less-2 c = let f = length-fits (c .before .before .before .before .before .before .before .args .s .now) (c .before .before .before .before .before .loop .at) _ (c .before .longer-length .ensures) (c .if2 .left) in omega (arith, f, c .if2 .left)
 
 loop-again-2 : tie.Need-loop-again-2 Inv-loop μ-loop
-loop-again-2 c =
-    let f = character-fits (c .before .before .before .before .before .before .before .before .before .args .s .now) (c .before .before .before .before .before .before .before .loop .at) _ _ (sym (c .before .before .before .decode-longer .ensures) ∙ c .before .length .given .1) in
-    (f, prefix-turn _ _ _ _ _ (sym (c .before .before .before .decode-longer .ensures) ∙ c .before .length .given .1) (c .before .before .before .before .before .before .before .loop .inv .1))
+loop-again-2 c = (length-fits (c .before .before .before .before .before .before .before .args .s .now) (c .before .before .before .before .before .loop .at) _ (c .before .longer-length .ensures) (c .if2 .left), prefix-more (c .before .before .before .before .before .before .before .args .s .now) (c .before .before .before .before .before .loop .at) _ (c .before .longer-length .ensures) _ (c .if2 .left) (c .before .before .before .before .before .loop .inv .1))
 
 returns-2 : tie.Need-returns-2 Inv-loop μ-loop
 returns-2 c = let e = prefix-none (drop (c .before .loop .at) (c .before .before .before .args .s .now)) (codes-end _ _ (c .loop-test .left)) in omega (arith, c .before .loop .inv .1, e)
@@ -67,8 +60,7 @@ well-formed-prefix-spec =
     add-at
     loop-less
     loop-again
-    decode-longer-requires
-    enum-known-length
+    longer-length-requires
     returns
     add-at-2
     loop-less-2
