@@ -178,3 +178,6 @@ ascii-codes (a ∷ s) h =
 
 pub ascii-well-formed : (s : List ℕ) → greatest s < 0x80 → WellFormed s
 ascii-well-formed s h = let k = ascii-codes s h in record { codes = s; scalars = k .0; encoded = k .1 }
+
+pub ascii-whole : (s : List ℕ) (r : ℕ) → r ≡ greatest s → r < 0x80 → length s ≡ wellFormedLength s
+ascii-whole s r e h = sym (whole-is s (ascii-well-formed s (omega arith)))
