@@ -10,7 +10,7 @@ use mathlib.Core.Path.{_≡_, refl, sym, ap, _∙_}
 use mathlib.Core.List.{List, [], _∷_, _++_, map, append-assoc}
 use native.Mathlib.Omega.{arith}
 use native.Mathlib.Numerals.{add-one}
-use lib.ListN.{length, take, drop, length-append, length-drop, length-take}
+use lib.ListN.{length, take, drop, length-append, length-drop}
 use Rattle.text.specs.Decoding.{wellFormedLength}
 use Rattle.quote.specs.Given.{listed, Judged, bad, fine, onJudged, before, judge, goodWord}
 use Rattle.quote.specs.Shown.{shown}

@@ -5,7 +5,7 @@ use mathlib.Core.Bool.{false}
 use mathlib.Core.List.{List, [], _∷_, map}
 use Rattle.text.specs.Unicode.{encode, encodeAll}
 use Rattle.text.specs.declared.utf8.Decoded.the-variants.{IllFormed}
-use Rattle.text.specs.Decoding.{leastSecond, greatestSecond, within, decodeTwo, decodeThree, decodeFour, table, decodeFirst, piecesFrom, piecesOf, bytesAll, codesOf, codesIn, wellFormedLength}
+use Rattle.text.specs.Decoding.{leastSecond, greatestSecond, within, decodeTwo, decodeThree, decodeFour, table, decodeFirst, piecesFrom, piecesOf, bytesAll, codesOf, codesIn, letter, letterFirst, wellFormedLength}
 use Rattle.text.specs.Space.{whiteSpace, among, isWhiteSpace}
 use Rattle.text.specs.Apart.{behindRun, trimEnd, trimmed, allWhite, blank, wordsAfter, wordsBetween}
 
@@ -31,6 +31,19 @@ bad-beginnings : map decodeFirst
     ≡ IllFormed ∷ IllFormed ∷ IllFormed ∷ IllFormed ∷ IllFormed ∷ IllFormed ∷ IllFormed ∷ []
 unfolding decodeFirst table decodeTwo decodeThree decodeFour within leastSecond greatestSecond
 bad-beginnings = refl
+
+-- the letters U+00F6, U+09AD, U+8A9E and U+FFFD; and U+0085, U+3000, "a", U+10302 and a letter cut off, which are none
+letters : map letterFirst
+    ((0xC3 ∷ 0xB6 ∷ []) ∷ (0xE0 ∷ 0xA6 ∷ 0xAD ∷ []) ∷ (0xE8 ∷ 0xAA ∷ 0x9E ∷ []) ∷ (0xEF ∷ 0xBF ∷ 0xBD ∷ []) ∷ [])
+    ≡ 2 ∷ 3 ∷ 3 ∷ 3 ∷ []
+unfolding letterFirst letter decodeFirst table decodeTwo decodeThree within leastSecond greatestSecond
+letters = refl
+
+no-letters : map letterFirst
+    ((0xC2 ∷ 0x85 ∷ []) ∷ (0xE3 ∷ 0x80 ∷ 0x80 ∷ []) ∷ (0x61 ∷ []) ∷ (0xF0 ∷ 0x90 ∷ 0x8C ∷ 0x82 ∷ []) ∷ (0xC3 ∷ 0x61 ∷ []) ∷ [])
+    ≡ 0 ∷ 0 ∷ 0 ∷ 0 ∷ 0 ∷ []
+unfolding letterFirst letter decodeFirst table decodeTwo decodeThree decodeFour within leastSecond greatestSecond
+no-letters = refl
 
 -- "a", NO-BREAK SPACE, "b" between a tab and a space: three well-formed bytes before FF; trimmed; two words; not blank
 prefix-length : wellFormedLength (0x61 ∷ 0xC2 ∷ 0xA0 ∷ 0xFF ∷ 0x62 ∷ []) ≡ 3

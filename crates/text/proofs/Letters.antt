@@ -1,12 +1,12 @@
 -- Letters: which bytes a letter begins with, and that it is no white space.
-use Prim.Native.Nat.{ℕ, zero, suc, _+_, _*_, _%_, _<_, _≤_}
+use Prim.Native.Nat.{ℕ, _+_, _*_, _%_, _<_, _≤_}
 use mathlib.Core.Path.{_≡_, refl, sym, ap, _∙_}
 use mathlib.Core.Bool.{Bool, true, false, cond}
 use mathlib.Core.List.{List, [], _∷_}
 use types.Run.{OneOf, hit, miss}
 use denote.Enum.Declared.{tagOf}
 use Rattle.text.proofs.utf8.Decoded.{the-type}
-use mathlib.Core.Logic.{_⊎_, inl, inr, ⊎-elim}
+use mathlib.Core.Logic.{_⊎_, ⊎-elim}
 use native.Mathlib.Omega.{arith}
 use borrow.Author.Tests.{lt-ltb, le-ltb, ltb-true, ltb-false, eqb-true, eqb-false, leb-false}
 use lib.Dec.{ltb, leb, eqb}
@@ -15,7 +15,7 @@ use Rattle.buffer.proofs.Choices.{then-is, else-is, true-is-not-false}
 use Rattle.text.specs.declared.utf8.Decoded.{Decoded}
 use Rattle.text.specs.declared.utf8.Decoded.the-variants.{Character, IllFormed, End}
 use Rattle.text.specs.Space.{gap, isWhiteSpace}
-use Rattle.text.specs.Decoding.{within, second, later, decodeTwo, decodeThree, decodeFour, table, decodeFirst, onDecoded, lengthOf, letter, letterHead, letterOf, letterFirst, codesIn, wellFormedLength}
+use Rattle.text.specs.Decoding.{within, second, later, decodeTwo, decodeThree, decodeFour, table, decodeFirst, lengthOf, letter, letterHead, letterOf, letterFirst, codesIn, wellFormedLength}
 use Rattle.text.proofs.Rows.{two-is, two-not, three-is, three-not, three-cut, four-is, four-not, four-cut, four-cut-last, row-ascii, row-none, row-two, row-three, row-four, row-past, decode-at, decode-end}
 use Rattle.text.proofs.Encoding.{below-or-not, second-in, second-least, after-E0, after-F0, within-has}
 use Rattle.text.proofs.Spaces.{none-in-a-gap}

@@ -1,12 +1,13 @@
 -- `quote::given::item_of` meets its contract: a plain word is good if it has some bytes, and any other if it is well-formed.
 use Rattle.quote.proofs.Listing.{item-empty, item-good, item-plain, item-broken, reaches-end}
+use native.Mathlib.Omega.{arith}
 use mathlib.Core.Path.{sym, _∙_}
 use borrow.Author.Needs.{needs}
 use Rattle.quote.proofs.given.item_of.Statement.{statement}
 use Rattle.quote.proofs.given.item_of.Tie as tie
 
 returns : tie.Need-returns
-returns c = sym (item-empty _ _ (c .if1 .taken))
+returns c = sym (item-empty _ (c .before .before .args .word .now) (omega (arith, c .if1 .taken)))
 
 is-plain-requires : tie.Need-is-plain-requires
 is-plain-requires c κs = search needs
