@@ -1,0 +1,59 @@
+use Rattle.image.proofs.Heads.{head-end, head-node, head-option, head-flag, head-bad}
+use borrow.Author.Needs.{needs}
+use native.Mathlib.Omega.{arith}
+use Prim.Native.Nat.{ℕ, zero, suc, _+_, _*_, _≤_, _<_, _-_, _/_, _%_}
+use mathlib.Core.Path.{_≡_, refl, sym, ap, _∙_}
+use mathlib.Core.Bool.{Bool, true, false, cond}
+use mathlib.Core.List.{List, [], _∷_, _++_, map}
+use borrow.Author.Tests.{lt-ltb, le-ltb, le-leb, lt-leb, eq-eqb, ne-eqb, not-true, not-false}
+use lib.ListN.{length, getD, take, drop, set, length-set}
+use Rattle.image.proofs.head.head_of.Statement.{statement}
+use Rattle.image.proofs.head.head_of.Tie as tie
+use Rattle.image.proofs.head.head_of.Reads as reads
+use Rattle.image.proofs.head.head_of.Lts as lts
+use Rattle.image.proofs.head.flag_head.Reads as flag-head-reads
+use Rattle.image.proofs.head.node_head.Reads as node-head-reads
+use Rattle.image.proofs.head.option_head.Reads as option-head-reads
+
+returns : tie.Need-returns
+returns c = head-end (c .before .before .args .s .now) (c .if1 .taken)
+
+shared-slice-read-match : tie.Need-shared-slice-read-match
+shared-slice-read-match c = search needs
+
+node-head-requires : tie.Need-node-head-requires
+node-head-requires c κs = search needs
+
+option-head-requires : tie.Need-option-head-requires
+option-head-requires c κs = search needs
+
+flag-head-requires : tie.Need-flag-head-requires
+flag-head-requires c κs = search needs
+
+returns-2 : tie.Need-returns-2
+returns-2 c = c .node-head .ensures ∙ head-node (c .before .before .before .before .before .args .s .now) (c .before .before .before .if1 .left) (c .before .match .keys1)
+
+returns-3 : tie.Need-returns-3
+returns-3 c = c .option-head .ensures ∙ head-option (c .before .before .before .before .before .args .s .now) (c .before .before .before .if1 .left) (c .before .match .keys2)
+
+returns-4 : tie.Need-returns-4
+returns-4 c = c .flag-head .ensures ∙ head-flag (c .before .before .before .before .before .args .s .now) (c .before .before .before .if1 .left) (c .before .match .keys3)
+
+returns-5 : tie.Need-returns-5
+returns-5 c =
+    let r = c .match .rest in
+    head-bad (c .before .before .before .before .args .s .now) (c .before .before .if1 .left) (r .0 .0 .1) (r .0 .1) (r .1)
+
+pub head-of-spec : {M : Type 1} → statement M
+head-of-spec =
+    tie.close
+    (tie.spec
+    returns
+    shared-slice-read-match
+    node-head-requires
+    option-head-requires
+    flag-head-requires
+    returns-2
+    returns-3
+    returns-4
+    returns-5)

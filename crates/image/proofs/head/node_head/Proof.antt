@@ -1,0 +1,52 @@
+use Rattle.image.proofs.Heads.{node-cut, node-whole}
+use borrow.Author.Needs.{needs}
+use native.Mathlib.Omega.{arith}
+use Prim.Native.Nat.{ℕ, zero, suc, _+_, _*_, _≤_, _<_, _-_, _/_, _%_}
+use mathlib.Core.Path.{_≡_, refl, sym, ap, _∙_}
+use mathlib.Core.Bool.{Bool, true, false, cond}
+use mathlib.Core.List.{List, [], _∷_, _++_, map}
+use borrow.Author.Tests.{lt-ltb, le-ltb, le-leb, lt-leb, eq-eqb, ne-eqb, not-true, not-false}
+use lib.ListN.{length, getD, take, drop, set, length-set}
+use Rattle.image.proofs.head.node_head.Statement.{statement}
+use Rattle.image.proofs.head.node_head.Tie as tie
+use Rattle.image.proofs.head.node_head.Reads as reads
+use Rattle.image.proofs.head.node_head.Lts as lts
+use Rattle.image.proofs.head.node_lengths.Reads as node-lengths-reads
+use Rattle.image.proofs.lend.byte_at.Reads as byte-at-reads
+
+node-lengths-requires : tie.Need-node-lengths-requires
+node-lengths-requires c κs = search needs
+
+returns : tie.Need-returns
+returns c = node-cut (c .before .before .before .before .args .s .now) _ (c .before .before .node-lengths .ensures) (c .if1 .taken)
+
+byte-at-requires : tie.Need-byte-at-requires
+byte-at-requires c κs = search needs
+
+byte-at-requires-2 : tie.Need-byte-at-requires-2
+byte-at-requires-2 c κs = search needs
+
+mul-t6 : tie.Need-mul-t6
+mul-t6 c = search needs
+
+byte-at-requires-3 : tie.Need-byte-at-requires-3
+byte-at-requires-3 c κs = search needs
+
+add-t8 : tie.Need-add-t8
+add-t8 c = search needs
+
+returns-2 : tie.Need-returns-2
+returns-2 c = node-whole (c .before .before .before .before .before .before .before .args .s .now) _ (c .before .before .before .before .before .node-lengths .ensures) _ _ _ (c .before .before .before .if1 .left) (c .before .before .byte-at .ensures .byte) (c .before .byte-at2 .ensures .byte) (c .byte-at3 .ensures .byte)
+
+pub node-head-spec : {M : Type 1} → statement M
+node-head-spec =
+    tie.close
+    (tie.spec
+    node-lengths-requires
+    returns
+    byte-at-requires
+    byte-at-requires-2
+    mul-t6
+    byte-at-requires-3
+    add-t8
+    returns-2)

@@ -1,0 +1,107 @@
+use Rattle.image.proofs.Views.{view, node-small, definition-small, node-bytes, node-strict, option-refused, option-strict, flag-strict, rest-strict}
+use Rattle.frame.specs.Text.{Bytes}
+use borrow.Author.Needs.{needs}
+use native.Mathlib.Omega.{arith}
+use Prim.Native.Nat.{ℕ, zero, suc, _+_, _*_, _≤_, _<_, _-_, _/_, _%_}
+use mathlib.Core.Path.{_≡_, refl, sym, ap, _∙_}
+use mathlib.Core.Bool.{Bool, true, false, cond}
+use mathlib.Core.List.{List, [], _∷_, _++_, map}
+use borrow.Author.Tests.{lt-ltb, le-ltb, le-leb, lt-leb, eq-eqb, ne-eqb, not-true, not-false}
+use lib.ListN.{length, getD, take, drop, set, length-set}
+use Rattle.image.proofs.limits.frame_of.Statement.{statement}
+use Rattle.image.proofs.limits.frame_of.Tie as tie
+use Rattle.image.proofs.limits.frame_of.Reads as reads
+use Rattle.image.proofs.limits.frame_of.Lts as lts
+use Rattle.image.proofs.head.head_of.Reads as head-of-reads
+use Rattle.image.proofs.limits.fair_node.Reads as fair-node-reads
+use Rattle.image.proofs.limits.is_definable.Reads as is-definable-reads
+
+head-of-requires : tie.Need-head-of-requires
+head-of-requires c κs = search needs
+
+enum-known-head : tie.Need-enum-known-head
+enum-known-head c = search needs
+
+fair-node-requires : tie.Need-fair-node-requires
+unfolding Bytes
+fair-node-requires c κs =
+    let e = sym (c .before .before .before .head-of .ensures) ∙ c .before .head .given .1 in
+    node-small (c .before .before .before .before .before .args .s .now) _ (λ i. c .before .before .before .before .shared-slice-known .given i .fits) (view _ _ e .texts)
+
+enum-known-head-2 : tie.Need-enum-known-head-2
+enum-known-head-2 c = search needs
+
+returns : tie.Need-returns
+returns c = let e = sym (c .before .before .before .before .head-of .ensures) ∙ c .before .before .head2 .given .1 in option-refused (c .before .before .before .before .before .before .args .s .now) _ _ _ e (c .if2 .taken)
+
+is-definable-requires : tie.Need-is-definable-requires
+unfolding Bytes
+is-definable-requires c κs =
+    let e = sym (c .before .before .before .before .head-of .ensures) ∙ c .before .before .head2 .given .1 in
+    (omega arith, definition-small 3 (c .before .before .before .before .before .before .args .s .now) _ (λ i. c .before .before .before .before .before .shared-slice-known .given i .fits) (view _ _ e .texts))
+
+enum-known-head-3 : tie.Need-enum-known-head-3
+enum-known-head-3 c = search needs
+
+is-definable-requires-2 : tie.Need-is-definable-requires-2
+unfolding Bytes
+is-definable-requires-2 c κs =
+    let e = sym (c .before .before .before .head-of .ensures) ∙ c .before .head3 .given .1 in
+    (omega arith, definition-small 2 (c .before .before .before .before .before .args .s .now) _ (λ i. c .before .before .before .before .shared-slice-known .given i .fits) (view _ _ e .texts))
+
+returns-2 : tie.Need-returns-2
+unfolding Bytes
+returns-2 c =
+    let e = sym (c .before .before .before .before .before .head-of .ensures) ∙ c .before .before .before .head .given .1 in
+    let k = node-bytes (c .before .before .before .before .before .before .before .args .s .now) _ _ _ e (λ i. c .before .before .before .before .before .before .shared-slice-known .given i .fits) in
+    sym (node-strict (c .before .before .before .before .before .before .before .args .s .now) _ _ _ e _ (c .before .fair-node .ensures _ k) ∙ rw (c .if1 .taken))
+
+returns-3 : tie.Need-returns-3
+unfolding Bytes
+returns-3 c =
+    let e = sym (c .before .before .before .before .before .head-of .ensures) ∙ c .before .before .before .head .given .1 in
+    let k = node-bytes (c .before .before .before .before .before .before .before .args .s .now) _ _ _ e (λ i. c .before .before .before .before .before .before .shared-slice-known .given i .fits) in
+    sym (node-strict (c .before .before .before .before .before .before .before .args .s .now) _ _ _ e _ (c .before .fair-node .ensures _ k) ∙ rw (c .if1 .left))
+
+returns-4 : tie.Need-returns-4
+returns-4 c =
+    let e = sym (c .before .before .before .before .before .before .head-of .ensures) ∙ c .before .before .before .before .head2 .given .1 in
+    sym (option-strict (c .before .before .before .before .before .before .before .before .args .s .now) _ _ _ e (c .before .before .if2 .left) _ (c .before .is-definable .ensures) ∙ rw (c .if3 .taken))
+
+returns-5 : tie.Need-returns-5
+returns-5 c =
+    let e = sym (c .before .before .before .before .before .before .head-of .ensures) ∙ c .before .before .before .before .head2 .given .1 in
+    sym (option-strict (c .before .before .before .before .before .before .before .before .args .s .now) _ _ _ e (c .before .before .if2 .left) _ (c .before .is-definable .ensures) ∙ rw (c .if3 .left))
+
+returns-6 : tie.Need-returns-6
+returns-6 c =
+    let e = sym (c .before .before .before .before .before .head-of .ensures) ∙ c .before .before .before .head3 .given .1 in
+    sym (flag-strict (c .before .before .before .before .before .before .before .args .s .now) _ _ e _ (c .before .is-definable2 .ensures) ∙ rw (c .if4 .taken))
+
+returns-7 : tie.Need-returns-7
+returns-7 c =
+    let e = sym (c .before .before .before .before .before .head-of .ensures) ∙ c .before .before .before .head3 .given .1 in
+    sym (flag-strict (c .before .before .before .before .before .before .before .args .s .now) _ _ e _ (c .before .is-definable2 .ensures) ∙ rw (c .if4 .left))
+
+returns-8 : tie.Need-returns-8
+returns-8 c = rest-strict (c .before .before .before .args .s .now) _ (c .before .head-of .ensures) (c .match .keys4)
+
+pub frame-of-spec : {M : Type 1} → statement M
+frame-of-spec =
+    tie.close
+    (tie.spec
+    head-of-requires
+    enum-known-head
+    fair-node-requires
+    enum-known-head-2
+    returns
+    is-definable-requires
+    enum-known-head-3
+    is-definable-requires-2
+    returns-2
+    returns-3
+    returns-4
+    returns-5
+    returns-6
+    returns-7
+    returns-8)

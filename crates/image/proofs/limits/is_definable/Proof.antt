@@ -1,0 +1,100 @@
+use Rattle.image.proofs.Fields.{seen, short-bad, name-bad, long-bad, definable-by}
+use Rattle.image.proofs.Heads.{span-least}
+use Rattle.image.specs.Reading.{definedIn}
+use Rattle.image.specs.Limits.{isName, isNote}
+use borrow.Author.Needs.{needs}
+use native.Mathlib.Omega.{arith}
+use Prim.Native.Nat.{ℕ, zero, suc, _+_, _*_, _≤_, _<_, _-_, _/_, _%_}
+use mathlib.Core.Path.{_≡_, refl, sym, ap, _∙_}
+use mathlib.Core.Bool.{Bool, true, false, cond}
+use mathlib.Core.List.{List, [], _∷_, _++_, map}
+use borrow.Author.Tests.{lt-ltb, le-ltb, le-leb, lt-leb, eq-eqb, ne-eqb, not-true, not-false}
+use lib.ListN.{length, getD, take, drop, set, length-set}
+use Rattle.image.proofs.limits.is_definable.Statement.{statement}
+use Rattle.image.proofs.limits.is_definable.Tie as tie
+use Rattle.image.proofs.limits.is_definable.Reads as reads
+use Rattle.image.proofs.limits.is_definable.Lts as lts
+use Rattle.image.proofs.head.span_of.Reads as span-of-reads
+use Rattle.image.proofs.lend.part.Reads as part-reads
+use Rattle.image.proofs.limits.is_long.Reads as is-long-reads
+use Rattle.image.proofs.limits.is_name.Reads as is-name-reads
+use Rattle.image.proofs.limits.is_note.Reads as is-note-reads
+use Rattle.image.proofs.limits.is_short.Reads as is-short-reads
+
+is-short-requires : tie.Need-is-short-requires
+is-short-requires c κs = search needs
+
+returns : tie.Need-returns
+unfolding definedIn
+returns c = short-bad _ _ _ _ (sym (c .before .is-short .ensures) ∙ not-true _ (c .if1 .taken))
+
+add-part : tie.Need-add-part
+add-part c = search needs
+
+part-requires : tie.Need-part-requires
+part-requires c κs = search needs
+
+is-name-requires : tie.Need-is-name-requires
+is-name-requires c κs = search needs
+
+returns-2 : tie.Need-returns-2
+unfolding definedIn
+returns-2 c = name-bad _ _ _ _ (sym (c .before .before .before .before .is-short .ensures) ∙ not-false _ (c .before .before .before .if1 .left)) (seen isName _ _ _ _ (c .before .is-name .ensures) (c .before .before .part .ensures) (not-true _ (c .if2 .taken)))
+
+add-at : tie.Need-add-at
+add-at c = search needs
+
+add-at-2 : tie.Need-add-at-2
+add-at-2 c = search needs
+
+is-long-requires : tie.Need-is-long-requires
+is-long-requires c κs = search needs
+
+returns-3 : tie.Need-returns-3
+unfolding definedIn
+returns-3 c =
+    let named = seen isName _ _ _ _ (c .before .before .before .before .is-name .ensures) (c .before .before .before .before .before .part .ensures) (not-false _ (c .before .before .before .if2 .left)) in
+    long-bad _ _ _ _ (sym (c .before .before .before .before .before .before .before .is-short .ensures) ∙ not-false _ (c .before .before .before .before .before .before .if1 .left)) named (sym (c .before .is-long .ensures) ∙ not-true _ (c .if3 .taken))
+
+span-of-requires : tie.Need-span-of-requires
+span-of-requires c κs = search needs
+
+add-part-2 : tie.Need-add-part-2
+add-part-2 c = omega (arith, span-least (c .before .before .before .before .before .before .before .before .before .before .args .texts .other))
+
+add-part-3 : tie.Need-add-part-3
+add-part-3 c = omega (arith, span-least (c .before .before .before .before .before .before .before .before .before .before .args .texts .other))
+
+part-requires-2 : tie.Need-part-requires-2
+part-requires-2 c κs = search needs
+
+is-note-requires : tie.Need-is-note-requires
+is-note-requires c κs = search needs
+
+returns-4 : tie.Need-returns-4
+unfolding definedIn
+returns-4 c =
+    let named = seen isName _ _ _ _ (c .before .before .before .before .before .before .before .is-name .ensures) (c .before .before .before .before .before .before .before .before .part .ensures) (not-false _ (c .before .before .before .before .before .before .if2 .left)) in
+    let long = sym (c .before .before .before .before .is-long .ensures) ∙ not-false _ (c .before .before .before .if3 .left) in
+    c .is-note .ensures ∙ ap isNote (c .before .part2 .ensures) ∙ rw (c .before .before .span-of .ensures) (definable-by _ _ _ _ (sym (c .before .before .before .before .before .before .before .before .before .before .is-short .ensures) ∙ not-false _ (c .before .before .before .before .before .before .before .before .before .if1 .left)) named long)
+
+pub is-definable-spec : {M : Type 1} → statement M
+is-definable-spec =
+    tie.close
+    (tie.spec
+    is-short-requires
+    returns
+    add-part
+    part-requires
+    is-name-requires
+    returns-2
+    add-at
+    add-at-2
+    is-long-requires
+    returns-3
+    span-of-requires
+    add-part-2
+    add-part-3
+    part-requires-2
+    is-note-requires
+    returns-4)
