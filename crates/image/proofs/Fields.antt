@@ -1,17 +1,27 @@
 -- Laws of the limits of a frame's fields, as the code tests them.
 use Prim.Native.Nat.{ℕ, _+_, _<_, _≤_}
-use mathlib.Core.Path.{_≡_, refl, sym, ap, _∙_}
-use mathlib.Core.Bool.{Bool, true, false, cond}
-use mathlib.Core.List.{List, [], _∷_}
-use native.Mathlib.Omega.{arith}
-use lib.Dec.{leb, ltb, eqb}
+use mathlib.Core.Path.{_≡_, refl}
+use mathlib.Core.Bool.{Bool, true, false}
+use mathlib.Core.List.{List}
+use lib.Dec.{leb}
 use lib.ListN.{length, getD, take, drop}
-use borrow.Author.Tests.{le-leb, lt-leb, lt-ltb, eq-eqb, ne-eqb}
-use Rattle.buffer.proofs.Choices.{then-is, else-is}
+use borrow.Author.Tests.{le-leb, lt-leb, lt-ltb, ne-eqb}
 use Rattle.buffer.proofs.Lists.{drop-step, drop-end}
-use Rattle.image.specs.Limits.{both, shown, allShown, isName, isNote, isShort, optionally, definable, fair}
+use Rattle.image.specs.Limits.{both, allShown, isName, isNote, isShort, optionally, definable, fair}
 use Rattle.image.specs.Reading.{perhapsIn}
 use Rattle.image.specs.Frames.{Perhaps, node}
+
+-- two tests that hold together
+pub both-first : (a b : Bool) → both a b ≡ true → a ≡ true
+both-first true b e = refl
+both-first false b e = e
+
+pub both-second : (a b : Bool) → both a b ≡ true → b ≡ true
+both-second true b e = e
+both-second false b e = cc
+
+pub both-true : (a b : Bool) → a ≡ true → b ≡ true → both a b ≡ true
+both-true a b p q = rw (p, q)
 
 -- a pass over the bytes of a text
 module _ (low : ℕ) (t : List ℕ) (i : ℕ) where

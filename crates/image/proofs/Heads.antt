@@ -1,16 +1,15 @@
 -- Laws of heads: how the code's numbers are those of the definitions.
 use Prim.Native.Nat.{ℕ, _+_, _*_, _<_, _≤_}
-use mathlib.Core.Path.{_≡_, refl, sym, ap, _∙_}
+use mathlib.Core.Path.{_≡_, sym}
 use mathlib.Core.Bool.{Bool, true, false, cond}
-use mathlib.Core.List.{List, [], _∷_}
+use mathlib.Core.List.{List}
 use native.Mathlib.Omega.{arith}
-use lib.Dec.{leb, eqb}
-use lib.ListN.{length, getD, take, drop}
+use lib.Dec.{eqb}
+use lib.ListN.{length, getD}
 use borrow.Author.Tests.{le-leb, lt-leb, eq-eqb, ne-eqb}
 use Rattle.buffer.proofs.Choices.{then-is, else-is}
 use Rattle.image.specs.Reading.{span, nodeLengths, definitionLengths, nodeFirst, optionFirst, flagFirst, headFirst}
 use Rattle.image.specs.declared.head.Lengths.{Lengths}
-use Rattle.image.specs.declared.head.Head.{Head}
 use Rattle.image.specs.declared.head.Head.the-variants.{Node, Option, Flag, Bad, End}
 
 pub span-none : (n : ℕ) → n ≡ 0xff → 0 ≡ span n

@@ -1,19 +1,18 @@
 -- What an answer tells: the bytes that a head was read from.
 use Prim.Native.Nat.{ℕ, _+_, _*_, _<_, _≤_}
-use mathlib.Core.Path.{_≡_, refl, sym, ap, _∙_}
+use mathlib.Core.Path.{_≡_, refl}
 use mathlib.Core.Bool.{Bool, true, false, cond}
 use mathlib.Core.List.{List, [], _∷_}
 use native.Mathlib.Omega.{arith}
 use lib.Dec.{leb, eqb}
-use lib.ListN.{length, getD, take, drop}
+use lib.ListN.{length, getD}
 use borrow.Author.Tests.{leb-true, eqb-true, le-leb, lt-leb}
 use types.Run.{OneOf, miss}
 use denote.Enum.Declared.{tagOf}
 use Rattle.image.proofs.head.Head.{the-type}
-use Rattle.buffer.proofs.Choices.{then-is, else-is}
 use Rattle.frame.specs.Text.{Bytes}
-use Rattle.image.specs.Limits.{both, definable, fair}
-use Rattle.image.specs.Reading.{Small, span, nodeLengths, definitionLengths, nodeFirst, optionFirst, flagFirst, headFirst, strictly, frameFirst, nodeIn, optionIn, flagIn, definedIn}
+use Rattle.image.specs.Limits.{fair}
+use Rattle.image.specs.Reading.{Small, nodeLengths, definitionLengths, nodeFirst, optionFirst, flagFirst, headFirst, frameFirst, nodeIn, optionIn, flagIn, definedIn}
 use Rattle.image.specs.declared.head.Lengths.{Lengths}
 use Rattle.image.specs.declared.head.Head.{Head}
 use Rattle.image.specs.declared.head.Head.the-variants.{Node, Option, Flag, Bad, End}

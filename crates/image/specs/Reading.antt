@@ -100,3 +100,19 @@ pub record Small (texts : Lengths) : Type 0 where
   pub name : texts .name < 256
   pub description : texts .description < 256
   pub other : texts .other < 256
+
+-- what the first bytes say, with the frame in words: a frame and its size, no frame, or nothing
+pub data Read : Type 0 where
+  read : Frame → ℕ → Read
+  broken : Read
+  ended : Read
+
+abbrev pub readBy : List ℕ → Head → Read
+readBy s (Node depth handler texts) = read (nodeIn s depth handler texts) (texts .size)
+readBy s (Option required short texts) = read (optionIn s required short texts) (texts .size)
+readBy s (Flag short texts) = read (flagIn s short texts) (texts .size)
+readBy s Bad = broken
+readBy s End = ended
+
+unfoldable pub readFirst : List ℕ → Read
+readFirst s = readBy s (headFirst s)

@@ -1,18 +1,9 @@
+-- `image::head::definition_lengths` meets its contract: three length bytes, each behind the text before it.
 use Rattle.image.proofs.Heads.{span-least, definition-lengths-are}
 use borrow.Author.Needs.{needs}
 use native.Mathlib.Omega.{arith}
-use Prim.Native.Nat.{ℕ, zero, suc, _+_, _*_, _≤_, _<_, _-_, _/_, _%_}
-use mathlib.Core.Path.{_≡_, refl, sym, ap, _∙_}
-use mathlib.Core.Bool.{Bool, true, false, cond}
-use mathlib.Core.List.{List, [], _∷_, _++_, map}
-use borrow.Author.Tests.{lt-ltb, le-ltb, le-leb, lt-leb, eq-eqb, ne-eqb, not-true, not-false}
-use lib.ListN.{length, getD, take, drop, set, length-set}
 use Rattle.image.proofs.head.definition_lengths.Statement.{statement}
 use Rattle.image.proofs.head.definition_lengths.Tie as tie
-use Rattle.image.proofs.head.definition_lengths.Reads as reads
-use Rattle.image.proofs.head.definition_lengths.Lts as lts
-use Rattle.image.proofs.head.span_of.Reads as span-of-reads
-use Rattle.image.proofs.lend.byte_at.Reads as byte-at-reads
 
 byte-at-requires : tie.Need-byte-at-requires
 byte-at-requires c κs = search needs

@@ -1,19 +1,9 @@
+-- `image::head::head_of` meets its contract: the kind decides.
 use Rattle.image.proofs.Heads.{head-end, head-node, head-option, head-flag, head-bad}
 use borrow.Author.Needs.{needs}
-use native.Mathlib.Omega.{arith}
-use Prim.Native.Nat.{ℕ, zero, suc, _+_, _*_, _≤_, _<_, _-_, _/_, _%_}
-use mathlib.Core.Path.{_≡_, refl, sym, ap, _∙_}
-use mathlib.Core.Bool.{Bool, true, false, cond}
-use mathlib.Core.List.{List, [], _∷_, _++_, map}
-use borrow.Author.Tests.{lt-ltb, le-ltb, le-leb, lt-leb, eq-eqb, ne-eqb, not-true, not-false}
-use lib.ListN.{length, getD, take, drop, set, length-set}
+use mathlib.Core.Path.{_∙_}
 use Rattle.image.proofs.head.head_of.Statement.{statement}
 use Rattle.image.proofs.head.head_of.Tie as tie
-use Rattle.image.proofs.head.head_of.Reads as reads
-use Rattle.image.proofs.head.head_of.Lts as lts
-use Rattle.image.proofs.head.flag_head.Reads as flag-head-reads
-use Rattle.image.proofs.head.node_head.Reads as node-head-reads
-use Rattle.image.proofs.head.option_head.Reads as option-head-reads
 
 returns : tie.Need-returns
 returns c = head-end (c .before .before .args .s .now) (c .if1 .taken)

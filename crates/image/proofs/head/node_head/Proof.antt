@@ -1,18 +1,8 @@
+-- `image::head::node_head` meets its contract: the frame that its lengths say is there, or runs past the end.
 use Rattle.image.proofs.Heads.{node-cut, node-whole}
 use borrow.Author.Needs.{needs}
-use native.Mathlib.Omega.{arith}
-use Prim.Native.Nat.{ℕ, zero, suc, _+_, _*_, _≤_, _<_, _-_, _/_, _%_}
-use mathlib.Core.Path.{_≡_, refl, sym, ap, _∙_}
-use mathlib.Core.Bool.{Bool, true, false, cond}
-use mathlib.Core.List.{List, [], _∷_, _++_, map}
-use borrow.Author.Tests.{lt-ltb, le-ltb, le-leb, lt-leb, eq-eqb, ne-eqb, not-true, not-false}
-use lib.ListN.{length, getD, take, drop, set, length-set}
 use Rattle.image.proofs.head.node_head.Statement.{statement}
 use Rattle.image.proofs.head.node_head.Tie as tie
-use Rattle.image.proofs.head.node_head.Reads as reads
-use Rattle.image.proofs.head.node_head.Lts as lts
-use Rattle.image.proofs.head.node_lengths.Reads as node-lengths-reads
-use Rattle.image.proofs.lend.byte_at.Reads as byte-at-reads
 
 node-lengths-requires : tie.Need-node-lengths-requires
 node-lengths-requires c κs = search needs

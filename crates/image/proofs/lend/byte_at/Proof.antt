@@ -1,16 +1,10 @@
+-- `image::lend::byte_at` meets its contract: inside the bytes it is the byte there, past their end 0.
 use lib.ListN.{List·getD-eq-default}
 use borrow.Author.Needs.{needs}
 use native.Mathlib.Omega.{arith}
-use Prim.Native.Nat.{ℕ, zero, suc, _+_, _*_, _≤_, _<_, _-_, _/_, _%_}
-use mathlib.Core.Path.{_≡_, refl, sym, ap, _∙_}
-use mathlib.Core.Bool.{Bool, true, false, cond}
-use mathlib.Core.List.{List, [], _∷_, _++_, map}
-use borrow.Author.Tests.{lt-ltb, le-ltb, le-leb, lt-leb, eq-eqb, ne-eqb, not-true, not-false}
-use lib.ListN.{length, getD, take, drop, set, length-set}
+use mathlib.Core.Path.{refl, sym}
 use Rattle.image.proofs.lend.byte_at.Statement.{statement}
 use Rattle.image.proofs.lend.byte_at.Tie as tie
-use Rattle.image.proofs.lend.byte_at.Reads as reads
-use Rattle.image.proofs.lend.byte_at.Lts as lts
 
 shared-slice-read-result : tie.Need-shared-slice-read-result
 shared-slice-read-result c = search needs

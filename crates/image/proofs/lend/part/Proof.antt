@@ -1,17 +1,12 @@
+-- `image::lend::part` meets its contract: a part that runs past the end is the whole rest.
 use lib.Seq.{length-take-le, take-all}
 use borrow.Author.Needs.{needs}
 use native.Mathlib.Omega.{arith}
-use Prim.Native.Nat.{ℕ, zero, suc, _+_, _*_, _≤_, _<_, _-_, _/_, _%_}
-use mathlib.Core.Path.{_≡_, refl, sym, ap, _∙_}
-use mathlib.Core.Bool.{Bool, true, false, cond}
-use mathlib.Core.List.{List, [], _∷_, _++_, map}
-use borrow.Author.Tests.{lt-ltb, le-ltb, le-leb, lt-leb, eq-eqb, ne-eqb, not-true, not-false}
-use lib.ListN.{length, getD, take, drop, set, length-set}
+use Prim.Native.Nat.{_≤_}
+use mathlib.Core.Path.{sym, ap, _∙_}
+use lib.ListN.{length, take}
 use Rattle.image.proofs.lend.part.Statement.{statement}
 use Rattle.image.proofs.lend.part.Tie as tie
-use Rattle.image.proofs.lend.part.Reads as reads
-use Rattle.image.proofs.lend.part.Lts as lts
-use Rattle.image.proofs.lend.rest.Reads as rest-reads
 
 rest-requires : tie.Need-rest-requires
 rest-requires c κs = search needs

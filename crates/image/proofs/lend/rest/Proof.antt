@@ -1,17 +1,11 @@
+-- `image::lend::rest` meets its contract: the rest that is lent is what stands from the place on, and past the end there is nothing.
 use Rattle.buffer.proofs.Lists.{drop-end}
 use Rattle.buffer.proofs.Lending.{rest-lent}
 use borrow.Author.Needs.{needs}
 use native.Mathlib.Omega.{arith}
-use Prim.Native.Nat.{ℕ, zero, suc, _+_, _*_, _≤_, _<_, _-_, _/_, _%_}
-use mathlib.Core.Path.{_≡_, refl, sym, ap, _∙_}
-use mathlib.Core.Bool.{Bool, true, false, cond}
-use mathlib.Core.List.{List, [], _∷_, _++_, map}
-use borrow.Author.Tests.{lt-ltb, le-ltb, le-leb, lt-leb, eq-eqb, ne-eqb, not-true, not-false}
-use lib.ListN.{length, getD, take, drop, set, length-set}
+use mathlib.Core.Path.{sym}
 use Rattle.image.proofs.lend.rest.Statement.{statement}
 use Rattle.image.proofs.lend.rest.Tie as tie
-use Rattle.image.proofs.lend.rest.Reads as reads
-use Rattle.image.proofs.lend.rest.Lts as lts
 
 sub-result : tie.Need-sub-result
 sub-result c = search needs

@@ -1,17 +1,13 @@
+-- `image::limits::all_shown` meets its contract: the bytes passed are all within the range, so the test of what is left is the test of the whole.
 use Rattle.image.specs.Limits.{allShown}
 use Rattle.image.proofs.Fields.{shown-end, shown-low, shown-high, shown-on}
 use borrow.Author.Needs.{needs}
 use native.Mathlib.Omega.{arith}
-use Prim.Native.Nat.{ℕ, zero, suc, _+_, _*_, _≤_, _<_, _-_, _/_, _%_}
-use mathlib.Core.Path.{_≡_, refl, sym, ap, _∙_}
-use mathlib.Core.Bool.{Bool, true, false, cond}
-use mathlib.Core.List.{List, [], _∷_, _++_, map}
-use borrow.Author.Tests.{lt-ltb, le-ltb, le-leb, lt-leb, eq-eqb, ne-eqb, not-true, not-false}
-use lib.ListN.{length, getD, take, drop, set, length-set}
+use Prim.Native.Nat.{_≤_, _-_}
+use mathlib.Core.Path.{_≡_, refl, sym, _∙_}
+use lib.ListN.{length, drop}
 use Rattle.image.proofs.limits.all_shown.Statement.{statement}
 use Rattle.image.proofs.limits.all_shown.Tie as tie
-use Rattle.image.proofs.limits.all_shown.Reads as reads
-use Rattle.image.proofs.limits.all_shown.Lts as lts
 
 abbrev Inv-loop : tie.InvT-loop
 Inv-loop low t i₀ i = (i ≤ length t) × (allShown low (drop i t) ≡ allShown low t)

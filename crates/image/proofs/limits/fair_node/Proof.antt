@@ -1,22 +1,12 @@
+-- `image::limits::fair_node` meets its contract: the first field outside its limits decides.
 use Rattle.image.proofs.Fields.{seen, node-deep, node-unnamed, node-undescribed, node-by}
 use Rattle.image.specs.Reading.{nodeIn}
 use Rattle.image.specs.Limits.{isName, isNote}
 use borrow.Author.Needs.{needs}
-use native.Mathlib.Omega.{arith}
-use Prim.Native.Nat.{ℕ, zero, suc, _+_, _*_, _≤_, _<_, _-_, _/_, _%_}
-use mathlib.Core.Path.{_≡_, refl, sym, ap, _∙_}
-use mathlib.Core.Bool.{Bool, true, false, cond}
-use mathlib.Core.List.{List, [], _∷_, _++_, map}
-use borrow.Author.Tests.{lt-ltb, le-ltb, le-leb, lt-leb, eq-eqb, ne-eqb, not-true, not-false}
-use lib.ListN.{length, getD, take, drop, set, length-set}
+use mathlib.Core.Path.{_∙_}
+use borrow.Author.Tests.{not-true, not-false}
 use Rattle.image.proofs.limits.fair_node.Statement.{statement}
 use Rattle.image.proofs.limits.fair_node.Tie as tie
-use Rattle.image.proofs.limits.fair_node.Reads as reads
-use Rattle.image.proofs.limits.fair_node.Lts as lts
-use Rattle.image.proofs.lend.part.Reads as part-reads
-use Rattle.image.proofs.limits.is_name.Reads as is-name-reads
-use Rattle.image.proofs.limits.is_note.Reads as is-note-reads
-use Rattle.image.proofs.limits.is_usage.Reads as is-usage-reads
 
 returns : tie.Need-returns
 unfolding nodeIn

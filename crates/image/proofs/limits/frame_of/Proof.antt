@@ -1,20 +1,11 @@
+-- `image::limits::frame_of` meets its contract: a head is kept where its frame is fair.
 use Rattle.image.proofs.Views.{view, node-small, definition-small, node-bytes, node-strict, option-refused, option-strict, flag-strict, rest-strict}
 use Rattle.frame.specs.Text.{Bytes}
 use borrow.Author.Needs.{needs}
 use native.Mathlib.Omega.{arith}
-use Prim.Native.Nat.{ℕ, zero, suc, _+_, _*_, _≤_, _<_, _-_, _/_, _%_}
-use mathlib.Core.Path.{_≡_, refl, sym, ap, _∙_}
-use mathlib.Core.Bool.{Bool, true, false, cond}
-use mathlib.Core.List.{List, [], _∷_, _++_, map}
-use borrow.Author.Tests.{lt-ltb, le-ltb, le-leb, lt-leb, eq-eqb, ne-eqb, not-true, not-false}
-use lib.ListN.{length, getD, take, drop, set, length-set}
+use mathlib.Core.Path.{sym, _∙_}
 use Rattle.image.proofs.limits.frame_of.Statement.{statement}
 use Rattle.image.proofs.limits.frame_of.Tie as tie
-use Rattle.image.proofs.limits.frame_of.Reads as reads
-use Rattle.image.proofs.limits.frame_of.Lts as lts
-use Rattle.image.proofs.head.head_of.Reads as head-of-reads
-use Rattle.image.proofs.limits.fair_node.Reads as fair-node-reads
-use Rattle.image.proofs.limits.is_definable.Reads as is-definable-reads
 
 head-of-requires : tie.Need-head-of-requires
 head-of-requires c κs = search needs

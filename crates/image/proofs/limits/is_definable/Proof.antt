@@ -1,25 +1,14 @@
+-- `image::limits::is_definable` meets its contract: the first field outside its limits decides.
 use Rattle.image.proofs.Fields.{seen, short-bad, name-bad, long-bad, definable-by}
 use Rattle.image.proofs.Heads.{span-least}
 use Rattle.image.specs.Reading.{definedIn}
 use Rattle.image.specs.Limits.{isName, isNote}
 use borrow.Author.Needs.{needs}
 use native.Mathlib.Omega.{arith}
-use Prim.Native.Nat.{ℕ, zero, suc, _+_, _*_, _≤_, _<_, _-_, _/_, _%_}
-use mathlib.Core.Path.{_≡_, refl, sym, ap, _∙_}
-use mathlib.Core.Bool.{Bool, true, false, cond}
-use mathlib.Core.List.{List, [], _∷_, _++_, map}
-use borrow.Author.Tests.{lt-ltb, le-ltb, le-leb, lt-leb, eq-eqb, ne-eqb, not-true, not-false}
-use lib.ListN.{length, getD, take, drop, set, length-set}
+use mathlib.Core.Path.{sym, ap, _∙_}
+use borrow.Author.Tests.{not-true, not-false}
 use Rattle.image.proofs.limits.is_definable.Statement.{statement}
 use Rattle.image.proofs.limits.is_definable.Tie as tie
-use Rattle.image.proofs.limits.is_definable.Reads as reads
-use Rattle.image.proofs.limits.is_definable.Lts as lts
-use Rattle.image.proofs.head.span_of.Reads as span-of-reads
-use Rattle.image.proofs.lend.part.Reads as part-reads
-use Rattle.image.proofs.limits.is_long.Reads as is-long-reads
-use Rattle.image.proofs.limits.is_name.Reads as is-name-reads
-use Rattle.image.proofs.limits.is_note.Reads as is-note-reads
-use Rattle.image.proofs.limits.is_short.Reads as is-short-reads
 
 is-short-requires : tie.Need-is-short-requires
 is-short-requires c κs = search needs

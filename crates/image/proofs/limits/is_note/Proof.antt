@@ -1,17 +1,9 @@
+-- `image::limits::is_note` meets its contract: the limit of the length, then the bytes.
 use Rattle.image.proofs.Fields.{note-long, note-by}
 use borrow.Author.Needs.{needs}
-use native.Mathlib.Omega.{arith}
-use Prim.Native.Nat.{ℕ, zero, suc, _+_, _*_, _≤_, _<_, _-_, _/_, _%_}
-use mathlib.Core.Path.{_≡_, refl, sym, ap, _∙_}
-use mathlib.Core.Bool.{Bool, true, false, cond}
-use mathlib.Core.List.{List, [], _∷_, _++_, map}
-use borrow.Author.Tests.{lt-ltb, le-ltb, le-leb, lt-leb, eq-eqb, ne-eqb, not-true, not-false}
-use lib.ListN.{length, getD, take, drop, set, length-set}
+use mathlib.Core.Path.{_∙_}
 use Rattle.image.proofs.limits.is_note.Statement.{statement}
 use Rattle.image.proofs.limits.is_note.Tie as tie
-use Rattle.image.proofs.limits.is_note.Reads as reads
-use Rattle.image.proofs.limits.is_note.Lts as lts
-use Rattle.image.proofs.limits.all_shown.Reads as all-shown-reads
 
 returns : tie.Need-returns
 returns c = note-long _ (c .if1 .taken)
