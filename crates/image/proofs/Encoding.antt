@@ -379,3 +379,19 @@ read-fairly s = by (headFirst s)
     by (Flag c t) = pick (fair (flagIn s c t)) (Flag c t) _ _ refl
     by Bad = refl
     by End = refl
+
+-- what a strict answer tells of the frame that is there
+fairly-told : (x : Read) (f : Frame) (n : ℕ) → fairly x ≡ read f n → (x ≡ read f n) × (fair f ≡ true)
+fairly-told (read g m) f n e = by (fair g) refl e
+  where
+    by : (t : Bool) → fair g ≡ t → cond t (read g m) broken ≡ read f n → (read g m ≡ read f n) × (fair f ≡ true)
+    by true q r = let k : g ≡ f = cc in (r, rw k at q)
+    by false q r = absurd (let z : _≡_ {A = ℕ} 0 1 = cc in omega arith)
+fairly-told broken f n e = absurd (let z : _≡_ {A = ℕ} 0 1 = cc in omega arith)
+fairly-told ended f n e = absurd (let z : _≡_ {A = ℕ} 0 1 = cc in omega arith)
+
+pub strict-told : (s : List ℕ) (head : Head) (f : Frame) (n : ℕ) → head ≡ frameFirst s → readBy s head ≡ read f n → (readFirst s ≡ read f n) × (fair f ≡ true)
+strict-told s head f n e r = fairly-told (readFirst s) f n (sym (read-fairly s) ∙ rw (← e) r)
+
+pub strict-bad : (s : List ℕ) (head : Head) → head ≡ frameFirst s → readBy s head ≡ broken → fairly (readFirst s) ≡ broken
+strict-bad s head e r = sym (read-fairly s) ∙ rw (← e) r

@@ -1,7 +1,8 @@
 -- What an answer tells: the bytes that a head was read from.
 use Prim.Native.Nat.{ℕ, _+_, _*_, _<_, _≤_}
-use mathlib.Core.Path.{_≡_, refl}
+use mathlib.Core.Path.{_≡_, refl, _∙_}
 use mathlib.Core.Bool.{Bool, true, false, cond}
+use mathlib.Core.Logic.{_⊎_, inl, inr, ⊎-elim}
 use mathlib.Core.List.{List, [], _∷_}
 use native.Mathlib.Omega.{arith}
 use lib.Dec.{leb, eqb}
@@ -12,7 +13,7 @@ use denote.Enum.Declared.{tagOf}
 use Rattle.image.proofs.head.Head.{the-type}
 use Rattle.frame.specs.Text.{Bytes}
 use Rattle.image.specs.Limits.{fair}
-use Rattle.image.specs.Reading.{Small, nodeLengths, definitionLengths, nodeFirst, optionFirst, flagFirst, headFirst, frameFirst, nodeIn, optionIn, flagIn, definedIn}
+use Rattle.image.specs.Reading.{strictly, Small, nodeLengths, definitionLengths, nodeFirst, optionFirst, flagFirst, headFirst, frameFirst, nodeIn, optionIn, flagIn, definedIn}
 use Rattle.image.specs.declared.head.Lengths.{Lengths}
 use Rattle.image.specs.declared.head.Head.{Head}
 use Rattle.image.specs.declared.head.Head.the-variants.{Node, Option, Flag, Bad, End}
@@ -125,3 +126,27 @@ module _ (s : List ℕ) where
   rest-strict (Flag c t) e k = absurd (miss (3 ∷ 4 ∷ []) 2 tt k)
   rest-strict Bad e k = rw (← e)
   rest-strict End e k = rw (← e)
+
+-- a strict answer that is no refusal is the head itself
+kept : (s : List ℕ) (x : Head) → (strictly s x ≡ x) ⊎ (strictly s x ≡ Bad)
+kept s (Node d h t) = by (fair (nodeIn s d h t))
+  where
+    by : (g : Bool) → (cond g (Node d h t) Bad ≡ Node d h t) ⊎ (cond g (Node d h t) Bad ≡ Bad)
+    by true = inl refl
+    by false = inr refl
+kept s (Option r c t) = by (fair (optionIn s r c t))
+  where
+    by : (g : Bool) → (cond g (Option r c t) Bad ≡ Option r c t) ⊎ (cond g (Option r c t) Bad ≡ Bad)
+    by true = inl refl
+    by false = inr refl
+kept s (Flag c t) = by (fair (flagIn s c t))
+  where
+    by : (g : Bool) → (cond g (Flag c t) Bad ≡ Flag c t) ⊎ (cond g (Flag c t) Bad ≡ Bad)
+    by true = inl refl
+    by false = inr refl
+kept s Bad = inl refl
+kept s End = inl refl
+
+pub strict-head : (s : List ℕ) (head : Head) → head ≡ frameFirst s → (head ≡ Bad → ⊥) → head ≡ headFirst s
+unfolding frameFirst
+strict-head s head e n = ⊎-elim (λ k. e ∙ k) (λ k. absurd (n (e ∙ k))) (kept s (headFirst s))
