@@ -6,6 +6,7 @@ mod limits;
 pub use head::Head;
 pub use head::Lengths;
 pub use head::head_at;
+pub use head::head_of;
 pub use lend::byte_at;
 pub use lend::part;
 pub use lend::rest;

@@ -1,0 +1,60 @@
+-- `lookup::look::look_first` meets its contract: the head tells the frame at the front.
+use Rattle.lookup.proofs.Looks.{looked, looked-none}
+use Rattle.image.proofs.Views.{view, definition-small}
+use Rattle.frame.specs.Text.{Bytes}
+use borrow.Author.Needs.{needs}
+use mathlib.Core.Path.{refl, sym, _∙_}
+use Rattle.lookup.proofs.look.look_first.Statement.{statement}
+use Rattle.lookup.proofs.look.look_first.Tie as tie
+
+head-of-requires : tie.Need-head-of-requires
+head-of-requires c κs = search needs
+
+enum-known-depth : tie.Need-enum-known-depth
+enum-known-depth c = search needs
+
+look-node-requires : tie.Need-look-node-requires
+look-node-requires c κs = search needs
+
+enum-known-texts : tie.Need-enum-known-texts
+enum-known-texts c = search needs
+
+look-option-requires : tie.Need-look-option-requires
+unfolding Bytes
+look-option-requires c κs =
+    let e = sym (c .before .before .before .head-of .ensures) ∙ c .before .texts .given .1 in
+    definition-small 3 (c .before .before .before .before .before .before .args .s .now) _ (λ i. c .before .before .before .before .before .shared-slice-known .given i .fits) (view _ _ e .texts)
+
+enum-known-texts-2 : tie.Need-enum-known-texts-2
+enum-known-texts-2 c = search needs
+
+look-flag-requires : tie.Need-look-flag-requires
+look-flag-requires c κs = search needs
+
+returns : tie.Need-returns
+returns c = looked _ _ (c .before .before .before .before .before .before .before .args .s .now) _ _ _ _ (sym (c .before .before .depth .given .1) ∙ c .before .before .before .before .head-of .ensures) refl (c .look-node .ensures _)
+
+returns-2 : tie.Need-returns-2
+returns-2 c = looked _ _ (c .before .before .before .before .before .before .before .args .s .now) _ _ _ _ (sym (c .before .before .texts .given .1) ∙ c .before .before .before .before .head-of .ensures) refl (c .look-option .ensures _ _)
+
+returns-3 : tie.Need-returns-3
+returns-3 c = looked _ _ (c .before .before .before .before .before .before .before .args .s .now) _ _ _ _ (sym (c .before .before .texts2 .given .1) ∙ c .before .before .before .before .head-of .ensures) refl (c .look-flag .ensures _ _ _)
+
+returns-4 : tie.Need-returns-4
+returns-4 c = looked-none _ _ (c .before .before .before .before .args .s .now) _ (c .before .head-of .ensures) (c .match .keys4)
+
+pub look-first-spec : {M : Type 1} → statement M
+look-first-spec =
+    tie.close
+    (tie.spec
+    head-of-requires
+    enum-known-depth
+    look-node-requires
+    enum-known-texts
+    look-option-requires
+    enum-known-texts-2
+    look-flag-requires
+    returns
+    returns-2
+    returns-3
+    returns-4)

@@ -1,0 +1,68 @@
+-- What is looked up: nodes by depth and name, the end of a subtree, and a node's definitions, whose list ends at the next node of any depth.
+use Prim.Native.Nat.{ℕ, _+_}
+use mathlib.Core.Bool.{Bool, true, false, cond}
+use mathlib.Core.List.{List, [], _∷_}
+use lib.Dec.{eqb, leb}
+use lib.ListN.{length, drop}
+use Rattle.buffer.specs.Compare.{sameBytes}
+use Rattle.image.specs.Frames.{Perhaps, absent, present, Frame, node, option, flag}
+use Rattle.image.specs.Limits.{both}
+use Rattle.image.specs.Reading.{Read, read, broken, ended, readFirst}
+use Rattle.lookup.specs.Spots.{spot}
+use Rattle.lookup.specs.declared.seek.Spot.{Spot}
+use Rattle.lookup.specs.declared.seek.Spot.the-variants.{At, Nothing}
+use Rattle.lookup.specs.declared.look.Sought.{Sought}
+use Rattle.lookup.specs.declared.look.Sought.the-variants.{Node, Upper, Option, Flag, OptionKeyed}
+use Rattle.lookup.specs.declared.look.Look.{Look}
+use Rattle.lookup.specs.declared.look.Look.the-variants.{Hit, Pass, Stop}
+
+-- a key is a definition's name or its long
+abbrev pub longIs : List ℕ → Perhaps → Bool
+longIs key absent = false
+longIs key (present t) = sameBytes t key
+
+unfoldable pub keyed : List ℕ → List ℕ → Perhaps → Bool
+keyed key name long = cond (sameBytes name key) true (longIs key long)
+
+-- what each search wants
+abbrev pub wanted : Sought → List ℕ → Frame → Bool
+wanted (Node d) key (node e h name description usage) = both (eqb e d) (sameBytes name key)
+wanted (Node d) key (option r c name long description) = false
+wanted (Node d) key (flag c name long description) = false
+wanted (Upper d) key (node e h name description usage) = leb e d
+wanted (Upper d) key (option r c name long description) = false
+wanted (Upper d) key (flag c name long description) = false
+wanted Option key (node e h name description usage) = false
+wanted Option key (option r c name long description) = true
+wanted Option key (flag c name long description) = false
+wanted Flag key (node e h name description usage) = false
+wanted Flag key (option r c name long description) = false
+wanted Flag key (flag c name long description) = true
+wanted OptionKeyed key (node e h name description usage) = false
+wanted OptionKeyed key (option r c name long description) = keyed key name long
+wanted OptionKeyed key (flag c name long description) = false
+
+abbrev pub isNode : Frame → Bool
+isNode (node e h name description usage) = true
+isNode (option r c name long description) = false
+isNode (flag c name long description) = false
+
+-- what ends each search: nodes are sought to the end, definitions to the next node
+abbrev pub endedBy : Sought → Frame → Bool
+endedBy (Node d) f = false
+endedBy (Upper d) f = false
+endedBy Option f = isNode f
+endedBy Flag f = isNode f
+endedBy OptionKeyed f = isNode f
+
+-- one frame of a search
+abbrev pub hitOr : Bool → ℕ → Look
+hitOr hit size = cond hit Hit (Pass size)
+
+abbrev pub lookAt : Sought → List ℕ → Frame → ℕ → Look
+lookAt sought key f size = cond (endedBy sought f) Stop (hitOr (wanted sought key f) size)
+
+abbrev pub lookBy : (Frame → Bool) → (Frame → Bool) → Read → Look
+lookBy want ends (read f n) = cond (ends f) Stop (hitOr (want f) n)
+lookBy want ends broken = Stop
+lookBy want ends ended = Stop

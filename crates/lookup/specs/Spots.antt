@@ -1,0 +1,23 @@
+-- The first frame that passes a test, before any that ends the search: where its bytes begin.
+use Prim.Native.Nat.{ℕ, _+_}
+use mathlib.Core.Bool.{Bool, true, false, cond}
+use mathlib.Core.List.{List, [], _∷_}
+use lib.ListN.{length, drop}
+use Rattle.image.specs.Frames.{Frame, encode}
+use Rattle.tree.specs.Images.{framesOf}
+use Rattle.lookup.specs.declared.seek.Spot.{Spot}
+use Rattle.lookup.specs.declared.seek.Spot.the-variants.{At, Nothing}
+
+-- the same spot with n bytes more before it
+abbrev pub later : ℕ → Spot → Spot
+later n (At k) = At (n + k)
+later n Nothing = Nothing
+
+unfoldable pub placeOf : (Frame → Bool) → (Frame → Bool) → List Frame → Spot
+placeOf wanted ends [] = Nothing
+placeOf wanted ends (f ∷ l) =
+    cond (ends f) Nothing (cond (wanted f) (At 0) (later (length (encode f)) (placeOf wanted ends l)))
+
+-- from a place of an image on
+unfoldable pub spot : (Frame → Bool) → (Frame → Bool) → List ℕ → ℕ → Spot
+spot wanted ends image at = later at (placeOf wanted ends (framesOf (drop at image)))
