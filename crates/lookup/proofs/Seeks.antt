@@ -12,7 +12,7 @@ use Rattle.image.specs.Frames.{Frame, encode}
 use Rattle.image.specs.Reading.{Read, read, broken, ended, readFirst}
 use Rattle.image.proofs.Encoding.{read-within, read-size, read-ended}
 use Rattle.tree.specs.Images.{framesIn, framesOf}
-use Rattle.tree.proofs.Items.{items-read, items-broken, items-none}
+use Rattle.tree.proofs.Items.{bytes-drop, items-read, items-broken, items-none}
 use Rattle.lookup.specs.Spots.{later, placeOf, spot}
 use Rattle.lookup.specs.Searches.{hitOr, lookBy}
 use Rattle.lookup.specs.declared.seek.Spot.{Spot}
@@ -35,10 +35,6 @@ frames-ended s e = rw (read-ended s e, items-none)
 pub frames-none : framesOf [] ≡ []
 unfolding framesOf framesIn
 frames-none = rw items-none
-
-pub bytes-drop : (n : ℕ) (s : List ℕ) → Bytes s → Bytes (drop n s)
-unfolding Bytes
-bytes-drop n s b i = rw (getD-drop n s i 0) (b (n + i))
 
 later-later : (a b : ℕ) (x : Spot) → later a (later b x) ≡ later (a + b) x
 later-later a b (At k) = ap At (omega arith)

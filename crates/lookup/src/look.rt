@@ -62,7 +62,7 @@ fn look_node(s: &[u8], depth: usize, texts: Lengths, sought: Sought, key: &[u8])
             hit_or_pass(same(part(s, 5, texts.name), key), texts.size)
         }
         Sought::Upper { depth: d } => hit_or_pass(depth <= d, texts.size),
-        _ => Look::Stop,
+        Sought::Option | Sought::Flag | Sought::OptionKeyed => Look::Stop,
     }
 }
 

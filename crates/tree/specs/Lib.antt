@@ -1,4 +1,5 @@
--- Definitions of the crate `tree`: an image as a list of frames, the rules over that list, and the steps by which the code goes.
+-- Definitions of the crate `tree`: an image as a list of frames, the rules over that list, the steps by which the code goes, and the forest behind it.
 pub mod Images
 pub mod Rules
 pub mod Steps
+pub mod Forest

@@ -57,6 +57,11 @@ judge seen n [] = Good
 judge seen n (whole f ∷ l) = cond (obeys seen f) (judge (after seen f) (n + 1) l) (BadFrame n)
 judge seen n (torn ∷ l) = BadFrame n
 
+-- whether every frame of a list obeys
+unfoldable pub obeyAll : Seen → List Frame → Bool
+obeyAll seen [] = true
+obeyAll seen (f ∷ l) = both (obeys seen f) (obeyAll (after seen f) l)
+
 -- the byte limit is tested first and gives 0
 unfoldable pub checkTree : List ℕ → Checked
 checkTree image = cond (ltb 32768 (length image)) (BadFrame 0) (judge start 0 (items image))
