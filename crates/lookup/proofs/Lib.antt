@@ -3,3 +3,5 @@ pub mod Looks
 pub mod Seeks
 pub mod Matches
 pub mod Parts
+pub mod Subtrees
+pub mod Lookups

@@ -5,7 +5,7 @@ use mathlib.Core.Bool.{Bool, true, false, cond}
 use mathlib.Core.List.{List, [], _∷_}
 use native.Mathlib.Omega.{arith}
 use lib.ListN.{length, drop, length-drop}
-use lib.Seq.{drop-drop, getD-drop}
+use lib.Seq.{drop-drop}
 use Rattle.buffer.proofs.Lists.{drop-end}
 use Rattle.frame.specs.Text.{Bytes}
 use Rattle.image.specs.Frames.{Frame, encode}

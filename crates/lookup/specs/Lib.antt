@@ -3,3 +3,4 @@ pub mod Spots
 pub mod Searches
 pub mod Nodes
 pub mod Definitions
+pub mod Subtrees

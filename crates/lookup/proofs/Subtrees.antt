@@ -1,0 +1,163 @@
+-- Where the code finds a subtree, its bytes are those of the subtree among the frames.
+use Prim.Native.Nat.{ℕ, _+_, _-_}
+use mathlib.Core.Path.{_≡_, refl, sym, ap, _∙_}
+use mathlib.Core.Bool.{Bool, true, false, cond}
+use mathlib.Core.List.{List, [], _∷_, _++_, append-assoc, append-nil}
+use native.Mathlib.Omega.{arith}
+use lib.ListN.{length, take, drop, length-append}
+use lib.Seq.{append-snoc, drop-append-seam, take-append-seam}
+use Rattle.image.specs.Frames.{Frame, node, option, flag, encode}
+use Rattle.image.specs.Reading.{read, readFirst}
+use Rattle.image.proofs.Encoding.{frame-read}
+use Rattle.tree.specs.Images.{framesOf, flat}
+use Rattle.tree.proofs.Wholes.{AllFit, frames-flat}
+use Rattle.lookup.specs.Spots.{later, placeOf, spot}
+use Rattle.lookup.specs.Searches.{wanted}
+use Rattle.lookup.specs.Nodes.{orEnd, endAfter, subtreeEnd, partAt, findNode}
+use Rattle.lookup.specs.Subtrees.{upTo, onFrom, rooted, subtree, PartHolds}
+use Rattle.lookup.specs.declared.seek.Spot.{Spot}
+use Rattle.lookup.specs.declared.seek.Spot.the-variants.{At, Nothing}
+use Rattle.lookup.specs.declared.look.Sought.the-variants.{Node, Upper}
+
+pub flat-append : (a b : List Frame) → flat (a ++ b) ≡ flat a ++ flat b
+unfolding flat
+flat-append [] b = refl
+flat-append (f ∷ a) b = rw (flat-append a b) (sym (append-assoc (encode f) (flat a) (flat b)))
+
+fit-append : (a b : List Frame) → AllFit (a ++ b) → AllFit b
+fit-append [] b k = k
+fit-append (f ∷ a) b k = fit-append a b (k .1)
+
+pub up-on : (test : Frame → Bool) (fs : List Frame) → upTo test fs ++ onFrom test fs ≡ fs
+unfolding upTo onFrom
+up-on test [] = refl
+up-on test (f ∷ l) = by (test f) (up-on test l)
+  where
+    by : (t : Bool) → upTo test l ++ onFrom test l ≡ l → cond t [] (f ∷ upTo test l) ++ cond t (f ∷ l) (onFrom test l) ≡ f ∷ l
+    by true e = refl
+    by false e = ap (λ (m : List Frame). f ∷ m) e
+
+later-none : (x : Spot) → later 0 x ≡ x
+later-none (At k) = ap At (omega arith)
+later-none Nothing = refl
+
+-- the place of the first frame that passes is behind those before it
+abbrev placed : List Frame → List Frame → Spot
+placed before [] = Nothing
+placed before (f ∷ l) = At (length (flat before))
+
+abbrev never : Frame → Bool
+never f = false
+
+placed-later : (f : Frame) (before rest : List Frame) → later (length (encode f)) (placed before rest) ≡ placed (f ∷ before) rest
+unfolding flat
+placed-later f before [] = refl
+placed-later f before (g ∷ l) = ap At (sym (length-append (encode f) (flat before)))
+
+place-up : (test : Frame → Bool) (fs : List Frame) → placeOf test never fs ≡ placed (upTo test fs) (onFrom test fs)
+unfolding placeOf upTo onFrom flat
+place-up test [] = refl
+place-up test (f ∷ l) = by (test f) (place-up test l)
+  where
+    by : (t : Bool) → placeOf test never l ≡ placed (upTo test l) (onFrom test l)
+        → cond t (At 0) (later (length (encode f)) (placeOf test never l)) ≡ placed (cond t [] (f ∷ upTo test l)) (cond t (f ∷ l) (onFrom test l))
+    by true e = refl
+    by false e = rw e (placed-later f (upTo test l) (onFrom test l))
+
+-- the first of those from a test on passes it
+on-first : (test : Frame → Bool) (fs : List Frame) (f : Frame) (l : List Frame) → onFrom test fs ≡ f ∷ l → test f ≡ true
+unfolding onFrom
+on-first test [] f l e = absurd (let z : _≡_ {A = ℕ} 0 1 = cc in omega arith)
+on-first test (g ∷ m) f l e = by (test g) refl e (on-first test m f l)
+  where
+    by : (t : Bool) → test g ≡ t → cond t (g ∷ m) (onFrom test m) ≡ f ∷ l → (onFrom test m ≡ f ∷ l → test f ≡ true) → test f ≡ true
+    by true q r more = let k : g ≡ f = cc in rw k at q
+    by false q r more = more r
+
+-- the frames of what stands behind frames
+module _ (a b : List Frame) (fit : AllFit (a ++ b)) where
+  behind : drop (length (flat a)) (flat (a ++ b)) ≡ flat b
+  behind = rw (flat-append a b) (drop-append-seam (flat a) (flat b))
+
+  frames-behind : framesOf (drop (length (flat a)) (flat (a ++ b))) ≡ b
+  frames-behind = ap framesOf behind ∙ frames-flat b (fit-append a b fit)
+
+-- a search in joined frames, from behind some of them
+pub spot-behind : (test ends : Frame → Bool) (a b : List Frame) → AllFit (a ++ b) → spot test ends (flat (a ++ b)) (length (flat a)) ≡ later (length (flat a)) (placeOf test ends b)
+unfolding spot
+spot-behind test ends a b fit = rw (frames-behind a b fit)
+
+spot-flat : (test : Frame → Bool) (a b : List Frame) → AllFit (a ++ b) → spot test never (flat (a ++ b)) (length (flat a)) ≡ later (length (flat a)) (placed (upTo test b) (onFrom test b))
+spot-flat test a b fit = spot-behind test never a b fit ∙ rw (place-up test b)
+
+-- the end of a subtree
+or-end : (image : List ℕ) (k : ℕ) (up on : List Frame) → length image ≡ k + length (flat (up ++ on)) → orEnd image (later k (placed up on)) ≡ k + length (flat up)
+or-end image k up [] e = rw (append-nil up) at e
+or-end image k up (g ∷ m) e = refl
+
+length-snoc : (before : List Frame) (f : Frame) → length (flat (before ++ f ∷ [])) ≡ length (flat before) + length (encode f)
+unfolding flat
+length-snoc before f = ap length (flat-append before (f ∷ [])) ∙ length-append (flat before) (encode f ++ []) ∙ rw (append-nil (encode f))
+
+length-joined : (a b : List Frame) → length (flat (a ++ b)) ≡ length (flat a) + length (flat b)
+length-joined a b = ap length (flat-append a b) ∙ length-append (flat a) (flat b)
+
+module _ (d : ℕ) (before : List Frame) (f : Frame) (l : List Frame) (fit : AllFit (before ++ f ∷ l)) where
+  upper-spot : spot (wanted (Upper d) []) never (flat (before ++ f ∷ l)) (length (flat before) + length (encode f))
+      ≡ later (length (flat before) + length (encode f)) (placed (upTo (wanted (Upper d) []) l) (onFrom (wanted (Upper d) []) l))
+  upper-spot =
+      let fit₂ : AllFit ((before ++ f ∷ []) ++ l) = rw (append-snoc before f l) fit in
+      rw (append-snoc before f l, length-snoc before f) at (spot-flat (wanted (Upper d) []) (before ++ f ∷ []) l fit₂)
+
+  upper-end : orEnd (flat (before ++ f ∷ l)) (spot (wanted (Upper d) []) never (flat (before ++ f ∷ l)) (length (flat before) + length (encode f)))
+      ≡ length (flat before) + length (flat (f ∷ upTo (wanted (Upper d) []) l))
+  unfolding flat
+  upper-end =
+      let size : length (flat (before ++ f ∷ l)) ≡ length (flat before) + length (encode f) + length (flat (upTo (wanted (Upper d) []) l ++ onFrom (wanted (Upper d) []) l)) =
+      length-joined before (f ∷ l) ∙ rw (length-append (encode f) (flat l), up-on (wanted (Upper d) []) l) (omega arith)
+      in
+      let two : length (encode f ++ flat (upTo (wanted (Upper d) []) l)) ≡ length (encode f) + length (flat (upTo (wanted (Upper d) []) l)) = length-append (encode f) (flat (upTo (wanted (Upper d) []) l)) in
+      rw upper-spot (or-end (flat (before ++ f ∷ l)) (length (flat before) + length (encode f)) (upTo (wanted (Upper d) []) l) (onFrom (wanted (Upper d) []) l) size ∙ omega arith)
+
+  first-there : readFirst (drop (length (flat before)) (flat (before ++ f ∷ l))) ≡ read f (length (encode f))
+  unfolding flat
+  first-there = ap readFirst (behind before (f ∷ l) fit) ∙ frame-read f (flat l) (fit-append before (f ∷ l) fit .0)
+
+  end-flat : (name : List ℕ) → wanted (Node d) name f ≡ true → subtreeEnd (flat (before ++ f ∷ l)) (length (flat before)) d ≡ length (flat before) + length (flat (f ∷ upTo (wanted (Upper d) []) l))
+  unfolding subtreeEnd
+  end-flat name w = rw first-there (by f w upper-end)
+    where
+      by : (g : Frame) → wanted (Node d) name g ≡ true
+          → orEnd (flat (before ++ f ∷ l)) (spot (wanted (Upper d) []) never (flat (before ++ f ∷ l)) (length (flat before) + length (encode f))) ≡ length (flat before) + length (flat (f ∷ upTo (wanted (Upper d) []) l))
+          → endAfter (flat (before ++ f ∷ l)) (length (flat before) + length (encode f)) d g ≡ length (flat before) + length (flat (f ∷ upTo (wanted (Upper d) []) l))
+      by (node e h n ds u) q r = r
+      by (option a c n x ds) q r = absurd (let z : _≡_ {A = ℕ} 0 1 = cc in omega arith)
+      by (flag c n x ds) q r = absurd (let z : _≡_ {A = ℕ} 0 1 = cc in omega arith)
+
+-- a part between two places holds the frames that stand there
+part-holds : (before mid behind : List Frame) → take (length (flat before) + length (flat mid) - length (flat before)) (drop (length (flat before)) (flat (before ++ (mid ++ behind)))) ≡ flat mid
+part-holds before mid behind =
+    let n : length (flat before) + length (flat mid) - length (flat before) ≡ length (flat mid) = omega arith in
+    rw (n, flat-append before (mid ++ behind), flat-append mid behind, drop-append-seam (flat before) (flat mid ++ flat behind)) (take-append-seam (flat mid) (flat behind))
+
+-- the part that is found holds the subtree
+found-holds : (d : ℕ) (name : List ℕ) (before on : List Frame) → AllFit (before ++ on) → ((f : Frame) (l : List Frame) → on ≡ f ∷ l → wanted (Node d) name f ≡ true)
+    → PartHolds (flat (before ++ on)) (rooted d on) (partAt (flat (before ++ on)) d (placed before on))
+found-holds d name before [] fit w = refl
+found-holds d name before (f ∷ l) fit w =
+    let test : Frame → Bool = wanted (Upper d) [] in
+    let end = end-flat d before f l fit name (w f l refl) in
+    let all : before ++ f ∷ l ≡ before ++ ((f ∷ upTo test l) ++ onFrom test l) = ap (λ (m : List Frame). before ++ f ∷ m) (sym (up-on test l)) in
+    let size : length (flat (before ++ f ∷ l)) ≡ length (flat before) + length (flat (f ∷ upTo test l)) + length (flat (onFrom test l)) =
+    ap (λ (m : List Frame). length (flat m)) all ∙ length-joined before ((f ∷ upTo test l) ++ onFrom test l) ∙ rw (length-joined (f ∷ upTo test l) (onFrom test l)) (omega arith)
+    in
+    (rw end (omega arith), rw end (omega arith), rw (end, all) (part-holds before (f ∷ upTo test l) (onFrom test l)))
+
+pub find-holds : (d : ℕ) (name : List ℕ) (fs : List Frame) → AllFit fs → PartHolds (flat fs) (subtree d name fs) (findNode (flat fs) d name)
+unfolding subtree findNode spot
+find-holds d name fs fit =
+    let test : Frame → Bool = wanted (Node d) name in
+    let whole = up-on test fs in
+    let fit₂ : AllFit (upTo test fs ++ onFrom test fs) = rw whole fit in
+    rw (frames-flat fs fit, place-up test fs, later-none (placed (upTo test fs) (onFrom test fs)))
+    (rw whole at (found-holds d name (upTo test fs) (onFrom test fs) fit₂ (λ f l e. on-first test fs f l e)))
