@@ -6,16 +6,47 @@ use super::head::span_of;
 use super::lend::part;
 use super::lend::rest;
 ghost use mathlib.Core.Path.{_≡_};
-ghost use Prim.Native.Nat.{ℕ, _+_, _≤_, _<_};
-ghost use lib.ListN.{take, drop};
+ghost use Prim.Native.Nat.{ℕ, _≤_, _<_, max};
+ghost use lib.ListN.{length, drop};
+ghost use Rattle.image.specs.Blocks.{strange};
 ghost use Rattle.image.specs.Limits.{allShown, isName, isNote, isShort, optionally, definable, fair};
 ghost use Rattle.image.specs.Reading.{Small, perhapsIn, definedIn, nodeIn, frameFirst};
 
 // The largest byte of a text, 7E.
 const LAST: u8 = 0x7E;
 
-// Whether all bytes of t are from `low` to 7E.
-fn all_shown(low: u8, t: &[u8]) -> bool
+// 1 for a byte outside of `low` to 7E, else 0.
+fn outside(low: u8, byte: u8) -> u8
+    ensures { λ r. ⌜ r ≡ strange low byte ⌝ }
+{
+    if byte < low {
+        return 1;
+    }
+    if LAST < byte { 1 } else { 0 }
+}
+
+fn worse(a: u8, b: u8) -> u8
+    ensures { λ r. ⌜ r ≡ max a b ⌝ }
+{
+    if a < b { b } else { a }
+}
+
+// Whether all of 16 bytes are from `low` to 7E: no early exit, so that the backend takes them at once.
+fn block_shown(low: u8, block: &[u8]) -> bool
+    requires { ⌜ length (now block) ≡ 16 ⌝ }
+    ensures { λ r. ⌜ r ≡ allShown low (now (block .entry)) ⌝ }
+{
+    let mut worst = 0;
+    let mut i = 0;
+    while i < 16 {
+        worst = worse(worst, outside(low, block[i]));
+        i += 1;
+    }
+    worst == 0
+}
+
+// The same for a text of any length, byte by byte.
+fn each_shown(low: u8, t: &[u8]) -> bool
     ensures { λ r. ⌜ r ≡ allShown low (now (t .entry)) ⌝ }
 {
     let mut i = 0;
@@ -27,6 +58,29 @@ fn all_shown(low: u8, t: &[u8]) -> bool
             return false;
         }
         i += 1;
+    }
+    true
+}
+
+// Whether all bytes of t are from `low` to 7E: whole blocks and the last 16 bytes, of which some may be seen twice.
+fn all_shown(low: u8, t: &[u8]) -> bool
+    ensures { λ r. ⌜ r ≡ allShown low (now (t .entry)) ⌝ }
+{
+    let n = t.len();
+    if n < 16 {
+        return each_shown(low, t);
+    }
+    let last = n - 16;
+    if !block_shown(low, &t[last..]) {
+        return false;
+    }
+    let mut at = 0;
+    while at < last {
+        let end = at + 16;
+        if !block_shown(low, &t[at..end]) {
+            return false;
+        }
+        at = end;
     }
     true
 }
