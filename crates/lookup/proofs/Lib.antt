@@ -5,3 +5,4 @@ pub mod Matches
 pub mod Parts
 pub mod Subtrees
 pub mod Lookups
+pub mod Examples

@@ -6,3 +6,4 @@ pub mod Wholes
 pub mod Growing
 pub mod Planting
 pub mod Forests
+pub mod Examples
