@@ -4,5 +4,6 @@ pub mod Seeks
 pub mod Matches
 pub mod Parts
 pub mod Subtrees
+pub mod Finds
 pub mod Lookups
 pub mod Examples
