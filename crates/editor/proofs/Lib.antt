@@ -7,3 +7,6 @@ pub mod Enters
 pub mod Ranges
 pub mod Keeping
 pub mod Pressings
+pub mod Always
+pub mod Fine
+pub mod Original

@@ -134,3 +134,11 @@ turnIn Sequence prompt s byte = sequenced prompt (inMode s Typing) byte
 
 unfoldable pub turnOf : List ℕ → State → ℕ → Turn
 turnOf prompt s byte = turnIn (s .mode) prompt s byte
+
+-- the fresh state, and the state after keys: a session is the fold of its keys
+abbrev pub freshState : State
+freshState = record { line = []; cursor = 0; mode = Typing; entries = []; place = 0 }
+
+unfoldable pub afterKeys : List ℕ → State → List ℕ → State
+afterKeys prompt s [] = s
+afterKeys prompt s (byte ∷ keys) = afterKeys prompt (turnOf prompt s byte .after) keys

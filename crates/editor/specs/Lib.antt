@@ -3,3 +3,4 @@ pub mod Line
 pub mod Keys
 pub mod Answer
 pub mod Steps
+pub mod Rust

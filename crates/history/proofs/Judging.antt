@@ -85,7 +85,7 @@ pub data Follows : List ℕ → List ℕ → Type 0 where
   first : Follows [] []
   after : {e : List ℕ} → length e ≤ 255 → Follows (slot e) e
 
-usable-some : (e : List ℕ) → usable e ≡ true → sameBytes [] e ≡ false
+pub usable-some : (e : List ℕ) → usable e ≡ true → sameBytes [] e ≡ false
 unfolding usable blank allWhite sameBytes
 usable-some [] u = absurd (true-is-not-false (sym u ∙ rw pieces-none))
 usable-some (x ∷ e) u = refl

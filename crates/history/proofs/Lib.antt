@@ -5,3 +5,5 @@ pub mod Stepping
 pub mod Newest
 pub mod States
 pub mod Answers
+pub mod Kept
+pub mod Original

@@ -145,7 +145,7 @@ entry-of count place n slots g h =
     let few = k .counted in
     then-is _ _ _ (lt-ltb n (length slots / 256) (omega arith)) ∙ sym (entry-in count n slots h)
 
-short-at : (es : List (List ℕ)) (n : ℕ) → Short es → length (getD es n []) ≤ 255
+pub short-at : (es : List (List ℕ)) (n : ℕ) → Short es → length (getD es n []) ≤ 255
 short-at [] n none = omega arith
 short-at (e ∷ es) zero (more h hs) = h
 short-at (e ∷ es) (suc n) (more h hs) = short-at es n hs

@@ -1,0 +1,140 @@
+-- The Rust's loop (docs/src/src/shell/mod.rs) as a function on values: what one key writes and leaves. The prompt after Enter and the command's own
+-- output are left out: the caller writes them. `buf[..line_len]` is a list, and a `String` its bytes.
+use Prim.Native.Nat.{ℕ, _+_, _-_, min}
+use mathlib.Core.Bool.{Bool, cond}
+use mathlib.Core.List.{List, [], _∷_, _++_}
+use mathlib.Core.Option.{Option, none, some}
+use lib.Dec.{eqb, ltb}
+use lib.ListN.{length, take, drop}
+use Rattle.history.specs.Rust.{CommandHistory, addCommand, Told, previous, next}
+use Rattle.screen.specs.Decimal.{decimal}
+use Rattle.editor.specs.declared.line.Mode.{Mode}
+use Rattle.editor.specs.declared.line.Mode.the-variants.{Typing, Escape, Sequence}
+use Rattle.editor.specs.Line.{content}
+
+-- let mut buf, cursor, line_len, input_state, history. InputState: Normal is Typing, Escape is Escape, EscapeSeq is Sequence.
+pub record Shell : Type 0 where
+  pub buf : List ℕ
+  pub cursor : ℕ
+  pub input : Mode
+  pub history : CommandHistory
+
+-- the shell after a key, and what was written to stdout
+pub record Loop : Type 0 where
+  pub after : Shell
+  pub stdout : List ℕ
+
+-- history.rs: clear_line_and_redraw(stdout, prompt, content, cursor_pos)
+unfoldable pub clearLineAndRedraw : List ℕ → List ℕ → ℕ → List ℕ
+clearLineAndRedraw prompt text cursor =
+    0x0D ∷ 0x1B ∷ 0x5B ∷ 0x32 ∷ 0x4B
+    ∷ (prompt ++ (text ++ cond (ltb cursor (length text)) (0x1B ∷ 0x5B ∷ (decimal (length text - cursor) ++ (0x44 ∷ []))) []))
+
+-- the line, the cursor and the input state set anew
+abbrev pub withBuf : Shell → List ℕ → ℕ → Shell
+withBuf sh buf cursor = record { buf = buf; cursor = cursor; input = Typing; history = sh .history }
+
+-- CR | LF: println!(); if line_len > 0 { history.add_command(cmd_str.to_string()); .. buf[..line_len].fill(0); cursor = 0; line_len = 0; }
+unfoldable pub crlf : Shell → Loop
+crlf sh =
+    cond (ltb 0 (length (sh .buf)))
+    (record { after = record { buf = []; cursor = 0; input = sh .input; history = addCommand (sh .history) (content (sh .buf)) }; stdout = 0x0A ∷ [] })
+    (record { after = sh; stdout = 0x0A ∷ [] })
+
+-- BS | DL: if cursor > 0 { .. clear_line_and_redraw(&mut stdout, &prompt, current_content, cursor); }
+abbrev pub without : List ℕ → ℕ → List ℕ
+without buf cursor = take (cursor - 1) buf ++ drop cursor buf
+
+unfoldable pub bsdl : List ℕ → Shell → Loop
+bsdl prompt sh =
+    cond (ltb 0 (sh .cursor))
+    (record {
+      after = record { buf = without (sh .buf) (sh .cursor); cursor = sh .cursor - 1; input = sh .input; history = sh .history };
+      stdout = clearLineAndRedraw prompt (content (without (sh .buf) (sh .cursor))) (sh .cursor - 1);
+    })
+    (record { after = sh; stdout = [] })
+
+-- c: if line_len < MAX_LINE_LEN - 1 { .. }
+abbrev pub with : List ℕ → ℕ → ℕ → List ℕ
+with buf cursor c = take cursor buf ++ (c ∷ drop cursor buf)
+
+unfoldable pub other : List ℕ → Shell → ℕ → Loop
+other prompt sh c =
+    cond (ltb (length (sh .buf)) 255)
+    (record {
+      after = record { buf = with (sh .buf) (sh .cursor) c; cursor = sh .cursor + 1; input = sh .input; history = sh .history };
+      stdout = clearLineAndRedraw prompt (content (with (sh .buf) (sh .cursor) c)) (sh .cursor + 1);
+    })
+    (record { after = sh; stdout = [] })
+
+-- InputState::Normal => match ch { CR | LF, BS | DL, ESC, 0..=31, c }
+unfoldable pub normal : List ℕ → Shell → ℕ → Loop
+normal prompt sh ch =
+    cond (eqb ch 0x0D) (crlf sh)
+    (cond (eqb ch 0x0A) (crlf sh)
+    (cond (eqb ch 0x08) (bsdl prompt sh)
+    (cond (eqb ch 0x7F) (bsdl prompt sh)
+    (cond (eqb ch 0x1B) (record { after = record { buf = sh .buf; cursor = sh .cursor; input = Escape; history = sh .history }; stdout = [] })
+    (cond (ltb ch 0x20) (record { after = sh; stdout = [] })
+    (other prompt sh ch))))))
+
+-- InputState::Escape => match ch { b'[' => EscapeSeq, _ => Normal }
+unfoldable pub escape : Shell → ℕ → Loop
+escape sh ch =
+    record {
+      after = record { buf = sh .buf; cursor = sh .cursor; input = cond (eqb ch 0x5B) Sequence Typing; history = sh .history };
+      stdout = [];
+    }
+
+-- a recalled command: copy_len = cmd_bytes.len().min(MAX_LINE_LEN - 1), cursor = line_len = copy_len, redrawn
+unfoldable pub recalledIn : List ℕ → CommandHistory → List ℕ → Loop
+recalledIn prompt h cmd =
+    record {
+      after = record { buf = take (min (length cmd) 255) cmd; cursor = min (length cmd) 255; input = Typing; history = h };
+      stdout = clearLineAndRedraw prompt cmd (min (length cmd) 255);
+    }
+
+abbrev pub onText : {A : Type 0} → Option (List ℕ) → (List ℕ → A) → A → A
+onText (some t) f other = f t
+onText none f other = other
+
+-- b'A': if let Some(prev_cmd) = history.previous() { .. } input_state = Normal
+unfoldable pub keyA : List ℕ → Shell → Loop
+keyA prompt sh =
+    onText (previous (sh .history) .text) (recalledIn prompt (previous (sh .history) .after))
+    (record { after = record { buf = sh .buf; cursor = sh .cursor; input = Typing; history = previous (sh .history) .after }; stdout = [] })
+
+-- b'B': match history.next() { Some(next_cmd) => .., None => { .. clear_line_and_redraw(&mut stdout, &prompt, "", cursor); } }
+unfoldable pub keyB : List ℕ → Shell → Loop
+keyB prompt sh =
+    onText (next (sh .history) .text) (recalledIn prompt (next (sh .history) .after))
+    (record { after = record { buf = []; cursor = 0; input = Typing; history = next (sh .history) .after }; stdout = clearLineAndRedraw prompt [] 0 })
+
+-- b'C': if cursor < line_len { cursor += 1; stdout.write_all(b"\x1b[C") }; b'D': if cursor > 0 { cursor -= 1; .. b"\x1b[D" }
+unfoldable pub keyC : Shell → Loop
+keyC sh =
+    cond (ltb (sh .cursor) (length (sh .buf))) (record { after = withBuf sh (sh .buf) (sh .cursor + 1); stdout = 0x1B ∷ 0x5B ∷ 0x43 ∷ [] })
+    (record { after = withBuf sh (sh .buf) (sh .cursor); stdout = [] })
+
+unfoldable pub keyD : Shell → Loop
+keyD sh =
+    cond (ltb 0 (sh .cursor)) (record { after = withBuf sh (sh .buf) (sh .cursor - 1); stdout = 0x1B ∷ 0x5B ∷ 0x44 ∷ [] })
+    (record { after = withBuf sh (sh .buf) (sh .cursor); stdout = [] })
+
+-- InputState::EscapeSeq => match ch { b'A', b'B', b'C', b'D', b'3', _ }
+unfoldable pub escapeSeq : List ℕ → Shell → ℕ → Loop
+escapeSeq prompt sh ch =
+    cond (eqb ch 0x41) (keyA prompt sh)
+    (cond (eqb ch 0x42) (keyB prompt sh)
+    (cond (eqb ch 0x43) (keyC sh)
+    (cond (eqb ch 0x44) (keyD sh)
+    (record { after = withBuf sh (sh .buf) (sh .cursor); stdout = [] }))))
+
+-- match input_state
+unfoldable pub rustIn : Mode → List ℕ → Shell → ℕ → Loop
+rustIn Typing prompt sh ch = normal prompt sh ch
+rustIn Escape prompt sh ch = escape sh ch
+rustIn Sequence prompt sh ch = escapeSeq prompt sh ch
+
+unfoldable pub rustKey : List ℕ → Shell → ℕ → Loop
+rustKey prompt sh ch = rustIn (sh .input) prompt sh ch
