@@ -3,6 +3,7 @@ use Rattle.image.proofs.Fields.{seen, node-deep, node-unnamed, node-und
 use Rattle.image.specs.Reading.{nodeIn}
 use Rattle.image.specs.Limits.{isName, isNote}
 use borrow.Author.Needs.{needs}
+use native.Mathlib.Omega.{arith}
 use mathlib.Core.Path.{_∙_}
 use borrow.Author.Tests.{not-true, not-false}
 use Rattle.image.proofs.limits.fair_node.Statement.{statement}
@@ -10,7 +11,7 @@ use Rattle.image.proofs.limits.fair_node.Tie as tie
 
 returns : tie.Need-returns
 unfolding nodeIn
-returns c = λ h k. node-deep _ h _ _ _ k (c .if1 .taken)
+returns c = λ h k. node-deep (c .before .before .args .depth) h _ _ _ k (omega arith)
 
 part-requires : tie.Need-part-requires
 part-requires c κs = search needs

@@ -16,7 +16,7 @@ abbrev μ-loop : tie.MeasureT-loop
 μ-loop image walk₀ n₀ walk n = length image - walk .at
 
 returns : tie.Need-returns Inv-loop μ-loop
-returns c = check-long _ (c .if1 .taken)
+returns c = check-long (c .before .before .args .image .now) (omega arith)
 
 start-requires : tie.Need-start-requires Inv-loop μ-loop
 start-requires c κs = search needs
