@@ -1,0 +1,7 @@
+// Replays stored sessions of the original's loop: writes what the crate editor shows for the same keys, and the history that they leave.
+mod sample;
+mod stream;
+
+fn main() {
+    sample::all();
+}

@@ -1,0 +1,29 @@
+// The stored sample: each line of the input is a stream of keys in hexadecimal, and is answered by a line.
+use crate::stream::press_all;
+use replay::hex::read_hex;
+use replay::input::line_end;
+use replay::input::read_input;
+
+// Presses the keys of a line of digits. A stream has at most 1,100 keys: what is longer is read as none, and shows in the answer.
+fn press_line(digits: &[u8]) {
+    let mut keys = [0u8; 1100];
+    let n = read_hex(digits, &mut keys);
+    press_all(&keys[..n]);
+}
+
+// Presses the keys of every line.
+fn press_lines(input: &[u8]) {
+    let mut at = 0;
+    while at < input.len() {
+        let end = line_end(input, at);
+        press_line(&input[at..end]);
+        at = end + 1;
+    }
+}
+
+// Presses all of standard input, which has to be shorter than the buffer of 65,536 bytes.
+pub fn all() {
+    let mut input = io::large_buffer();
+    let n = read_input(&mut input);
+    press_lines(&input[..n]);
+}
