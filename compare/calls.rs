@@ -2,7 +2,7 @@
 #[path = "../crates/abi/rissemat.rs"]
 mod rissemat;
 
-use rissemat::{rissemat_quote, rissemat_words};
+use rissemat::{rissemat_fresh, rissemat_history_add, rissemat_key, rissemat_quote, rissemat_words};
 
 /// Writes the words of a line as frames of kind 14.
 pub fn words(line: &[u8], out: &mut [u8]) -> u64 {
@@ -12,4 +12,42 @@ pub fn words(line: &[u8], out: &mut [u8]) -> u64 {
 /// Writes a line that splits into the words of these frames of kind 14.
 pub fn quote(words: &[u8], out: &mut [u8]) -> u64 {
     unsafe { rissemat_quote(words.as_ptr(), words.len(), out.as_mut_ptr(), out.len()) }
+}
+
+/// Makes a saved state and its slots fresh.
+pub fn fresh(state: &mut [u8], slots: &mut [u8]) -> u64 {
+    unsafe { rissemat_fresh(state.as_mut_ptr(), state.len(), slots.as_mut_ptr(), slots.len()) }
+}
+
+/// Has a saved state take one key; writes what it shows, and at Enter the line.
+pub fn key(state: &mut [u8], slots: &mut [u8], prompt: &[u8], key: u8, line: &mut [u8], screen: &mut [u8]) -> u64 {
+    unsafe {
+        rissemat_key(
+            state.as_mut_ptr(),
+            state.len(),
+            slots.as_mut_ptr(),
+            slots.len(),
+            prompt.as_ptr(),
+            prompt.len(),
+            key,
+            line.as_mut_ptr(),
+            line.len(),
+            screen.as_mut_ptr(),
+            screen.len(),
+        )
+    }
+}
+
+/// Adds a text to a saved state's history.
+pub fn history_add(state: &mut [u8], slots: &mut [u8], text: &[u8]) -> u64 {
+    unsafe {
+        rissemat_history_add(
+            state.as_mut_ptr(),
+            state.len(),
+            slots.as_mut_ptr(),
+            slots.len(),
+            text.as_ptr(),
+            text.len(),
+        )
+    }
 }

@@ -1,5 +1,6 @@
 // Calls with a buffer exactly full, one byte too short, and larger: the answer and every byte in and around it are seen.
-use crate::part::hex;
+use crate::part::{hex, say};
+use crate::watched::Watched;
 use std::hint::black_box;
 
 /// What a call has to do if the buffer has room enough. A refusal writes nothing, whatever room there is.
@@ -8,8 +9,6 @@ pub enum Expected {
     Refusal { number: u64, value: u64 },
 }
 
-/// The bytes watched on either side of the lent buffer.
-const MARGIN: usize = 16;
 /// How much longer than needed the larger buffer is.
 const MORE: usize = 37;
 /// More than the words of any line need, 2,048 bytes, and more than any quoted line.
@@ -18,19 +17,13 @@ const ROOM: usize = 2_400;
 const TOO_SHORT: u64 = 9;
 
 pub struct Buffers {
-    /// What lies in and around the buffer before a call.
-    pattern: Vec<u8>,
-    /// What has to lie there after it.
-    expected: Vec<u8>,
-    found: Vec<u8>,
+    out: Watched,
     pub calls: u64,
 }
 
 impl Buffers {
     pub fn new() -> Self {
-        let places = 0..MARGIN + ROOM + MARGIN;
-        let pattern: Vec<u8> = places.map(|place| (place as u8).wrapping_mul(59).wrapping_add(0xA5)).collect();
-        Buffers { expected: pattern.clone(), found: pattern.clone(), pattern, calls: 0 }
+        Buffers { out: Watched::new(ROOM), calls: 0 }
     }
 
     /// The first difference between what is expected and what the call does with the buffers.
@@ -54,15 +47,11 @@ impl Buffers {
     // One call with a buffer of this length, which must give this answer, write these bytes and change no other.
     fn one(&mut self, length: usize, call: impl Fn(&mut [u8]) -> u64, answer: u64, written: &[u8]) -> Option<String> {
         self.calls += 1;
-        let pattern = &self.pattern[..MARGIN + length + MARGIN];
-        let expected = &mut self.expected[..pattern.len()];
-        let found = &mut self.found[..pattern.len()];
-        expected.copy_from_slice(pattern);
-        expected[MARGIN..MARGIN + written.len()].copy_from_slice(written);
-        found.copy_from_slice(pattern);
-        let given = call(&mut found[MARGIN..MARGIN + length]);
-        let found = black_box(found);
-        if given == answer && found == expected {
+        self.out.clear(length);
+        self.out.expect(written);
+        let given = call(black_box(self.out.lent()));
+        let wrong = self.out.wrong();
+        if given == answer && wrong.is_none() {
             return None;
         }
         let said = format!(
@@ -70,13 +59,10 @@ impl Buffers {
             say(answer),
             hex(written),
             say(given),
-            hex(&found[MARGIN..MARGIN + bytes_of(given).min(length)])
+            hex(&self.out.found()[..bytes_of(given).min(length)])
         );
-        let wrong = found.iter().zip(expected).position(|(found, expected)| found != expected);
         match wrong {
-            Some(place) if given == answer => {
-                Some(format!("{said}\nwrong:    byte {} of the buffer", place as i64 - MARGIN as i64))
-            }
+            Some(place) if given == answer => Some(format!("{said}\nwrong:    byte {place} of the buffer")),
             _ => Some(said),
         }
     }
@@ -90,8 +76,4 @@ fn answer(number: u64, value: u64) -> u64 {
 /// How many bytes an answer says that were written.
 fn bytes_of(answer: u64) -> usize {
     if answer >> 32 == 0 { answer as usize } else { 0 }
-}
-
-fn say(answer: u64) -> String {
-    format!("{answer:#018x} (refusal {}, value {})", answer >> 32 & 0xFF, answer & 0xFFFF_FFFF)
 }

@@ -41,24 +41,29 @@ const ODD: [char; 12] = [
 const WIDE: [(usize, usize); 3] = [(0x80, 0x800), (0x800, 0x1_0000), (0x1_0000, 0x11_0000)];
 
 /// Ill-formed bytes: one that no text has, overlong, a surrogate, past the last code, a later byte alone, two cut off.
-const DAMAGE: [&[u8]; 7] =
+pub const DAMAGE: [&[u8]; 7] =
     [b"\xFF", b"\xC0\x80", b"\xED\xA0\x80", b"\xF4\x90\x80\x80", b"\x80", b"\xE2\x82 ", b"\xF0\x9F\x98\\"];
 
 /// Gives out every line of at most so many characters of the alphabet, the shortest first.
 pub fn every_line(characters: usize, give: &mut impl FnMut(&[u8])) {
+    every(&ALPHABET, characters, give);
+}
+
+/// Gives out all that at most so many characters of an alphabet make, the shortest first.
+pub fn every(alphabet: &[&[u8]], characters: usize, give: &mut impl FnMut(&[u8])) {
     for exactly in 0..=characters {
-        extend(&mut Vec::new(), exactly, give);
+        extend(alphabet, &mut Vec::new(), exactly, give);
     }
 }
 
-fn extend(line: &mut Vec<u8>, characters: usize, give: &mut impl FnMut(&[u8])) {
+fn extend(alphabet: &[&[u8]], line: &mut Vec<u8>, characters: usize, give: &mut impl FnMut(&[u8])) {
     if characters == 0 {
         return give(line);
     }
-    for character in ALPHABET {
+    for character in alphabet {
         let length = line.len();
-        line.extend(character);
-        extend(line, characters - 1, give);
+        line.extend(*character);
+        extend(alphabet, line, characters - 1, give);
         line.truncate(length);
     }
 }

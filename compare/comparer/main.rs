@@ -1,18 +1,28 @@
 // Compares the proved library with the original shell and with the rules of the standard, part by part.
 mod buffers;
 mod frames;
+mod history;
+mod keys;
+mod lent;
 mod lines;
 mod marked;
+mod model;
 mod part;
+mod prompts;
 mod quote;
 mod random;
 mod session;
+mod shell;
+mod states;
+mod streams;
+mod watched;
 mod words;
+mod workers;
 
 use part::Part;
 use std::process::ExitCode;
 
-const PARTS: [(&str, fn(&mut Part)); 11] = [
+const PARTS: [(&str, fn(&mut Part)); 26] = [
     ("session: the original under keys", session::compare),
     ("marked: M1 to M8", marked::compare),
     ("words: every short line", words::short_lines),
@@ -24,17 +34,30 @@ const PARTS: [(&str, fn(&mut Part)); 11] = [
     ("quote: frames broken in all ways", quote::broken_frames),
     ("quote: lists about the limits", quote::limits),
     ("quote: mixed lists", quote::mixed_lists),
+    ("history: every short text", history::short_texts),
+    ("history: white space", history::blank_texts),
+    ("history: texts about the limits", history::long_texts),
+    ("history: mixed texts", history::mixed_texts),
+    ("keys: every short stream", keys::short_streams),
+    ("keys: every byte in every mode", keys::every_byte),
+    ("keys: streams about the limits", keys::limits),
+    ("keys: mixed streams", keys::mixed_streams),
+    ("keys: mixed streams with fs", keys::mixed_streams_fs),
+    ("keys: prompts", prompts::compare),
+    ("states: every byte of the head", states::heads),
+    ("states: lengths, cursors, places", states::pairs),
+    ("states: every byte of the slots", states::slots),
+    ("states: entries that are bad", states::entries),
+    ("states: buffers of other lengths", states::lengths),
 ];
 
+/// Runs the parts whose names begin with one of the words given, all if there are none.
 fn main() -> ExitCode {
+    let words: Vec<String> = std::env::args().skip(1).collect();
+    let wanted = |name: &str| words.is_empty() || words.iter().any(|word| name.starts_with(word));
+    let parts: Vec<_> = PARTS.into_iter().filter(|(name, _)| wanted(name)).collect();
     println!("{}", part::HEADING);
-    let mut first = None;
-    for (name, compare) in PARTS {
-        let mut part = Part::new(name);
-        compare(&mut part);
-        first = first.or(part.end());
-    }
-    if let Some(first) = first {
+    if let Some(first) = workers::run(&parts) {
         println!("\nThe first difference\n{first}");
         return ExitCode::FAILURE;
     }

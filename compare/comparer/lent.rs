@@ -1,0 +1,150 @@
+// What calls on a saved state are lent: state and slots, which stay from call to call, the line and the screen.
+use crate::model::{Effect, LINE, Model, answers, saved};
+use crate::part::{Part, hex, say};
+use crate::watched::Watched;
+
+/// How much longer than needed the larger buffers are.
+const MORE: usize = 37;
+/// More than any redraw writes.
+const SCREEN: usize = 512;
+
+/// The lengths of the line buffer and of the screen.
+#[derive(Clone, Copy)]
+pub struct Room {
+    pub line: usize,
+    pub screen: usize,
+}
+
+pub struct Lent {
+    state: Watched,
+    slots: Watched,
+    line: Watched,
+    screen: Watched,
+    /// Whether the next key gets buffers that are longer than needed, or exactly long enough.
+    more: bool,
+}
+
+impl Lent {
+    pub fn new() -> Self {
+        let [state, slots] = [saved::STATE, saved::SLOTS].map(|length| Watched::new(length + MORE));
+        Lent { state, slots, line: Watched::new(LINE + MORE), screen: Watched::new(SCREEN), more: false }
+    }
+
+    /// Makes buffers of these lengths fresh. A refusal leaves them as they were.
+    pub fn fresh(&mut self, part: &mut Part, state: usize, slots: usize) -> bool {
+        self.state.clear(state);
+        self.slots.clear(slots);
+        let answer = answers::fresh(state, slots);
+        if answer == 0 {
+            self.leave(&Model::fresh(), true);
+        }
+        let given = calls::fresh(self.state.lent(), self.slots.lent());
+        self.judge(part, answer, given, || "fresh".to_string())
+    }
+
+    /// Puts a saved state there.
+    pub fn hold(&mut self, state: &[u8], slots: &[u8]) {
+        self.state.hold(state);
+        self.slots.hold(slots);
+    }
+
+    /// Has the library and the model take a key, and gives back what it showed if all was as expected.
+    pub fn press(&mut self, part: &mut Part, model: &mut Model, prompt: &[u8], key: u8) -> Option<Effect> {
+        let effect = model.press(prompt, key);
+        self.take(part, model, prompt, key, effect)
+    }
+
+    /// The same, and before it with buffers that are too short.
+    pub fn press_short(&mut self, part: &mut Part, model: &mut Model, prompt: &[u8], key: u8) -> Option<Effect> {
+        let effect = model.press(prompt, key);
+        let refused = self.refuse_short(part, prompt, key, effect.screen.len());
+        if refused { self.take(part, model, prompt, key, effect) } else { None }
+    }
+
+    // The library has to show what the model showed, and to leave what the model is now.
+    fn take(&mut self, part: &mut Part, model: &Model, prompt: &[u8], key: u8, effect: Effect) -> Option<Effect> {
+        self.more = !self.more;
+        let more = if self.more { MORE } else { 0 };
+        self.room(Room { line: LINE + more, screen: effect.screen.len() + more });
+        let line = effect.entered.as_deref().unwrap_or_default();
+        self.line.expect(line);
+        self.screen.expect(&effect.screen);
+        self.leave(model, !line.is_empty());
+        self.key(part, prompt, key, answers::key(&effect)).then_some(effect)
+    }
+
+    /// A key that must be refused with this answer.
+    pub fn refuse(&mut self, part: &mut Part, prompt: &[u8], key: u8, room: Room, answer: u64) -> bool {
+        self.room(room);
+        self.key(part, prompt, key, answer)
+    }
+
+    /// Has the library and the model add a text.
+    pub fn add(&mut self, part: &mut Part, model: &mut Model, text: &[u8]) -> bool {
+        let answer = match answers::add(text) {
+            Ok(text) => {
+                model.add(text);
+                self.leave(model, true);
+                0
+            }
+            Err(refusal) => refusal,
+        };
+        self.adding(part, text, answer)
+    }
+
+    /// A text that must be refused with this answer.
+    pub fn adding(&mut self, part: &mut Part, text: &[u8], answer: u64) -> bool {
+        let given = calls::history_add(self.state.lent(), self.slots.lent(), text);
+        self.judge(part, answer, given, || format!("add {}", hex(text)))
+    }
+
+    /// The entries of the history, as the library left them.
+    pub fn entries(&self) -> Vec<&[u8]> {
+        let slots = self.slots.found().chunks_exact(saved::SLOT);
+        slots.take(usize::from(self.state.found()[3])).map(|slot| &slot[1..][..usize::from(slot[0])]).collect()
+    }
+
+    // A line buffer that is too short is refused before a screen that is.
+    fn refuse_short(&mut self, part: &mut Part, prompt: &[u8], key: u8, needed: usize) -> bool {
+        let one_less = needed.saturating_sub(1);
+        let rooms = [(LINE - 1, needed), (LINE - 1, one_less), (0, 0), (LINE, one_less)];
+        rooms.into_iter().all(|(line, screen)| match answers::key_refusal(prompt, line, screen, needed) {
+            Some(answer) => self.refuse(part, prompt, key, Room { line, screen }, answer),
+            None => true,
+        })
+    }
+
+    fn room(&mut self, room: Room) {
+        self.line.clear(room.line);
+        self.screen.clear(room.screen);
+    }
+
+    // The call has to leave this state. The slots are laid out anew only if they may have changed.
+    fn leave(&mut self, model: &Model, slots: bool) {
+        self.state.expect(&model.state());
+        if slots {
+            self.slots.expect(&model.slots());
+        }
+    }
+
+    fn key(&mut self, part: &mut Part, prompt: &[u8], key: u8, answer: u64) -> bool {
+        let Lent { state, slots, line, screen, .. } = self;
+        let given = calls::key(state.lent(), slots.lent(), prompt, key, line.lent(), screen.lent());
+        self.judge(part, answer, given, || format!("key {key:02x}, prompt {}", hex(prompt)))
+    }
+
+    fn judge(&self, part: &mut Part, answer: u64, given: u64, call: impl Fn() -> String) -> bool {
+        let buffers = [("state", &self.state), ("slots", &self.slots), ("line", &self.line), ("screen", &self.screen)];
+        let wrong = buffers.iter().find_map(|(name, buffer)| Some((name, buffer, buffer.wrong()?)));
+        let say_wrong = |(name, buffer, place): (&&str, &&Watched, i64)| {
+            format!("\nwrong:    byte {place} of the {name}, which is {}", hex(buffer.found()))
+        };
+        let difference = (given != answer || wrong.is_some()).then(|| {
+            let lengths = buffers.map(|(name, buffer)| format!("{name} {}", buffer.found().len())).join(", ");
+            let (call, expected, found) = (call(), say(answer), say(given));
+            let wrong = wrong.map(say_wrong).unwrap_or_default();
+            format!("call:     {call}\nlengths:  {lengths}\nexpected: {expected}\nfound:    {found}{wrong}")
+        });
+        part.called(answer >> 32 & 0xFF != 0, difference)
+    }
+}

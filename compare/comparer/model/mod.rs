@@ -1,0 +1,137 @@
+// The line editor and its history as the standard states them, on plain values: what a key shows and what it leaves.
+pub mod answers;
+pub mod saved;
+
+/// The most bytes of a line and the most entries of a history.
+pub const LINE: usize = 255;
+pub const ENTRIES: usize = 100;
+
+#[derive(Clone, Copy, PartialEq, Debug)]
+pub enum Mode {
+    Typing,
+    Escape,
+    Bracket,
+}
+
+#[derive(Clone, PartialEq, Debug)]
+pub struct Model {
+    pub mode: Mode,
+    pub line: Vec<u8>,
+    pub cursor: usize,
+    /// From the oldest to the newest.
+    pub entries: Vec<Vec<u8>>,
+    pub place: usize,
+}
+
+/// What a key shows and gives out.
+#[derive(Default)]
+pub struct Effect {
+    pub screen: Vec<u8>,
+    /// The line at Enter, empty if nothing was typed.
+    pub entered: Option<Vec<u8>>,
+    pub dropped: bool,
+}
+
+impl Model {
+    pub fn fresh() -> Self {
+        Model { mode: Mode::Typing, line: Vec::new(), cursor: 0, entries: Vec::new(), place: 0 }
+    }
+
+    /// Takes one key.
+    pub fn press(&mut self, prompt: &[u8], key: u8) -> Effect {
+        let mode = std::mem::replace(&mut self.mode, Mode::Typing);
+        match (mode, key) {
+            (Mode::Typing, 0x0D | 0x0A) => self.enter(),
+            (Mode::Typing, 0x08 | 0x7F) => self.erase(prompt),
+            (Mode::Typing, 0x1B) => self.wait(Mode::Escape),
+            (Mode::Typing, 0x00..0x20) => Effect::default(),
+            (Mode::Typing, byte) => self.insert(prompt, byte),
+            (Mode::Escape, b'[') => self.wait(Mode::Bracket),
+            (Mode::Bracket, b'A') => self.up(prompt),
+            (Mode::Bracket, b'B') => self.down(prompt),
+            (Mode::Bracket, b'C') => self.go(self.cursor + 1, b"\x1b[C"),
+            (Mode::Bracket, b'D') => self.go(self.cursor.wrapping_sub(1), b"\x1b[D"),
+            (Mode::Escape | Mode::Bracket, _) => Effect::default(),
+        }
+    }
+
+    /// Offers a text to the history. It sets the place in any case.
+    pub fn add(&mut self, text: &str) {
+        if !text.trim().is_empty() && self.entries.last().map(Vec::as_slice) != Some(text.as_bytes()) {
+            if self.entries.len() == ENTRIES {
+                self.entries.remove(0);
+            }
+            self.entries.push(text.into());
+        }
+        self.place = self.entries.len();
+    }
+
+    fn wait(&mut self, mode: Mode) -> Effect {
+        self.mode = mode;
+        Effect::default()
+    }
+
+    fn enter(&mut self) -> Effect {
+        let line = std::mem::take(&mut self.line);
+        self.cursor = 0;
+        if !line.is_empty() {
+            self.add(str::from_utf8(&line).unwrap_or(""));
+        }
+        Effect { screen: b"\n".to_vec(), entered: Some(line), dropped: false }
+    }
+
+    fn erase(&mut self, prompt: &[u8]) -> Effect {
+        if self.cursor == 0 {
+            return Effect::default();
+        }
+        self.cursor -= 1;
+        self.line.remove(self.cursor);
+        self.redraw(prompt)
+    }
+
+    fn insert(&mut self, prompt: &[u8], byte: u8) -> Effect {
+        if self.line.len() == LINE {
+            return Effect { dropped: true, ..Effect::default() };
+        }
+        self.line.insert(self.cursor, byte);
+        self.cursor += 1;
+        self.redraw(prompt)
+    }
+
+    fn up(&mut self, prompt: &[u8]) -> Effect {
+        if self.place == 0 {
+            return Effect::default();
+        }
+        self.place -= 1;
+        self.recall(prompt)
+    }
+
+    fn down(&mut self, prompt: &[u8]) -> Effect {
+        self.place = (self.place + 1).min(self.entries.len());
+        self.recall(prompt)
+    }
+
+    /// The entry at the place, none behind the newest, with the cursor at its end.
+    fn recall(&mut self, prompt: &[u8]) -> Effect {
+        self.line = self.entries.get(self.place).cloned().unwrap_or_default();
+        self.cursor = self.line.len();
+        self.redraw(prompt)
+    }
+
+    fn go(&mut self, cursor: usize, moved: &[u8]) -> Effect {
+        if cursor > self.line.len() {
+            return Effect::default();
+        }
+        self.cursor = cursor;
+        Effect { screen: moved.to_vec(), ..Effect::default() }
+    }
+
+    fn redraw(&self, prompt: &[u8]) -> Effect {
+        let content = str::from_utf8(&self.line).unwrap_or("");
+        let mut screen = [b"\r\x1b[2K", prompt, content.as_bytes()].concat();
+        if self.cursor < content.len() {
+            screen.extend(format!("\x1b[{}D", content.len() - self.cursor).bytes());
+        }
+        Effect { screen, ..Effect::default() }
+    }
+}

@@ -1,0 +1,36 @@
+// Prompts: good ones are drawn, and bad ones refused by 11 before the buffers are looked at.
+use crate::lent::{Lent, Room};
+use crate::model::LINE;
+use crate::model::answers::key_refusal;
+use crate::part::Part;
+use crate::states::{KEYS, good};
+
+/// More than any redraw writes.
+const SCREEN: usize = 400;
+const LETTERS: [&str; 4] = ["a", "é", "語", "😀"];
+
+/// Prompts of all lengths to 140 and some greater, of characters of each length, with the last cut off where it doesn't fit.
+pub fn compare(part: &mut Part) {
+    let mut lent = Lent::new();
+    for length in (0..=140).chain([255, 256, 65_536]) {
+        for letter in LETTERS {
+            let prompt = letter.repeat(length).into_bytes();
+            one(part, &mut lent, &prompt[..length]);
+        }
+    }
+}
+
+/// A prompt before keys of every kind, on several states.
+fn one(part: &mut Part, lent: &mut Lent, prompt: &[u8]) {
+    part.input(prompt);
+    for (mut model, key) in good().into_iter().flat_map(|model| KEYS.map(|key| (model.clone(), key))) {
+        lent.hold(&model.state(), &model.slots());
+        let Some(refusal) = key_refusal(prompt, LINE, SCREEN, 0) else {
+            lent.press_short(part, &mut model, prompt, key);
+            continue;
+        };
+        for room in [Room { line: LINE, screen: SCREEN }, Room { line: 0, screen: 0 }] {
+            lent.refuse(part, prompt, key, room, refusal);
+        }
+    }
+}

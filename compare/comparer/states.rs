@@ -1,0 +1,170 @@
+// Saved states, good and damaged: each damaged one is refused by 12 and kept, and each good one is taken.
+use crate::lent::{Lent, Room};
+use crate::lines::{Mixer, every_character};
+use crate::model::answers::BAD_STATE;
+use crate::model::saved::{HEAD, SLOT, SLOTS, STATE};
+use crate::model::{LINE, Mode, Model};
+use crate::part::Part;
+
+const SEED: u64 = 0x7374_6174_0000_0001;
+const PROMPT: &[u8] = b"axvisor:$ ";
+/// The keys that come in turn.
+pub const KEYS: [u8; 8] = [b'x', b'\r', 0x1B, b'A', 0x7F, b'B', 0xC3, 0x01];
+/// What bytes of the slots are changed to, besides their neighbours.
+const BYTES: [u8; 5] = [0, b' ', b'a', 0x85, 0xFF];
+/// What a bad state is lent: all that it needs, and a prompt, a text and buffers that would be refused as well.
+const LENT: [(&[u8], &[u8], Room); 2] =
+    [(PROMPT, b"a", Room { line: LINE, screen: 400 }), (b"\xFF", &[0xFF; 300], Room { line: 0, screen: 0 })];
+
+/// Calls on saved states, with keys that come in turn.
+struct Saved<'a> {
+    part: &'a mut Part,
+    lent: Lent,
+    turn: usize,
+}
+
+impl Saved<'_> {
+    /// A key and a text on a state, good or bad. Bad ones are refused before the prompt, the buffers and the text are looked at.
+    fn check(&mut self, state: &[u8], slots: &[u8]) {
+        self.part.input(state);
+        self.calls(state, slots);
+    }
+
+    fn calls(&mut self, state: &[u8], slots: &[u8]) {
+        self.turn += 1;
+        let key = KEYS[self.turn / 2 % KEYS.len()];
+        self.lent.hold(state, slots);
+        let Some(mut model) = Model::read(state, slots) else {
+            let (prompt, text, room) = LENT[self.turn % LENT.len()];
+            self.lent.refuse(self.part, prompt, key, room, BAD_STATE);
+            self.lent.adding(self.part, text, BAD_STATE);
+            return;
+        };
+        if self.lent.press_short(self.part, &mut model, PROMPT, key).is_some() {
+            self.lent.add(self.part, &mut model, b"a b");
+        }
+    }
+
+    /// A state with one byte changed.
+    fn changed(&mut self, state: &[u8], slots: &[u8], place: usize, byte: u8) {
+        let mut state = state.to_vec();
+        state[place] = byte;
+        self.check(&state, slots);
+    }
+
+    /// Slots with some bytes put at a place. The input is the state, and behind it the place, in four bytes, and the bytes.
+    fn put(&mut self, state: &[u8], slots: &mut [u8], place: usize, bytes: &[u8]) {
+        let before = slots[place..][..bytes.len()].to_vec();
+        slots[place..][..bytes.len()].copy_from_slice(bytes);
+        self.part.input(&[state, &(place as u32).to_be_bytes(), bytes].concat());
+        self.calls(state, slots);
+        slots[place..][..bytes.len()].copy_from_slice(&before);
+    }
+}
+
+fn saved(part: &mut Part) -> Saved<'_> {
+    Saved { part, lent: Lent::new(), turn: 0 }
+}
+
+/// Good states: fresh; a line of three characters with the cursor inside and three entries; a full line and a full history of
+/// the longest lines; a full history of mixed lines, and an escape begun.
+pub fn good() -> Vec<Model> {
+    let entries = |texts: &[&str]| texts.iter().map(|text| text.as_bytes().to_vec()).collect();
+    let few = Model {
+        line: b"a\xC3\xA9b".to_vec(),
+        cursor: 2,
+        entries: entries(&["a", " b", "\u{E9}"]),
+        place: 1,
+        ..Model::fresh()
+    };
+    let longest = (0..100).map(|number| vec![b'0' + number % 7; LINE]).collect();
+    let full = Model { line: vec![b'l'; LINE], cursor: LINE, entries: longest, place: 100, ..Model::fresh() };
+    let mut mixer = Mixer::new(SEED);
+    let mut mixed = Model { mode: Mode::Bracket, ..Model::fresh() };
+    while mixed.entries.len() < 100 {
+        let length = 1 + mixer.random.below(LINE);
+        mixed.add(&mixer.text(length));
+    }
+    mixed.place = 50;
+    vec![Model::fresh(), few, full, mixed]
+}
+
+/// Every byte of the head in all ways, every byte of the line in some.
+pub fn heads(part: &mut Part) {
+    let mut saved = saved(part);
+    for model in good() {
+        let (state, slots) = (model.state(), model.slots());
+        for place in 0..HEAD {
+            (0..=255).for_each(|byte| saved.changed(&state, &slots, place, byte));
+        }
+        for place in HEAD..STATE {
+            [0, 1, b'a', 0xFF].into_iter().for_each(|byte| saved.changed(&state, &slots, place, byte));
+        }
+    }
+}
+
+/// Every mode with every length of the line, and cursors and places about the length and the count.
+pub fn pairs(part: &mut Part) {
+    let mut saved = saved(part);
+    for (length, count) in (0..=LINE).map(|length| (length, length % 101)) {
+        let entries = (0..count).map(|number| vec![b'0' + number as u8]).collect();
+        let model = Model { line: vec![b'a'; length], entries, ..Model::fresh() };
+        let slots = model.slots();
+        for (cursor, place) in [(0, 0), (length, count), (length + 1, count), (length, count + 1), (LINE, LINE)] {
+            for mode in 0..4 {
+                let mut state = model.state();
+                [state[0], state[2], state[4]] = [mode, cursor as u8, place as u8];
+                saved.check(&state, &slots);
+            }
+        }
+    }
+}
+
+/// Every byte of the slots changed to its neighbour, and to one of five others in turn.
+pub fn slots(part: &mut Part) {
+    let mut saved = saved(part);
+    for model in good() {
+        let (state, mut slots) = (model.state(), model.slots());
+        for place in 0..SLOTS {
+            let (byte, other) = (slots[place], BYTES[place / 7 % BYTES.len()]);
+            saved.put(&state, &mut slots, place, &[byte ^ 1]);
+            saved.put(&state, &mut slots, place, &[other]);
+        }
+    }
+}
+
+/// In every slot: another's entry, blank entries of all white space there is, ill-formed entries, none, and one cut short.
+pub fn entries(part: &mut Part) {
+    let mut saved = saved(part);
+    let white: Vec<String> = every_character().filter(|c| c.is_whitespace()).map(|c| c.to_string()).collect();
+    let longest = white.iter().map(|white| white.repeat(LINE / white.len()));
+    let mut texts: Vec<Vec<u8>> = white.iter().cloned().chain(longest).map(String::into_bytes).collect();
+    texts.extend([b"".to_vec(), b"\xC3".to_vec(), b"a\xED\xA0\x80".to_vec(), b" \xFF".to_vec(), vec![0x80; LINE]]);
+    for model in good().iter().skip(1) {
+        let (state, mut slots) = (model.state(), model.slots());
+        for number in 0..model.entries.len() {
+            let at = number * SLOT;
+            for from in [number.saturating_sub(1), number, (number + 1) % model.entries.len()] {
+                let slot = slots[from * SLOT..][..SLOT].to_vec();
+                saved.put(&state, &mut slots, at, &slot);
+            }
+            for text in &texts {
+                let mut slot = [&[text.len() as u8], &text[..]].concat();
+                slot.resize(SLOT, 0);
+                saved.put(&state, &mut slots, at, &slot);
+            }
+        }
+    }
+}
+
+/// States and slots of other lengths, to keys and texts and to `fresh`.
+pub fn lengths(part: &mut Part) {
+    let mut saved = saved(part);
+    for state in [0, 1, HEAD, STATE - 1, STATE, STATE + 1] {
+        for slots in [0, 1, SLOT, SLOTS - SLOT, SLOTS - 1, SLOTS, SLOTS + 1] {
+            saved.check(&vec![0; state], &vec![0; slots]);
+            saved.part.input(&[]);
+            saved.lent.fresh(saved.part, state, slots);
+        }
+    }
+}
