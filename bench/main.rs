@@ -1,4 +1,5 @@
-// Times the proved library against the original shell, both from this one driver, and prints one table.
+// Times the proved library against the original shell, both from this one driver, and prints two tables.
+mod keys;
 mod lines;
 mod table;
 mod timing;
@@ -7,4 +8,6 @@ mod words;
 fn main() {
     table::heading();
     words::rows();
+    table::key_heading();
+    keys::rows();
 }

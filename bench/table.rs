@@ -1,4 +1,4 @@
-// The table: a row for each call and input, with the time of the Rust, ours, and ours divided by the Rust's.
+// The tables: a row for each call and input, with the time of the Rust, ours, and ours divided by the Rust's.
 use crate::timing::{Task, medians};
 
 pub fn heading() {
@@ -11,4 +11,18 @@ pub fn row(call: &str, input: &str, bytes: usize, rust: Task, ours: Task) {
     let [rust, ours] = medians([rust, ours]);
     let ratio = ours / rust;
     println!("| {call:<5} | {input:<18} | {bytes:>5} | {rust:>7.0} | {ours:>7.0} | {ratio:>11.2} |");
+}
+
+pub fn key_heading() {
+    println!();
+    println!("| line | history              | from_utf8 ns | Rust ns | ours ns | ours / from_utf8 | ours / Rust |");
+    println!("|-----:|----------------------|-------------:|--------:|--------:|-----------------:|------------:|");
+}
+
+/// Prints the row of one key.
+pub fn key_row(line: usize, history: &str, pass: f64, rust: f64, ours: f64) {
+    let (by_pass, by_rust) = (ours / pass, ours / rust);
+    println!(
+        "| {line:>4} | {history:<20} | {pass:>12.0} | {rust:>7.0} | {ours:>7.0} | {by_pass:>16.2} | {by_rust:>11.2} |"
+    );
 }
