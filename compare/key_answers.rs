@@ -4,6 +4,8 @@ mod hex;
 #[path = "comparer/lines.rs"]
 #[allow(dead_code)]
 mod lines;
+#[path = "comparer/named.rs"]
+mod named;
 #[path = "comparer/random.rs"]
 mod random;
 #[path = "comparer/shell.rs"]
@@ -13,6 +15,7 @@ mod shell;
 mod streams;
 
 use hex::hex;
+use named::named;
 use shell::{PLAIN, walk};
 use streams::{Typist, every_stream};
 
@@ -21,112 +24,14 @@ const MIXED: usize = 200;
 const MOST: usize = 60;
 const SEED: u64 = 0x7265_706C_6179_0002;
 
-const UP: &str = "\x1B[A";
-const DOWN: &str = "\x1B[B";
-const RIGHT: &str = "\x1B[C";
-const LEFT: &str = "\x1B[D";
-
-/// Escapes: whole, ended early, and gone on with. Then a letter shows what is typed.
-fn add_escapes(list: &mut Vec<Vec<u8>>) {
-    for escape in [
-        "\x1B",
-        "\x1B[",
-        "\x1B\x1B[A",
-        "\x1B[\x1B[A",
-        "\x1B\r",
-        "\x1B[\r",
-        "\x1B[\n",
-        "\x1B\x08",
-        "\x1B[\x7F",
-        "\x1B[3~",
-        "\x1B[3",
-        "\x1B[H",
-        "\x1BOA",
-        "\x1B[1;5C",
-        "\x1B[[A",
-        "\x1Bx",
-        "\x1B\x1B",
-        "\x1B[\x1B",
-        UP,
-        DOWN,
-        LEFT,
-        RIGHT,
-    ] {
-        list.push(format!("old\rab{escape}zz\r").into_bytes());
-    }
-}
-
-/// Every byte that is no letter, inside of a line.
-fn add_bytes(list: &mut Vec<Vec<u8>>) {
-    for byte in (0..0x20).chain([0x7F, 0x80, 0xC0, 0xFF]) {
-        list.push([b"ab", LEFT.as_bytes(), &[byte], b"c"].concat());
-    }
-}
-
-/// Characters of several bytes: typed, split by the cursor, and made whole again.
-fn add_characters(list: &mut Vec<Vec<u8>>) {
-    for text in ["é", "aé", "語", "😀b"] {
-        list.push(format!("{text}{LEFT}x\x08{RIGHT}y\r{UP}").into_bytes());
-        list.push(format!("{text}{LEFT}{LEFT}x\r{UP}").into_bytes());
-        list.push(format!("{text}\x7F\x7F\x7F\x7F\x7Fb\r").into_bytes());
-    }
-    list.push(b"a\xE8\x9E\x1B[D\xAA\r\x1B[A".to_vec());
-}
-
-/// History: blank, equal, spaced and ill-formed lines; the place after each kind of Enter; arrows at both ends.
-fn add_history(list: &mut Vec<Vec<u8>>) {
-    for keys in [
-        "\r",
-        "\n",
-        "\r\n",
-        " \r",
-        "  \r\u{A0}\r\u{3000} \r",
-        "\u{200B}\r",
-        "a\ra\r",
-        "a\rb\ra\r",
-        "a\ra \r a\ra\r",
-        "a\r\r\n",
-        "help\rclear\rlog\r",
-        "help log\rhelp  x\r",
-    ] {
-        list.push(keys.as_bytes().to_vec());
-    }
-    let ends = ["\x08\rx", "\x08 \rx", "\r", "y\r", "\x08\x08\r\r", "a\n"];
-    for steps in [String::new(), UP.into(), UP.repeat(2), UP.repeat(3), format!("{}{DOWN}", UP.repeat(2)), DOWN.into()]
-    {
-        list.push(format!("a\rb\r{steps}{DOWN}{DOWN}").into_bytes());
-        for end in ends {
-            list.push(format!("a\rb\r{steps}{end}{UP}{UP}").into_bytes());
-        }
-        list.push([b"a\rb\r", steps.as_bytes(), b"\x08\xC3\r", UP.as_bytes(), b"z"].concat());
-    }
-}
-
-/// The longest line, bytes that are dropped at its end and inside, and 103 lines.
-fn add_limits(list: &mut Vec<Vec<u8>>) {
-    list.push(format!("{}bc\x08d{LEFT}ef\x7Fgh\r{UP}", "a".repeat(254)).into_bytes());
-    for back in [9, 10, 99, 100] {
-        list.push(format!("{}{}b\x08", "a".repeat(100), LEFT.repeat(back)).into_bytes());
-    }
-    let lines: String = (0..103).map(|number| format!("{number:x}\r")).collect();
-    list.push(format!("{lines}{}{}", UP.repeat(102), DOWN.repeat(3)).into_bytes());
-}
-
-fn add_mixed(list: &mut Vec<Vec<u8>>) {
-    let mut typist = Typist::new(SEED);
-    let short = std::iter::repeat_with(|| typist.stream()).filter(|stream| (2..=MOST).contains(&stream.len()));
-    list.extend(short.take(MIXED));
-}
-
+/// The shortest streams, the named ones, and mixed ones.
 fn all_streams() -> Vec<Vec<u8>> {
     let mut list = Vec::new();
     every_stream(1, &mut |stream| list.push(stream.to_vec()));
-    add_escapes(&mut list);
-    add_bytes(&mut list);
-    add_characters(&mut list);
-    add_history(&mut list);
-    add_limits(&mut list);
-    add_mixed(&mut list);
+    list.extend(named());
+    let mut typist = Typist::new(SEED);
+    let mixed = std::iter::repeat_with(|| typist.stream()).filter(|stream| (2..=MOST).contains(&stream.len()));
+    list.extend(mixed.take(MIXED));
     list
 }
 
@@ -135,10 +40,16 @@ fn answer(stream: &[u8]) -> String {
     let screens = PLAIN.screens(&[stream, &walk(stream)].concat());
     assert!(screens.len() >= stream.len(), "no stream leaves the shell");
     let (shown, walked) = screens.split_at(stream.len());
-    let shown = shown.iter().map(|screen| hex(if screen.starts_with(b"\n") { b"\n" } else { screen }));
+    let shown = shown.iter().map(|screen| hex(own(screen)));
     let entries = PLAIN.recalled(walked).into_iter().map(hex);
     let [shown, entries] = [shown.collect::<Vec<_>>(), entries.collect()].map(|list| list.join(","));
     format!("{shown};{entries}")
+}
+
+/// What the key itself wrote. At Enter that is a LF; a command's output and the prompt follow.
+fn own(screen: &[u8]) -> &[u8] {
+    let entered = screen.starts_with(b"\n") && screen.ends_with(PLAIN.prompt);
+    if entered { b"\n" } else { screen }
 }
 
 fn main() {
@@ -147,9 +58,9 @@ fn main() {
     let input: String = streams.iter().map(|stream| hex(stream) + "\n").collect();
     let output: Vec<String> = streams.iter().map(|stream| answer(stream) + "\n").collect();
     assert!(input.len() < 65_536, "replay programs read at most 65,535 bytes");
-    let longest = output.iter().map(String::len).max();
+    let longest = output.iter().map(String::len).max().unwrap_or(0);
     let output = output.concat();
     std::fs::write(format!("{folder}/stdin"), &input).expect("stdin is written");
     std::fs::write(format!("{folder}/stdout"), &output).expect("stdout is written");
-    println!("{} streams; {} and {} bytes, the longest line {:?}", streams.len(), input.len(), output.len(), longest);
+    println!("{} streams; {} and {} bytes, the longest line {}", streams.len(), input.len(), output.len(), longest);
 }

@@ -1,6 +1,7 @@
 // Keys: the library against the original's own loop, key by key, and against the model in all that it answers and leaves.
 use crate::lent::Lent;
 use crate::model::{LINE, Model, saved};
+use crate::named::named;
 use crate::part::{Part, hex};
 use crate::shell::{PLAIN, Shell, WITH_FS, walk};
 use crate::streams::{Typist, every_stream};
@@ -44,6 +45,15 @@ fn check(part: &mut Part, lent: &mut Lent, shell: &Shell, stream: &[u8]) {
 pub fn short_streams(part: &mut Part) {
     let mut lent = Lent::new();
     every_stream(SHORT, &mut |stream| check(part, &mut lent, &PLAIN, stream));
+}
+
+/// The named streams and some that leave the shell, each to the original with and without `fs`.
+pub fn named_streams(part: &mut Part) {
+    let mut lent = Lent::new();
+    let leaving = [&b"a\rexit\rb\r"[..], b"\x1B[A quit \nb"].map(<[u8]>::to_vec);
+    for (stream, shell) in named().iter().chain(&leaving).flat_map(|stream| [(stream, PLAIN), (stream, WITH_FS)]) {
+        check(part, &mut lent, &shell, stream);
+    }
 }
 
 /// Each byte in each mode, with one entry in the history: at the end and inside of an empty, a short and the longest line.

@@ -7,6 +7,7 @@ mod lent;
 mod lines;
 mod marked;
 mod model;
+mod named;
 mod part;
 mod prompts;
 mod quote;
@@ -22,7 +23,7 @@ mod workers;
 use part::Part;
 use std::process::ExitCode;
 
-const PARTS: [(&str, fn(&mut Part)); 26] = [
+const PARTS: [(&str, fn(&mut Part)); 27] = [
     ("session: the original under keys", session::compare),
     ("marked: M1 to M8", marked::compare),
     ("words: every short line", words::short_lines),
@@ -38,6 +39,7 @@ const PARTS: [(&str, fn(&mut Part)); 26] = [
     ("history: white space", history::blank_texts),
     ("history: texts about the limits", history::long_texts),
     ("history: mixed texts", history::mixed_texts),
+    ("keys: named streams", keys::named_streams),
     ("keys: every short stream", keys::short_streams),
     ("keys: every byte in every mode", keys::every_byte),
     ("keys: streams about the limits", keys::limits),
