@@ -15,6 +15,9 @@ pub struct Room {
     pub screen: usize,
 }
 
+/// What calls are lent that show nothing.
+pub const NONE: Room = Room { line: 0, screen: 0 };
+
 pub struct Lent {
     state: Watched,
     slots: Watched,
@@ -34,6 +37,7 @@ impl Lent {
     pub fn fresh(&mut self, part: &mut Part, state: usize, slots: usize) -> bool {
         self.state.clear(state);
         self.slots.clear(slots);
+        self.room(NONE);
         let answer = answers::fresh(state, slots);
         if answer == 0 {
             self.leave(&Model::fresh(), true);
@@ -46,6 +50,7 @@ impl Lent {
     pub fn hold(&mut self, state: &[u8], slots: &[u8]) {
         self.state.hold(state);
         self.slots.hold(slots);
+        self.room(NONE);
     }
 
     /// Has the library and the model take a key, and gives back what it showed if all was as expected.

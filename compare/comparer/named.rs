@@ -5,6 +5,13 @@ const DOWN: &str = "\x1B[B";
 const RIGHT: &str = "\x1B[C";
 const LEFT: &str = "\x1B[D";
 
+/// The smallest inputs on which ECMA-48 and the original part (docs/DIFFERENCES.md).
+fn parting(list: &mut Vec<Vec<u8>>) {
+    let keys = [&b"\x1B[3~"[..], b"\x1B[1A", b"\x1BOA", b"\x1B\x1B[", b"a\x1B\r", b"\x9B", b"a\x08"];
+    list.extend(keys.map(<[u8]>::to_vec));
+    list.push(format!("é{LEFT}{LEFT}x").into_bytes());
+}
+
 /// Escapes: whole, ended early, and gone on with. Then a letter shows what is typed.
 fn escapes(list: &mut Vec<Vec<u8>>) {
     for escape in [
@@ -37,7 +44,7 @@ fn escapes(list: &mut Vec<Vec<u8>>) {
 
 /// Every byte that is no letter, inside of a line.
 fn bytes(list: &mut Vec<Vec<u8>>) {
-    for byte in (0..0x20).chain([0x7F, 0x80, 0xC0, 0xFF]) {
+    for byte in (0..0x20).chain([0x7F, 0x80, 0x9B, 0xC0, 0xFF]) {
         list.push([b"ab", LEFT.as_bytes(), &[byte], b"c"].concat());
     }
 }
@@ -94,7 +101,7 @@ fn limits(list: &mut Vec<Vec<u8>>) {
 
 pub fn named() -> Vec<Vec<u8>> {
     let mut list = Vec::new();
-    for add in [escapes, bytes, characters, history, limits] {
+    for add in [parting, escapes, bytes, characters, history, limits] {
         add(&mut list);
     }
     list

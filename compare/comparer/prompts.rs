@@ -1,5 +1,5 @@
 // Prompts: good ones are drawn, and bad ones refused by 11 before the buffers are looked at.
-use crate::lent::{Lent, Room};
+use crate::lent::{Lent, NONE, Room};
 use crate::model::LINE;
 use crate::model::answers::key_refusal;
 use crate::part::Part;
@@ -29,7 +29,7 @@ fn one(part: &mut Part, lent: &mut Lent, prompt: &[u8]) {
             lent.press_short(part, &mut model, prompt, key);
             continue;
         };
-        for room in [Room { line: LINE, screen: SCREEN }, Room { line: 0, screen: 0 }] {
+        for room in [Room { line: LINE, screen: SCREEN }, NONE] {
             lent.refuse(part, prompt, key, room, refusal);
         }
     }

@@ -1,5 +1,5 @@
 // Saved states, good and damaged: each damaged one is refused by 12 and kept, and each good one is taken.
-use crate::lent::{Lent, Room};
+use crate::lent::{Lent, NONE, Room};
 use crate::lines::{Mixer, every_character};
 use crate::model::answers::BAD_STATE;
 use crate::model::saved::{HEAD, SLOT, SLOTS, STATE};
@@ -14,7 +14,7 @@ pub const KEYS: [u8; 8] = [b'x', b'\r', 0x1B, b'A', 0x7F, b'B', 0xC3, 0x01];
 const BYTES: [u8; 5] = [0, b' ', b'a', 0x85, 0xFF];
 /// What a bad state is lent: all that it needs, and a prompt, a text and buffers that would be refused as well.
 const LENT: [(&[u8], &[u8], Room); 2] =
-    [(PROMPT, b"a", Room { line: LINE, screen: 400 }), (b"\xFF", &[0xFF; 300], Room { line: 0, screen: 0 })];
+    [(PROMPT, b"a", Room { line: LINE, screen: 400 }), (b"\xFF", &[0xFF; 300], NONE)];
 
 /// Calls on saved states, with keys that come in turn.
 struct Saved<'a> {
