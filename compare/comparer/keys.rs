@@ -12,7 +12,7 @@ const MIXED_FS: usize = 80_000;
 const SEED: u64 = 0x6B65_7973_0000_0001;
 const SEED_FS: u64 = 0x6B65_7973_6673_0001;
 /// Buffers that are too short are tried at every key of so many, and at the last of a stream.
-const TRIED: usize = 16;
+const TRIED: usize = 32;
 
 /// Types a stream to both, walks through their histories, and compares these.
 fn check(part: &mut Part, lent: &mut Lent, shell: &Shell, stream: &[u8]) {

@@ -120,15 +120,15 @@ pub fn pairs(part: &mut Part) {
     }
 }
 
-/// Every byte of the slots changed to its neighbour, and to one of five others in turn.
+/// Every byte of the slots changed: to its neighbour and to one of five others, in turn.
 pub fn slots(part: &mut Part) {
     let mut saved = saved(part);
     for model in good() {
         let (state, mut slots) = (model.state(), model.slots());
         for place in 0..SLOTS {
-            let (byte, other) = (slots[place], BYTES[place / 7 % BYTES.len()]);
-            saved.put(&state, &mut slots, place, &[byte ^ 1]);
-            saved.put(&state, &mut slots, place, &[other]);
+            let (neighbour, other) = (slots[place] ^ 1, BYTES[place / 7 % BYTES.len()]);
+            let byte = if place % 3 == 0 { neighbour } else { other };
+            saved.put(&state, &mut slots, place, &[byte]);
         }
     }
 }

@@ -59,14 +59,14 @@ impl Typist {
         Typist { mixer: Mixer::new(seed), keys: Vec::new() }
     }
 
-    /// A stream of up to 8 pieces; one in 40 of up to 50, one in 50 with a line about the longest, one in 400 with about as
+    /// A stream of up to 6 pieces; one in 40 of up to 50, one in 50 with a line about the longest, one in 400 with about as
     /// many lines as a history takes.
     pub fn stream(&mut self) -> Vec<u8> {
         match self.below(400) {
             0 => self.many_lines(),
             1..=8 => self.long_line(),
             9..=18 => self.pieces(50),
-            _ => self.pieces(8),
+            _ => self.pieces(6),
         }
         std::mem::take(&mut self.keys)
     }
