@@ -28,7 +28,7 @@ const HISTORIES: [(&str, &str, usize); 6] = [
 ];
 
 /// The original types a letter and takes it back, so many times, in one run.
-const PAIRS: usize = 5_000;
+const PAIRS: usize = 1_000;
 
 pub fn rows() {
     for length in LINES {

@@ -3,9 +3,9 @@ use std::time::{Duration, Instant};
 
 pub type Task<'a> = &'a mut dyn FnMut();
 
-const BATCHES: usize = 21;
-/// A batch has so many calls that it takes at least this time.
-const BATCH: Duration = Duration::from_millis(5);
+const BATCHES: usize = 101;
+/// A batch has so many calls that it takes at least this time: little, so that on a busy machine most batches run undisturbed.
+const BATCH: Duration = Duration::from_micros(500);
 
 /// The nanoseconds that one call of each task takes.
 pub fn medians<const N: usize>(mut tasks: [Task; N]) -> [f64; N] {
@@ -23,7 +23,7 @@ pub fn medians<const N: usize>(mut tasks: [Task; N]) -> [f64; N] {
 }
 
 fn calls_for(least: Duration, task: &mut Task) -> u32 {
-    let mut count = 16;
+    let mut count = 1;
     while batch(task, count) < least {
         count *= 2;
     }
