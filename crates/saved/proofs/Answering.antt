@@ -1,0 +1,208 @@
+-- Laws of the calls on a saved state: what each way through the code answers and leaves.
+use Prim.Native.Nat.{ℕ, _+_, _-_, _≤_}
+use mathlib.Core.Path.{_≡_, refl, sym, ap, _∙_}
+use mathlib.Core.Bool.{Bool, true, false, cond}
+use mathlib.Core.List.{List, [], _∷_, _++_, append-nil}
+use native.Mathlib.Omega.{arith}
+use types.Run.{OneOf, miss}
+use denote.Enum.Declared.{tagOf}
+use lib.Dec.{eqb}
+use lib.ListN.{length}
+use borrow.Author.Tests.{eq-eqb, ne-eqb}
+use Rattle.buffer.proofs.Choices.{then-is, else-is, true-is-not-false}
+use Rattle.buffer.proofs.Lists.{drop-end}
+use Rattle.buffer.proofs.Lending.{overAt-front}
+use Rattle.buffer.specs.Write.{over, overAt}
+use Rattle.history.specs.Slots.{zeros, run, layout, entriesOf, good}
+use Rattle.history.specs.Answer.{atEnd, entriesIn, entriesAfter, addAnswer, historyBy, slotsBy, Addition}
+use Rattle.history.specs.declared.past.History.{History}
+use Rattle.history.specs.declared.adding.Added.{Added}
+use Rattle.history.specs.declared.adding.Added.the-variants.{Done, BadState as BadHistory, TooLong, IllFormed}
+use Rattle.history.proofs.adding.Added.{the-type}
+use Rattle.history.proofs.Layouts.{length-zeros, length-entries}
+use Rattle.history.proofs.States.{good-has}
+use Rattle.editor.specs.declared.line.Editor.{Editor}
+use Rattle.editor.specs.declared.drawing.Key.{Key}
+use Rattle.editor.specs.declared.drawing.Pressed.{Pressed}
+use Rattle.editor.specs.declared.drawing.Pressed.the-variants.{BadState}
+use Rattle.editor.specs.Line.{holding, freshEditor, goodLine}
+use Rattle.editor.proofs.Lines.{good-line}
+use Rattle.editor.specs.Keys.{Turn, turnOf}
+use Rattle.editor.specs.Answer.{stateOf, editorOf, historyOf, goodState, keyAnswer, refused, Pressing}
+use Rattle.saved.specs.State.{savedOf, isState, editorIn, historyIn, goodSaved}
+use Rattle.saved.specs.Calls.{beginAnswer, Beginning, turnIn, pressAnswer, savedAfter, SavedKey, savedAnswer, stateBy, SavedAdd}
+use Rattle.saved.specs.declared.state.Restored.{Restored}
+use Rattle.saved.specs.declared.calls.Begun.{Begun}
+use Rattle.saved.specs.declared.calls.Begun.the-variants.{Ready, NoRoom}
+use Rattle.saved.proofs.Savings.{Fits, Back}
+use Rattle.saved.proofs.Bounds.{few-added, key-fits}
+
+-- a fresh session
+module _ (state slots : List ℕ) where
+  pub begin-state : (length state ≡ 260 → ⊥) → Beginning state slots (NoRoom 260) state slots
+  unfolding beginAnswer
+  begin-state h = record { answer = sym (else-is _ _ _ (ne-eqb _ _ h)); kept = refl; held = refl }
+
+  pub begin-slots : length state ≡ 260 → (length slots ≡ 25600 → ⊥) → Beginning state slots (NoRoom 25600) state slots
+  unfolding beginAnswer
+  begin-slots h k = record { answer = sym (then-is _ _ _ (eq-eqb _ _ h) ∙ else-is _ _ _ (ne-eqb _ _ k)); kept = refl; held = refl }
+
+  cleared : length slots ≡ 25600 → overAt (zeros (25600 - 0)) slots 0 ≡ layout []
+  unfolding layout run over
+  cleared k =
+      overAt-front (zeros 25600) slots
+      ∙ ap (λ (x : List ℕ). zeros 25600 ++ x) (drop-end slots (length (zeros 25600)) (let z = length-zeros 25600 in omega arith))
+      ∙ append-nil (zeros 25600)
+
+  pub begin-ready : (e : Editor) (h : History) (state′ slots′ : List ℕ) → length state ≡ 260 → length slots ≡ 25600 → e ≡ freshEditor → h ≡ atEnd 0
+      → state′ ≡ savedOf e h → slots′ ≡ overAt (zeros (25600 - 0)) slots 0 → Beginning state slots Ready state′ slots′
+  unfolding beginAnswer
+  begin-ready e h state′ slots′ n k p q a b =
+      record {
+        answer = sym (then-is _ _ _ (eq-eqb _ _ n) ∙ then-is _ _ _ (eq-eqb _ _ k));
+        kept = a ∙ ap (λ (x : Editor). savedOf x h) p ∙ ap (savedOf freshEditor) q;
+        held = b ∙ cleared k;
+      }
+
+fresh-small : Fits freshEditor (atEnd 0)
+unfolding freshEditor holding
+fresh-small = (omega arith, omega arith, omega arith, omega arith)
+
+pub fresh-bytes : (e : Editor) (h : History) → e ≡ freshEditor → h ≡ atEnd 0 → Fits e h
+fresh-bytes e h p q = rw (p, q) fresh-small
+
+-- a history after a text was added has at most 100 entries
+few-after : (h : History) (slots text : List ℕ) → good (h .count) (h .place) slots ≡ true → length (entriesAfter h slots text) ≤ 100
+unfolding entriesAfter entriesIn
+few-after h slots text g =
+    few-added text (entriesOf (h .count) slots) (let n = length-entries (h .count) slots in let k = good-has (h .count) (h .place) slots g .counted in omega arith)
+
+good-done : (h : History) (slots text : List ℕ) → addAnswer h slots text ≡ Done → good (h .count) (h .place) slots ≡ true
+unfolding addAnswer
+good-done h slots text d = by (good (h .count) (h .place) slots) refl
+  where
+    by : (t : Bool) → good (h .count) (h .place) slots ≡ t → t ≡ true
+    by true g = refl
+    by false g = absurd (let e = sym (else-is _ _ _ g) ∙ d in let z : _≡_ {A = ℕ} 0 1 = cc in omega arith)
+
+-- a text added
+module _ (state slots text : List ℕ) where
+  pub add-other : isState state ≡ false → SavedAdd state slots text BadHistory state slots
+  unfolding savedAnswer
+  add-other h = record { answer = sym (else-is _ _ _ h); kept = refl; held = refl }
+
+  module _ (s : Restored) (back : Back s state) where
+    pub add-bad-line : goodLine (s .editor) ≡ false → SavedAdd state slots text BadHistory state slots
+    unfolding savedAnswer
+    add-bad-line h = record { answer = sym (then-is _ _ _ (back .is) ∙ else-is _ _ _ (ap goodLine (sym (back .editor)) ∙ h)); kept = refl; held = refl }
+
+    module _ (good-editor : goodLine (s .editor) ≡ true) (r : History) (told : Added) (left : List ℕ) (b : Addition (s .history) slots text r told left) where
+      a : Addition (historyIn state) slots text r told left
+      a = rw (back .history) at b
+
+      line : goodLine (editorIn state) ≡ true
+      line = ap goodLine (sym (back .editor)) ∙ good-editor
+
+      answered-so : told ≡ savedAnswer state slots text
+      unfolding savedAnswer
+      answered-so = a .answer ∙ sym (then-is _ _ _ (back .is) ∙ then-is _ _ _ line)
+
+      left-so : left ≡ slotsBy told slots (entriesAfter (historyIn state) slots text)
+      left-so = a .bytes ∙ ap (λ (x : Added). slotsBy x slots (entriesAfter (historyIn state) slots text)) (sym (a .answer))
+
+      pub add-done : (state′ : List ℕ) → told ≡ Done → state′ ≡ savedOf (s .editor) r → SavedAdd state slots text told state′ left
+      add-done state′ d w =
+          let n : ℕ = length (entriesAfter (historyIn state) slots text) in
+          let known : addAnswer (historyIn state) slots text ≡ Done = sym (a .answer) ∙ d in
+          record {
+            answer = answered-so;
+            kept =
+                w
+                ∙ ap (λ (x : Editor). savedOf x r) (back .editor)
+                ∙ ap (savedOf (editorIn state)) (a .state ∙ ap (λ (x : Added). historyBy x (historyIn state) (entriesAfter (historyIn state) slots text)) known)
+                ∙ ap (λ (x : Added). stateBy x state n) (sym d);
+            held = left-so;
+          }
+
+      pub add-fits : told ≡ Done → Fits (s .editor) r
+      add-fits d =
+          let known : addAnswer (historyIn state) slots text ≡ Done = sym (a .answer) ∙ d in
+          let all : r ≡ atEnd (length (entriesAfter (historyIn state) slots text)) =
+          a .state ∙ ap (λ (x : Added). historyBy x (historyIn state) (entriesAfter (historyIn state) slots text)) known
+          in
+          let n : length (entriesAfter (historyIn state) slots text) ≤ 100 = few-after (historyIn state) slots text (good-done (historyIn state) slots text known) in
+          let l = good-line (editorIn state) line in
+          let m = l .short in
+          let w = l .within in
+          let small : Fits (editorIn state) (atEnd (length (entriesAfter (historyIn state) slots text))) = (m, omega arith, omega arith, omega arith) in
+          rw (back .editor, all) small
+
+      pub add-refused : OneOf (1 ∷ 2 ∷ 3 ∷ []) (tagOf the-type told) → SavedAdd state slots text told state left
+      add-refused k = record { answer = answered-so; kept = sym (stays told k); held = left-so }
+        where
+          stays : (x : Added) → OneOf (1 ∷ 2 ∷ 3 ∷ []) (tagOf the-type x) → stateBy x state (length (entriesAfter (historyIn state) slots text)) ≡ state
+          stays Done m = absurd (miss (1 ∷ 2 ∷ 3 ∷ []) 0 tt m)
+          stays BadHistory m = refl
+          stays (TooLong n) m = refl
+          stays (IllFormed n) m = refl
+
+-- one key
+module _ (state slots prompt : List ℕ) (byte : ℕ) (line screen : List ℕ) where
+  pub key-other : isState state ≡ false → SavedKey state slots prompt byte line screen BadState state slots line screen
+  unfolding pressAnswer keyAnswer goodSaved
+  key-other h = record { answer = sym (else-is _ _ _ (else-is _ _ _ h)); kept = refl; held = refl; given = refl; shown = refl }
+
+  module _ (r : Restored) (back : Back r state) (k : Key) (slots′ line′ screen′ : List ℕ)
+      (b : Pressing (r .editor) (r .history) slots prompt byte line screen k slots′ line′ screen′) where
+    p : Pressing (editorIn state) (historyIn state) slots prompt byte line screen k slots′ line′ screen′
+    p = rw (back .editor, back .history) at b
+
+    told-so : k .answer ≡ pressAnswer state slots prompt byte (length line) (length screen)
+    unfolding pressAnswer goodSaved turnIn
+    told-so =
+        p .answer
+        ∙ ap (λ (t : Bool). keyAnswer t prompt (turnOf prompt (stateOf (editorIn state) (historyIn state) slots) byte) (length line) (length screen)) (sym (then-is _ _ _ (back .is)))
+
+    pub key-refused : refused (k .answer) ≡ true → SavedKey state slots prompt byte line screen (k .answer) state slots′ line′ screen′
+    unfolding turnIn
+    key-refused t = record { answer = told-so; kept = sym (then-is _ _ _ t); held = p .held; given = p .given; shown = p .shown }
+
+    -- what is left of a key that is taken
+    after-editor : refused (k .answer) ≡ false → k .editor ≡ editorOf (turnIn state slots prompt byte .after)
+    unfolding turnIn
+    after-editor t = p .editor ∙ else-is _ _ _ t
+
+    after-history : refused (k .answer) ≡ false → k .history ≡ historyOf (turnIn state slots prompt byte .after)
+    unfolding turnIn
+    after-history t = p .history ∙ else-is _ _ _ t
+
+    pub key-taken : (state′ : List ℕ) → refused (k .answer) ≡ false → state′ ≡ savedOf (k .editor) (k .history)
+        → SavedKey state slots prompt byte line screen (k .answer) state′ slots′ line′ screen′
+    unfolding savedAfter turnIn
+    key-taken state′ t s =
+        record {
+          answer = told-so;
+          kept =
+              s
+              ∙ ap (λ (x : Editor). savedOf x (k .history)) (after-editor t)
+              ∙ ap (savedOf (editorOf (turnIn state slots prompt byte .after))) (after-history t)
+              ∙ sym (else-is _ _ _ t);
+          held = p .held;
+          given = p .given;
+          shown = p .shown;
+        }
+
+    -- a key is taken in a good state only
+    good-taken : refused (k .answer) ≡ false → goodState (editorIn state) (historyIn state) slots ≡ true
+    unfolding keyAnswer
+    good-taken t = by (goodState (editorIn state) (historyIn state) slots) refl
+      where
+        by : (t : Bool) → goodState (editorIn state) (historyIn state) slots ≡ t → t ≡ true
+        by true h = refl
+        by false h = absurd (true-is-not-false (sym (ap refused (p .answer ∙ else-is _ _ _ h)) ∙ t))
+
+    pub taken-fits : refused (k .answer) ≡ false → Fits (k .editor) (k .history)
+    unfolding turnIn
+    taken-fits t =
+        let f = key-fits (editorIn state) (historyIn state) slots prompt byte (good-taken t) in
+        rw (after-editor t, after-history t) f

@@ -1,0 +1,4 @@
+-- The laws of the crate `saved` that belong to no one function.
+pub mod Savings
+pub mod Bounds
+pub mod Answering

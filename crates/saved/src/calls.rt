@@ -1,0 +1,51 @@
+// The calls on a saved state: a fresh one, a key, a text added to its history.
+ghost use Rattle.saved.specs.Calls.{Beginning, SavedAdd};
+use super::state::restore;
+use super::state::save;
+use editor::Editor;
+use history::Added;
+use history::History;
+use history::add_command;
+use history::clear;
+
+// What beginning a session answers.
+pub enum Begun {
+    Ready,
+    // A buffer has another length: the one it needs.
+    NoRoom(usize),
+}
+
+// A fresh session: no line, no history.
+pub fn begin(state: &mut [u8], slots: &mut [u8]) -> Begun
+    ensures { λ r. ⌜ Beginning (now (state .entry)) (now (slots .entry)) r (now (state .exit)) (now (slots .exit)) ⌝ }
+{
+    if state.len() != 260 {
+        return Begun::NoRoom(260);
+    }
+    if slots.len() != 25600 {
+        return Begun::NoRoom(25600);
+    }
+    save(Editor::fresh(), History::fresh(), state);
+    clear(slots, 0, 25600);
+    Begun::Ready
+}
+
+// A text added to the history; the editor stays as it is.
+pub fn add(state: &mut [u8], slots: &mut [u8], text: &[u8]) -> Added
+    ensures { λ r. ⌜ SavedAdd (now (state .entry)) (now (slots .entry)) (now (text .entry)) r (now (state .exit)) (now (slots .exit)) ⌝ }
+{
+    let session = restore(state);
+    let editor = session.editor;
+    if !session.valid {
+        return Added::BadState;
+    }
+    if !editor.is_good() {
+        return Added::BadState;
+    }
+    let adding = add_command(session.history, slots, text);
+    let told = adding.answer;
+    if let Added::Done = told {
+        save(editor, adding.history, state);
+    }
+    told
+}
