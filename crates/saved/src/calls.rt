@@ -1,8 +1,11 @@
 // The calls on a saved state: a fresh one, a key, a text added to its history.
-ghost use Rattle.saved.specs.Calls.{Beginning, SavedAdd};
+ghost use mathlib.Core.Path.{_≡_};
+ghost use Rattle.editor.specs.Answer.{refused};
+ghost use Rattle.saved.specs.Calls.{Beginning, SavedKey, SavedAdd};
 use super::state::restore;
 use super::state::save;
 use editor::Editor;
+use editor::Pressed;
 use history::Added;
 use history::History;
 use history::add_command;
@@ -28,6 +31,45 @@ pub fn begin(state: &mut [u8], slots: &mut [u8]) -> Begun
     save(Editor::fresh(), History::fresh(), state);
     clear(slots, 0, 25600);
     Begun::Ready
+}
+
+// Whether an answer is a refusal: then the state stays.
+fn is_refusal(told: Pressed) -> bool
+    ensures { λ r. ⌜ r ≡ refused told ⌝ }
+{
+    match told {
+        Pressed::Shown(_) => false,
+        Pressed::Entered(_) => false,
+        Pressed::Dropped => false,
+        Pressed::BadState => true,
+        Pressed::BadPrompt(_) => true,
+        Pressed::NoRoom(_) => true,
+    }
+}
+
+// One key.
+pub fn press(
+    state: &mut [u8],
+    slots: &mut [u8],
+    prompt: &[u8],
+    byte: u8,
+    line: &mut [u8],
+    screen: &mut [u8],
+) -> Pressed
+    ensures { λ r. ⌜ SavedKey (now (state .entry)) (now (slots .entry)) (now (prompt .entry)) byte (now (line .entry)) (now (screen .entry)) r (now (state .exit)) (now (slots .exit)) (now (line .exit)) (now (screen .exit)) ⌝ }
+{
+    let session = restore(state);
+    let editor = session.editor;
+    if !session.valid {
+        return Pressed::BadState;
+    }
+    let pressed = editor.key(session.history, slots, prompt, byte, line, screen);
+    let told = pressed.answer;
+    if is_refusal(told) {
+        return told;
+    }
+    save(pressed.editor, pressed.history, state);
+    told
 }
 
 // A text added to the history; the editor stays as it is.

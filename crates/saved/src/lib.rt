@@ -5,6 +5,7 @@ mod state;
 pub use calls::Begun;
 pub use calls::add;
 pub use calls::begin;
+pub use calls::press;
 pub use state::Restored;
 pub use state::restore;
 pub use state::save;
