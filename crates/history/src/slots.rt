@@ -29,7 +29,7 @@ pub fn recall(slots: &[u8], number: usize) -> &[u8]
 }
 
 // Writes zeros from a place up to another.
-fn clear(out: &mut [u8], at: usize, end: usize)
+pub fn clear(out: &mut [u8], at: usize, end: usize)
     requires { ⌜ (at ≤ end) × (end ≤ length (now out)) ⌝ }
     ensures { λ _. ⌜ now (out .exit) ≡ overAt (zeros (end - at)) (now (out .entry)) at ⌝ }
 {

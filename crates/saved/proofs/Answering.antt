@@ -1,41 +1,41 @@
 -- Laws of the calls on a saved state: what each way through the code answers and leaves.
-use Prim.Native.Nat.{ℕ, _+_, _-_, _≤_}
+use Prim.Native.Nat.{ℕ, _-_, _≤_}
 use mathlib.Core.Path.{_≡_, refl, sym, ap, _∙_}
 use mathlib.Core.Bool.{Bool, true, false, cond}
 use mathlib.Core.List.{List, [], _∷_, _++_, append-nil}
 use native.Mathlib.Omega.{arith}
 use types.Run.{OneOf, miss}
 use denote.Enum.Declared.{tagOf}
-use lib.Dec.{eqb}
 use lib.ListN.{length}
-use borrow.Author.Tests.{eq-eqb, ne-eqb}
+use borrow.Author.Tests.{eq-eqb, ne-eqb, ltb-false}
+use lib.Dec.{ltb}
 use Rattle.buffer.proofs.Choices.{then-is, else-is, true-is-not-false}
 use Rattle.buffer.proofs.Lists.{drop-end}
 use Rattle.buffer.proofs.Lending.{overAt-front}
 use Rattle.buffer.specs.Write.{over, overAt}
-use Rattle.history.specs.Slots.{zeros, run, layout, entriesOf, good}
+use Rattle.history.specs.Slots.{zeros, layout, entriesOf, good}
 use Rattle.history.specs.Answer.{atEnd, entriesIn, entriesAfter, addAnswer, historyBy, slotsBy, Addition}
 use Rattle.history.specs.declared.past.History.{History}
 use Rattle.history.specs.declared.adding.Added.{Added}
 use Rattle.history.specs.declared.adding.Added.the-variants.{Done, BadState as BadHistory, TooLong, IllFormed}
 use Rattle.history.proofs.adding.Added.{the-type}
 use Rattle.history.proofs.Layouts.{length-zeros, length-entries}
-use Rattle.history.proofs.States.{good-has}
+use Rattle.history.proofs.States.{good-has, good-short}
+use Rattle.history.proofs.Kept.{Entries, entries-good, added-entries}
+use Rattle.editor.proofs.Fine.{stays-good}
+use Rattle.history.specs.Entries.{wellFormed}
+use Rattle.text.specs.Decoding.{wellFormedLength}
 use Rattle.editor.specs.declared.line.Editor.{Editor}
 use Rattle.editor.specs.declared.drawing.Key.{Key}
-use Rattle.editor.specs.declared.drawing.Pressed.{Pressed}
 use Rattle.editor.specs.declared.drawing.Pressed.the-variants.{BadState}
 use Rattle.editor.specs.Line.{holding, freshEditor, goodLine}
-use Rattle.editor.proofs.Lines.{good-line}
-use Rattle.editor.specs.Keys.{Turn, turnOf}
+use Rattle.editor.specs.Keys.{turnOf}
 use Rattle.editor.specs.Answer.{stateOf, editorOf, historyOf, goodState, keyAnswer, refused, Pressing}
 use Rattle.saved.specs.State.{savedOf, isState, editorIn, historyIn, goodSaved}
 use Rattle.saved.specs.Calls.{beginAnswer, Beginning, turnIn, pressAnswer, savedAfter, SavedKey, savedAnswer, stateBy, SavedAdd}
 use Rattle.saved.specs.declared.state.Restored.{Restored}
-use Rattle.saved.specs.declared.calls.Begun.{Begun}
 use Rattle.saved.specs.declared.calls.Begun.the-variants.{Ready, NoRoom}
-use Rattle.saved.proofs.Savings.{Fits, Back}
-use Rattle.saved.proofs.Bounds.{few-added, key-fits}
+use Rattle.saved.proofs.Savings.{Fits, Back, no-entries, good-fits}
 
 -- a fresh session
 module _ (state slots : List ℕ) where
@@ -48,11 +48,12 @@ module _ (state slots : List ℕ) where
   begin-slots h k = record { answer = sym (then-is _ _ _ (eq-eqb _ _ h) ∙ else-is _ _ _ (ne-eqb _ _ k)); kept = refl; held = refl }
 
   cleared : length slots ≡ 25600 → overAt (zeros (25600 - 0)) slots 0 ≡ layout []
-  unfolding layout run over
+  unfolding over
   cleared k =
       overAt-front (zeros 25600) slots
       ∙ ap (λ (x : List ℕ). zeros 25600 ++ x) (drop-end slots (length (zeros 25600)) (let z = length-zeros 25600 in omega arith))
       ∙ append-nil (zeros 25600)
+      ∙ sym no-entries
 
   pub begin-ready : (e : Editor) (h : History) (state′ slots′ : List ℕ) → length state ≡ 260 → length slots ≡ 25600 → e ≡ freshEditor → h ≡ atEnd 0
       → state′ ≡ savedOf e h → slots′ ≡ overAt (zeros (25600 - 0)) slots 0 → Beginning state slots Ready state′ slots′
@@ -71,19 +72,31 @@ fresh-small = (omega arith, omega arith, omega arith, omega arith)
 pub fresh-bytes : (e : Editor) (h : History) → e ≡ freshEditor → h ≡ atEnd 0 → Fits e h
 fresh-bytes e h p q = rw (p, q) fresh-small
 
--- a history after a text was added has at most 100 entries
-few-after : (h : History) (slots text : List ℕ) → good (h .count) (h .place) slots ≡ true → length (entriesAfter h slots text) ≤ 100
-unfolding entriesAfter entriesIn
-few-after h slots text g =
-    few-added text (entriesOf (h .count) slots) (let n = length-entries (h .count) slots in let k = good-has (h .count) (h .place) slots g .counted in omega arith)
+-- a text that is added is short and well-formed, and the state good
+pub record Taken (h : History) (slots text : List ℕ) : Type 0 where
+  pub is-good : good (h .count) (h .place) slots ≡ true
+  pub short : length text ≤ 255
+  pub formed : wellFormed text ≡ true
 
-good-done : (h : History) (slots text : List ℕ) → addAnswer h slots text ≡ Done → good (h .count) (h .place) slots ≡ true
+pub done-has : (h : History) (slots text : List ℕ) → addAnswer h slots text ≡ Done → Taken h slots text
 unfolding addAnswer
-good-done h slots text d = by (good (h .count) (h .place) slots) refl
+done-has h slots text d = by (good (h .count) (h .place) slots) (ltb 255 (length text)) (wellFormed text) refl refl refl d
   where
-    by : (t : Bool) → good (h .count) (h .place) slots ≡ t → t ≡ true
-    by true g = refl
-    by false g = absurd (let e = sym (else-is _ _ _ g) ∙ d in let z : _≡_ {A = ℕ} 0 1 = cc in omega arith)
+    by : (a b w : Bool) → good (h .count) (h .place) slots ≡ a → ltb 255 (length text) ≡ b → wellFormed text ≡ w
+        → cond a (cond b (TooLong (length text)) (cond w Done (IllFormed (wellFormedLength text)))) BadHistory ≡ Done → Taken h slots text
+    by true false true p q r e = record { is-good = p; short = ltb-false _ _ q; formed = r }
+    by true false false p q r e = absurd (let z : _≡_ {A = ℕ} 0 1 = cc in omega arith)
+    by true true w p q r e = absurd (let z : _≡_ {A = ℕ} 0 1 = cc in omega arith)
+    by false b w p q r e = absurd (let z : _≡_ {A = ℕ} 0 1 = cc in omega arith)
+
+pub entries-after : (h : History) (slots text : List ℕ) → Taken h slots text → Entries (entriesAfter h slots text)
+unfolding entriesAfter entriesIn
+entries-after h slots text t =
+    let g = good-has (h .count) (h .place) slots (t .is-good) in
+    let n = length-entries (h .count) slots in
+    let k = g .counted in
+    added-entries (entriesOf (h .count) slots) text
+    (record { short = good-short (h .count) (h .place) slots g; few = omega arith; is-sound = g .is-sound }) (t .short) (t .formed)
 
 -- a text added
 module _ (state slots text : List ℕ) where
@@ -124,18 +137,22 @@ module _ (state slots text : List ℕ) where
             held = left-so;
           }
 
-      pub add-fits : told ≡ Done → Fits (s .editor) r
-      add-fits d =
+      pub add-good : told ≡ Done → goodState (s .editor) r left ≡ true
+      unfolding goodState
+      add-good d =
+          let es : List (List ℕ) = entriesAfter (historyIn state) slots text in
           let known : addAnswer (historyIn state) slots text ≡ Done = sym (a .answer) ∙ d in
-          let all : r ≡ atEnd (length (entriesAfter (historyIn state) slots text)) =
-          a .state ∙ ap (λ (x : Added). historyBy x (historyIn state) (entriesAfter (historyIn state) slots text)) known
-          in
-          let n : length (entriesAfter (historyIn state) slots text) ≤ 100 = few-after (historyIn state) slots text (good-done (historyIn state) slots text known) in
-          let l = good-line (editorIn state) line in
-          let m = l .short in
-          let w = l .within in
-          let small : Fits (editorIn state) (atEnd (length (entriesAfter (historyIn state) slots text))) = (m, omega arith, omega arith, omega arith) in
-          rw (back .editor, all) small
+          let all : r ≡ atEnd (length es) = a .state ∙ ap (λ (x : Added). historyBy x (historyIn state) es) known in
+          let laid : left ≡ layout es = a .bytes ∙ ap (λ (x : Added). slotsBy x slots es) known in
+          let entries : Entries es = entries-after (historyIn state) slots text (done-has (historyIn state) slots text known) in
+          let here : length es ≤ length es = omega arith in
+          ap (λ (x : History). goodState (s .editor) x left) all
+          ∙ ap (λ (x : List ℕ). goodState (s .editor) (atEnd (length es)) x) laid
+          ∙ then-is _ _ _ good-editor
+          ∙ entries-good es (length es) entries here
+
+      pub add-fits : told ≡ Done → Fits (s .editor) r
+      add-fits d = good-fits (s .editor) r left (add-good d)
 
       pub add-refused : OneOf (1 ∷ 2 ∷ 3 ∷ []) (tagOf the-type told) → SavedAdd state slots text told state left
       add-refused k = record { answer = answered-so; kept = sym (stays told k); held = left-so }
@@ -202,7 +219,6 @@ module _ (state slots prompt : List ℕ) (byte : ℕ) (line screen : List ℕ) w
         by false h = absurd (true-is-not-false (sym (ap refused (p .answer ∙ else-is _ _ _ h)) ∙ t))
 
     pub taken-fits : refused (k .answer) ≡ false → Fits (k .editor) (k .history)
-    unfolding turnIn
     taken-fits t =
-        let f = key-fits (editorIn state) (historyIn state) slots prompt byte (good-taken t) in
-        rw (after-editor t, after-history t) f
+        good-fits (k .editor) (k .history) slots′
+        (stays-good (editorIn state) (historyIn state) slots prompt byte line screen k slots′ line′ screen′ (good-taken t) p)

@@ -1,4 +1,5 @@
 -- The laws of the crate `saved` that belong to no one function.
 pub mod Savings
-pub mod Bounds
 pub mod Answering
+pub mod Lasting
+pub mod Examples

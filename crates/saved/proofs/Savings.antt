@@ -1,30 +1,32 @@
 -- Laws of saved states: what was saved is restored, nothing in the bytes is lost, and how the code writes them.
-use Prim.Native.Nat.{ℕ, zero, suc, _+_, _-_, _<_, _≤_}
+use Prim.Native.Nat.{ℕ, zero, suc, _+_, _-_, _≤_}
 use mathlib.Core.Path.{_≡_, refl, sym, ap, _∙_}
-use mathlib.Core.Bool.{Bool, true, false, cond}
+use mathlib.Core.Bool.{Bool, true, false}
 use mathlib.Core.List.{List, [], _∷_, _++_, append-nil}
 use native.Mathlib.Omega.{arith}
 use lib.Dec.{leb, eqb}
-use lib.ListN.{length, take, drop, getD, length-append, length-drop}
-use borrow.Author.Tests.{leb-true, le-leb, lt-leb, eq-eqb, ne-eqb, eqb-true}
+use lib.ListN.{length, take, drop, getD, length-drop}
+use borrow.Author.Tests.{leb-true, le-leb, eq-eqb, ne-eqb, eqb-true}
 use Rattle.buffer.proofs.Choices.{then-is, else-is, true-is-not-false}
 use Rattle.buffer.proofs.Lists.{drop-end}
 use Rattle.buffer.proofs.Lending.{overAt-front, length-overAt, rest-lent}
 use Rattle.buffer.proofs.Writing.{pushed-both}
-use Rattle.buffer.specs.Write.{over, overAt, Pushed}
+use Rattle.buffer.specs.Write.{over, Pushed}
 use Rattle.history.specs.declared.past.History.{History}
 use Rattle.history.specs.Answer.{atEnd}
-use Rattle.history.specs.Slots.{zeros, good}
+use Rattle.history.specs.Slots.{zeros, run, layout, good}
 use Rattle.history.proofs.States.{holds, good-has}
 use Rattle.editor.specs.declared.line.Mode.{Mode}
 use Rattle.editor.specs.declared.line.Mode.the-variants.{Typing, Escape, Sequence}
 use Rattle.editor.specs.declared.line.Editor.{Editor}
-use Rattle.editor.specs.Line.{limit, padded, holding, freshEditor, goodLine}
-use Rattle.editor.specs.Answer.{goodState}
+use Rattle.editor.specs.Line.{limit, padded, holding, freshEditor}
+use Rattle.editor.specs.Keys.{turnOf}
+use Rattle.editor.specs.Answer.{stateOf, goodState}
 use Rattle.editor.proofs.Lines.{good-line}
 use Rattle.editor.proofs.Seats.{good-parts}
 use Rattle.saved.specs.declared.state.Restored.{Restored}
 use Rattle.saved.specs.State.{modeNumber, modeOf, savedOf, isState, editorIn, historyIn, restored, goodSaved}
+use Rattle.saved.specs.Calls.{turnIn}
 
 -- a mode and its number
 pub mode-back : (m : Mode) → modeOf (modeNumber m) ≡ m
@@ -68,6 +70,20 @@ restored-saved e h l =
     ∙ ap (λ (x : Editor). record { valid = true; editor = x; history = historyIn (savedOf e h) }) (editor-saved e h)
     ∙ ap (λ (x : History). record { valid = true; editor = e; history = x }) (history-saved e h)
 
+-- a saved state is as good as its editor and its history, and a key takes the same turn in it
+pub good-saved : (e : Editor) (h : History) (slots : List ℕ) → length (e .line) ≡ 255 → goodSaved (savedOf e h) slots ≡ goodState e h slots
+unfolding goodSaved
+good-saved e h slots l =
+    then-is _ _ _ (state-saved e h l)
+    ∙ ap (λ (x : Editor). goodState x (historyIn (savedOf e h)) slots) (editor-saved e h)
+    ∙ ap (λ (x : History). goodState e x slots) (history-saved e h)
+
+pub turn-saved : (e : Editor) (h : History) (slots prompt : List ℕ) (byte : ℕ) → turnIn (savedOf e h) slots prompt byte ≡ turnOf prompt (stateOf e h slots) byte
+unfolding turnIn
+turn-saved e h slots prompt byte =
+    ap (λ (x : Editor). turnOf prompt (stateOf x (historyIn (savedOf e h)) slots) byte) (editor-saved e h)
+    ∙ ap (λ (x : History). turnOf prompt (stateOf e x slots) byte) (history-saved e h)
+
 -- what restores is the saving of what was restored
 first-five : (s : List ℕ) → 5 ≤ length s → getD s 0 0 ∷ getD s 1 0 ∷ getD s 2 0 ∷ getD s 3 0 ∷ getD s 4 0 ∷ drop 5 s ≡ s
 first-five [] h = absurd (omega arith)
@@ -97,6 +113,10 @@ saved-restored s h =
 pub fresh-zeros : savedOf freshEditor (atEnd 0) ≡ zeros 260
 unfolding savedOf modeNumber freshEditor holding padded limit zeros
 fresh-zeros = refl
+
+pub no-entries : layout [] ≡ zeros 25600
+unfolding layout run
+no-entries = refl
 
 -- the numbers of a good state are bytes
 abbrev pub Fits : Editor → History → Type 0
@@ -128,11 +148,9 @@ save-written e h m state mid left p r q n l a b =
     ∙ ap (λ (x : ℕ). x ∷ e .length ∷ e .cursor ∷ h .count ∷ h .place ∷ e .line) q
 
 -- the line has room behind the five numbers
-pub save-room : (e : Editor) (h : History) (m : ℕ) (state mid : List ℕ) (p : ℕ) → length state ≡ 260 → length (e .line) ≡ 255
-    → Pushed (m ∷ e .length ∷ e .cursor ∷ h .count ∷ h .place ∷ []) state 0 p mid → p + length (e .line) ≤ length mid
-save-room e h m state mid p n l a =
-    let head : List ℕ = m ∷ e .length ∷ e .cursor ∷ h .count ∷ h .place ∷ [] in
-    let five : length head ≡ 5 = refl in
+pub save-room : (head line state mid : List ℕ) (p : ℕ) → length state ≡ 260 → length line ≡ 255 → Pushed head state 0 p mid → length head ≡ 5
+    → p + length line ≤ length mid
+save-room head line state mid p n l a five =
     let q : p ≡ 0 + length head = a .place in
     let b : length mid ≡ length state = ap length (a .bytes) ∙ length-overAt head state 0 (omega arith) in
     omega arith

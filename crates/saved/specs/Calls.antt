@@ -11,7 +11,6 @@ use Rattle.history.specs.Answer.{atEnd, entriesAfter, addAnswer, slotsBy}
 use Rattle.history.specs.declared.adding.Added.{Added}
 use Rattle.history.specs.declared.adding.Added.the-variants.{Done, BadState as BadHistory, TooLong, IllFormed}
 use Rattle.editor.specs.declared.drawing.Pressed.{Pressed}
-use Rattle.editor.specs.declared.drawing.Pressed.the-variants.{Shown, Entered, Dropped, BadState, BadPrompt, NoRoom as NoSpace}
 use Rattle.editor.specs.Line.{freshEditor, goodLine}
 use Rattle.editor.specs.Keys.{State, Turn, turnOf}
 use Rattle.editor.specs.Answer.{stateOf, editorOf, historyOf, slotsOf, keyAnswer, refused}

@@ -1,6 +1,5 @@
 -- `saved::calls::begin` meets its contract.
 use Rattle.saved.proofs.Answering.{begin-state, begin-slots, begin-ready, fresh-bytes}
-use native.Mathlib.Omega.{arith}
 use borrow.Author.Needs.{needs}
 use Rattle.saved.proofs.calls.begin.Statement.{statement}
 use Rattle.saved.proofs.calls.begin.Tie as tie

@@ -1,8 +1,8 @@
+-- `saved::state::mode_number` meets its contract.
 use Rattle.saved.proofs.Savings.{number-of}
 use Rattle.saved.specs.State.{modeNumber}
 use Rattle.editor.specs.declared.line.Mode.the-variants.{Typing, Escape, Sequence}
 use mathlib.Core.Path.{refl}
--- `saved::state::mode_number` meets its contract.
 use borrow.Author.Needs.{needs}
 use Rattle.saved.proofs.state.mode_number.Statement.{statement}
 use Rattle.saved.proofs.state.mode_number.Tie as tie

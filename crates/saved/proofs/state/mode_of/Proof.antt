@@ -1,7 +1,5 @@
-use Rattle.saved.proofs.Savings.{mode-sequence}
-use Rattle.saved.specs.State.{modeOf}
-use Rattle.saved.proofs.Savings.{mode-typing, mode-escape}
 -- `saved::state::mode_of` meets its contract.
+use Rattle.saved.proofs.Savings.{mode-sequence, mode-typing, mode-escape}
 use Rattle.saved.proofs.state.mode_of.Statement.{statement}
 use Rattle.saved.proofs.state.mode_of.Tie as tie
 

@@ -1,8 +1,7 @@
-use Rattle.saved.proofs.Savings.{save-room}
 -- `saved::state::save` meets its contract.
-use Rattle.saved.proofs.Savings.{save-written}
+use mathlib.Core.Path.{refl}
+use Rattle.saved.proofs.Savings.{save-room, save-written}
 use Rattle.editor.proofs.Lines.{whole-line}
-use native.Mathlib.Omega.{arith}
 use borrow.Author.Needs.{needs}
 use Rattle.saved.proofs.state.save.Statement.{statement}
 use Rattle.saved.proofs.state.save.Tie as tie
@@ -32,7 +31,7 @@ slice-aggregate-push-2 : tie.Need-slice-aggregate-push-2
 slice-aggregate-push-2 c = search needs
 
 push-requires-2 : tie.Need-push-requires-2
-push-requires-2 c κs = save-room (c .before .before .before .before .before .before .before .before .before .before .before .before .before .before .args .editor) (c .before .before .before .before .before .before .before .before .before .before .before .before .before .before .args .history) _ (c .before .before .before .before .before .before .before .before .before .before .before .before .before .before .args .state .now) _ _ (c .before .before .before .before .before .before .before .before .before .before .before .before .before .before .pre .0) (whole-line (c .before .before .before .before .before .before .before .before .before .before .before .before .before .before .args .editor .line) (c .before .before .before .before .before .before .before .before .before .before .before .before .before .before .good .0 .1 .1 .0 .1 .0 .1)) (c .before .before .before .before .push .ensures)
+push-requires-2 c κs = save-room _ (c .before .before .before .before .before .before .before .before .before .before .before .before .before .before .args .editor .line) (c .before .before .before .before .before .before .before .before .before .before .before .before .before .before .args .state .now) _ _ (c .before .before .before .before .before .before .before .before .before .before .before .before .before .before .pre .0) (whole-line (c .before .before .before .before .before .before .before .before .before .before .before .before .before .before .args .editor .line) (c .before .before .before .before .before .before .before .before .before .before .before .before .before .before .good .0 .1 .1 .0 .1 .0 .1)) (c .before .before .before .before .push .ensures) refl
 
 same-length : tie.Need-same-length
 same-length c = search needs
