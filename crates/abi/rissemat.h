@@ -6,7 +6,8 @@
  *   bits 32-39  the refusal's number, 0 for none
  *   bits 40-47  the kind of answer, where a call has several
  *   bits 48-63  a second value, where a call has one
- * A refusal writes nothing. Success writes the first bytes only, as many as the value says.
+ * A refusal writes nothing. Success writes the first bytes of an out, line or screen only, as many as the value (the second value for line)
+ * says.
  */
 #ifndef RISSEMAT_H
 #define RISSEMAT_H
@@ -23,5 +24,27 @@ uint64_t rissemat_words(const uint8_t *line, size_t line_len, uint8_t *out, size
  * Refusals, in this order: 10 (an empty, ill-formed or broken word: its number from 0), 2 (line over 1,024 bytes: its
  * length, 65,535 if more), 9 (out too short: length needed). */
 uint64_t rissemat_quote(const uint8_t *words, size_t words_len, uint8_t *out, size_t out_len);
+
+/* A session between two calls is a state of 260 bytes and slots of 25,600 bytes, both the caller's: no call keeps anything.
+ * The state: mode (0 typing, 1 after ESC, 2 after ESC `[`), line length, cursor, count, place, then the 255 bytes of the line. The
+ * slots: the entries of history in slots of 256 bytes, a length byte then the text, oldest first, all unused bytes zero. */
+
+/* A fresh session: no line, no history. Both buffers are then zeros.
+ * Refusal: 9 (a buffer of another length, the state's first: 260, 25,600). */
+uint64_t rissemat_fresh(uint8_t *state, size_t state_len, uint8_t *slots, size_t slots_len);
+
+/* One key. The value is the length of the bytes to show, at the front of screen. Kind 1 is Enter: the second value is the length of
+ * the line that is submitted, at the front of line (0 for an empty line: nothing to run, but the prompt is due). Kind 2: the line is full and
+ * the byte was dropped; nothing changes. Kind 0 is any other key.
+ * Refusals, in this order: 12 (a bad state: another length or mode, or state and slots break a rule of line or history), 11 (prompt over 128
+ * bytes or ill-formed: its length), 9 (line under 255 bytes: 255; then screen too short: length needed). */
+uint64_t rissemat_key(uint8_t *state, size_t state_len, uint8_t *slots, size_t slots_len, const uint8_t *prompt, size_t prompt_len,
+                      uint8_t key, uint8_t *line, size_t line_len, uint8_t *screen, size_t screen_len);
+
+/* A text added to the history, as Enter adds a line: a blank one, or one equal to the newest entry, is not added, and the place is set to
+ * the count either way; the line that is being typed stays. The value is 0.
+ * Refusals, in this order: 12 (a bad state, as above), 13 (text over 255 bytes: its length), 3 (ill-formed UTF-8: length of the longest
+ * well-formed prefix). */
+uint64_t rissemat_history_add(uint8_t *state, size_t state_len, uint8_t *slots, size_t slots_len, const uint8_t *text, size_t text_len);
 
 #endif

@@ -1,18 +1,72 @@
 -- A call's answer as 64 bits says what the call behind it answered.
 use Prim.Native.Nat.{ℕ}
 use mathlib.Core.Path.{_≡_, sym, ap, _∙_}
-use mathlib.Core.List.{List}
+use mathlib.Core.Bool.{cond}
+use mathlib.Core.List.{List, []}
+use lib.ListN.{length}
 use Rattle.words.specs.declared.tokenizer.Tokens.{Tokens}
 use Rattle.words.specs.Answer.{Tokenized, number, value}
 use Rattle.quote.specs.declared.quoter.Quoted.{Quoted}
 use Rattle.quote.specs.Answer.{Quotation, number as quoteNumber, value as quoteValue}
-use Rattle.abi.specs.Packed.{answered}
-use Rattle.abi.specs.Calls.{WordsCall, QuoteCall}
+use Rattle.buffer.specs.Write.{over}
+use Rattle.history.specs.Slots.{layout}
+use Rattle.history.specs.Answer.{atEnd, entriesAfter, slotsBy, number as addNumber, value as addValue}
+use Rattle.history.specs.declared.adding.Added.{Added}
+use Rattle.editor.specs.declared.drawing.Pressed.{Pressed}
+use Rattle.editor.specs.Line.{freshEditor}
+use Rattle.editor.specs.Answer.{slotsOf, refused}
+use Rattle.saved.specs.State.{savedOf, historyIn}
+use Rattle.saved.specs.Calls.{Beginning, isReady, turnIn, savedAfter, SavedKey, stateBy, SavedAdd}
+use Rattle.saved.specs.declared.calls.Begun.{Begun}
+use Rattle.abi.specs.Packed.{plain}
+use Rattle.abi.specs.Calls.{WordsCall, QuoteCall, FreshCall, freshNumber, freshValue, KeyCall, keyTold, AddCall}
 
-pub words-call : (line out left : List ℕ) (r q : Tokens) (p : ℕ) → Tokenized line out r left → r ≡ q → p ≡ answered (number q) (value q) → WordsCall line out p left
+pub words-call : (line out left : List ℕ) (r q : Tokens) (p : ℕ) → Tokenized line out r left → r ≡ q → p ≡ plain (number q) (value q) → WordsCall line out p left
 words-call line out left r q p h e f =
-    record { answer = f ∙ ap (λ (x : Tokens). answered (number x) (value x)) (sym e ∙ h .answer); bytes = h .bytes }
+    record { answer = f ∙ ap (λ (x : Tokens). plain (number x) (value x)) (sym e ∙ h .answer); bytes = h .bytes }
 
-pub quote-call : (words out left : List ℕ) (r q : Quoted) (p : ℕ) → Quotation words out r left → r ≡ q → p ≡ answered (quoteNumber q) (quoteValue q) → QuoteCall words out p left
+pub quote-call : (words out left : List ℕ) (r q : Quoted) (p : ℕ) → Quotation words out r left → r ≡ q → p ≡ plain (quoteNumber q) (quoteValue q) → QuoteCall words out p left
 quote-call words out left r q p h e f =
-    record { answer = f ∙ ap (λ (x : Quoted). answered (quoteNumber x) (quoteValue x)) (sym e ∙ h .answer); bytes = h .bytes }
+    record { answer = f ∙ ap (λ (x : Quoted). plain (quoteNumber x) (quoteValue x)) (sym e ∙ h .answer); bytes = h .bytes }
+
+pub fresh-call : (state slots state′ slots′ : List ℕ) (r q : Begun) (p : ℕ) → Beginning state slots r state′ slots′ → r ≡ q → p ≡ plain (freshNumber q) (freshValue q)
+    → FreshCall state slots p state′ slots′
+fresh-call state slots state′ slots′ r q p h e f =
+    record {
+      answer = f ∙ ap (λ (x : Begun). plain (freshNumber x) (freshValue x)) (sym e ∙ h .answer);
+      kept = h .kept ∙ ap (λ (x : Begun). cond (isReady x) (savedOf freshEditor (atEnd 0)) state) (h .answer);
+      held = h .held ∙ ap (λ (x : Begun). cond (isReady x) (layout []) slots) (h .answer);
+    }
+
+pub key-call : (state slots prompt : List ℕ) (byte : ℕ) (line screen state′ slots′ line′ screen′ : List ℕ) (r q : Pressed) (p : ℕ)
+    → SavedKey state slots prompt byte line screen r state′ slots′ line′ screen′ → r ≡ q → p ≡ keyTold q
+    → KeyCall state slots prompt byte line screen p state′ slots′ line′ screen′
+key-call state slots prompt byte line screen state′ slots′ line′ screen′ r q p h e f =
+    record {
+      answer = f ∙ ap keyTold (sym e ∙ h .answer);
+      kept = h .kept ∙ ap (λ (x : Pressed). cond (refused x) state (savedAfter (turnIn state slots prompt byte .after))) (h .answer);
+      held = h .held ∙ ap (λ (x : Pressed). cond (refused x) slots (slotsOf (turnIn state slots prompt byte .after))) (h .answer);
+      given = h .given ∙ ap (λ (x : Pressed). cond (refused x) line (over (turnIn state slots prompt byte .submitted) line)) (h .answer);
+      shown = h .shown ∙ ap (λ (x : Pressed). cond (refused x) screen (over (turnIn state slots prompt byte .screen) screen)) (h .answer);
+    }
+
+pub add-call : (state slots text state′ slots′ : List ℕ) (r q : Added) (p : ℕ) → SavedAdd state slots text r state′ slots′ → r ≡ q → p ≡ plain (addNumber q) (addValue q)
+    → AddCall state slots text p state′ slots′
+add-call state slots text state′ slots′ r q p h e f =
+    record {
+      answer = f ∙ ap (λ (x : Added). plain (addNumber x) (addValue x)) (sym e ∙ h .answer);
+      kept = h .kept ∙ ap (λ (x : Added). stateBy x state (length (entriesAfter (historyIn state) slots text))) (h .answer);
+      held = h .held ∙ ap (λ (x : Added). slotsBy x slots (entriesAfter (historyIn state) slots text)) (h .answer);
+    }
+
+-- no second answer and no other bytes
+pub one-fresh : (state slots a b a′ b′ : List ℕ) (r r′ : ℕ) → FreshCall state slots r a b → FreshCall state slots r′ a′ b′ → (r ≡ r′) × (a ≡ a′) × (b ≡ b′)
+one-fresh state slots a b a′ b′ r r′ h k = (h .answer ∙ sym (k .answer), h .kept ∙ sym (k .kept), h .held ∙ sym (k .held))
+
+pub one-key : (state slots prompt : List ℕ) (byte : ℕ) (line screen a b d e a′ b′ d′ e′ : List ℕ) (r r′ : ℕ) → KeyCall state slots prompt byte line screen r a b d e
+    → KeyCall state slots prompt byte line screen r′ a′ b′ d′ e′ → (r ≡ r′) × (a ≡ a′) × (b ≡ b′) × (d ≡ d′) × (e ≡ e′)
+one-key state slots prompt byte line screen a b d e a′ b′ d′ e′ r r′ h k =
+    (h .answer ∙ sym (k .answer), h .kept ∙ sym (k .kept), h .held ∙ sym (k .held), h .given ∙ sym (k .given), h .shown ∙ sym (k .shown))
+
+pub one-add : (state slots text a b a′ b′ : List ℕ) (r r′ : ℕ) → AddCall state slots text r a b → AddCall state slots text r′ a′ b′ → (r ≡ r′) × (a ≡ a′) × (b ≡ b′)
+one-add state slots text a b a′ b′ r r′ h k = (h .answer ∙ sym (k .answer), h .kept ∙ sym (k .kept), h .held ∙ sym (k .held))

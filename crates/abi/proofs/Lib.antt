@@ -1,2 +1,3 @@
 -- The laws of the crate `abi` that belong to no one function.
 pub mod Answering
+pub mod Packing

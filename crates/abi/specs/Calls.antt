@@ -1,16 +1,77 @@
--- What each call gives back: the answer of the call behind it, by its number and its value, and what that leaves in the buffer.
+-- What each call gives back: the answer of the call behind it, by its number and its value, and what that leaves in each lent buffer.
 use Prim.Native.Nat.{ℕ}
 use mathlib.Core.Path.{_≡_}
-use mathlib.Core.List.{List}
+use mathlib.Core.Bool.{cond}
+use mathlib.Core.List.{List, []}
 use lib.ListN.{length}
+use Rattle.buffer.specs.Write.{over}
 use Rattle.words.specs.Answer.{answerFor, leavesFor, number, value}
 use Rattle.quote.specs.Answer.{quoteAnswer, quoteLeaves, number as quoteNumber, value as quoteValue}
-use Rattle.abi.specs.Packed.{answered}
+use Rattle.history.specs.Slots.{layout}
+use Rattle.history.specs.Answer.{atEnd, entriesAfter, slotsBy, number as addNumber, value as addValue}
+use Rattle.editor.specs.declared.drawing.Pressed.{Pressed}
+use Rattle.editor.specs.declared.drawing.Pressed.the-variants.{Shown, Entered, Dropped, BadState, BadPrompt, NoRoom}
+use Rattle.editor.specs.Line.{freshEditor}
+use Rattle.editor.specs.Answer.{slotsOf, refused, number as keyNumber, value as keyValue}
+use Rattle.saved.specs.State.{savedOf, historyIn}
+use Rattle.saved.specs.Calls.{beginAnswer, isReady, turnIn, pressAnswer, savedAfter, savedAnswer, stateBy}
+use Rattle.saved.specs.declared.calls.Begun.{Begun}
+use Rattle.saved.specs.declared.calls.Begun.the-variants.{Ready, NoRoom as NoSpace}
+use Rattle.abi.specs.Packed.{answered, plain}
 
 pub record WordsCall (line out : List ℕ) (r : ℕ) (left : List ℕ) : Type 0 where
-  pub answer : r ≡ answered (number (answerFor line (length out))) (value (answerFor line (length out)))
+  pub answer : r ≡ plain (number (answerFor line (length out))) (value (answerFor line (length out)))
   pub bytes : left ≡ leavesFor line out
 
 pub record QuoteCall (words out : List ℕ) (r : ℕ) (left : List ℕ) : Type 0 where
-  pub answer : r ≡ answered (quoteNumber (quoteAnswer words (length out))) (quoteValue (quoteAnswer words (length out)))
+  pub answer : r ≡ plain (quoteNumber (quoteAnswer words (length out))) (quoteValue (quoteAnswer words (length out)))
   pub bytes : left ≡ quoteLeaves words out
+
+-- a fresh session: the refusal's number (0: none), and the value that goes with it
+abbrev pub freshNumber : Begun → ℕ
+freshNumber Ready = 0
+freshNumber (NoSpace n) = 9
+
+abbrev pub freshValue : Begun → ℕ
+freshValue Ready = 0
+freshValue (NoSpace n) = n
+
+pub record FreshCall (state slots : List ℕ) (r : ℕ) (state′ slots′ : List ℕ) : Type 0 where
+  pub answer : r ≡ plain (freshNumber (beginAnswer (length state) (length slots))) (freshValue (beginAnswer (length state) (length slots)))
+  pub kept : state′ ≡ cond (isReady (beginAnswer (length state) (length slots))) (savedOf freshEditor (atEnd 0)) state
+  pub held : slots′ ≡ cond (isReady (beginAnswer (length state) (length slots))) (layout []) slots
+
+-- a key has three kinds of answer: 1 at Enter, with the length of the line that is submitted beside it; 2 when the byte was dropped; 0 otherwise
+abbrev pub kind : Pressed → ℕ
+kind (Shown n) = 0
+kind (Entered n) = 1
+kind Dropped = 2
+kind BadState = 0
+kind (BadPrompt n) = 0
+kind (NoRoom n) = 0
+
+abbrev pub second : Pressed → ℕ
+second (Shown n) = 0
+second (Entered n) = n
+second Dropped = 0
+second BadState = 0
+second (BadPrompt n) = 0
+second (NoRoom n) = 0
+
+unfoldable pub keyTold : Pressed → ℕ
+keyTold told = answered (keyNumber told) (keyValue told) (kind told) (second told)
+
+-- a refusal keeps the state and every byte
+pub record KeyCall (state slots prompt : List ℕ) (byte : ℕ) (line screen : List ℕ) (r : ℕ) (state′ slots′ line′ screen′ : List ℕ) : Type 0 where
+  pub answer : r ≡ keyTold (pressAnswer state slots prompt byte (length line) (length screen))
+  pub kept :
+      state′
+      ≡ cond (refused (pressAnswer state slots prompt byte (length line) (length screen))) state (savedAfter (turnIn state slots prompt byte .after))
+  pub held : slots′ ≡ cond (refused (pressAnswer state slots prompt byte (length line) (length screen))) slots (slotsOf (turnIn state slots prompt byte .after))
+  pub given : line′ ≡ cond (refused (pressAnswer state slots prompt byte (length line) (length screen))) line (over (turnIn state slots prompt byte .submitted) line)
+  pub shown : screen′ ≡ cond (refused (pressAnswer state slots prompt byte (length line) (length screen))) screen (over (turnIn state slots prompt byte .screen) screen)
+
+pub record AddCall (state slots text : List ℕ) (r : ℕ) (state′ slots′ : List ℕ) : Type 0 where
+  pub answer : r ≡ plain (addNumber (savedAnswer state slots text)) (addValue (savedAnswer state slots text))
+  pub kept : state′ ≡ stateBy (savedAnswer state slots text) state (length (entriesAfter (historyIn state) slots text))
+  pub held : slots′ ≡ slotsBy (savedAnswer state slots text) slots (entriesAfter (historyIn state) slots text)

@@ -5,10 +5,16 @@
 // has one. rissemat.h and rissemat.rs beside this crate declare the calls for C and for Rust.
 mod pack;
 
-ghost use Rattle.abi.specs.Calls.{WordsCall, QuoteCall};
+ghost use Rattle.abi.specs.Calls.{WordsCall, QuoteCall, FreshCall, KeyCall, AddCall};
+use editor::Pressed;
+use history::Added;
 use pack::packed;
 use quote::Quoted;
 use quote::quote;
+use saved::Begun;
+use saved::add;
+use saved::begin;
+use saved::press;
 use words::Tokens;
 use words::tokenize;
 
@@ -18,10 +24,10 @@ pub extern "C" fn rissemat_words(line: &[u8], out: &mut [u8]) -> u64
     ensures { λ r. ⌜ WordsCall (now (line .entry)) (now (out .entry)) r (now (out .exit)) ⌝ }
 {
     match tokenize(line, out) {
-        Tokens::Words(n) => packed(0, n),
-        Tokens::LineTooLong(n) => packed(2, n),
-        Tokens::IllFormed(n) => packed(3, n),
-        Tokens::NoRoom(n) => packed(9, n),
+        Tokens::Words(n) => packed(0, n, 0, 0),
+        Tokens::LineTooLong(n) => packed(2, n, 0, 0),
+        Tokens::IllFormed(n) => packed(3, n, 0, 0),
+        Tokens::NoRoom(n) => packed(9, n, 0, 0),
     }
 }
 
@@ -31,9 +37,55 @@ pub extern "C" fn rissemat_quote(words: &[u8], out: &mut [u8]) -> u64
     ensures { λ r. ⌜ QuoteCall (now (words .entry)) (now (out .entry)) r (now (out .exit)) ⌝ }
 {
     match quote(words, out) {
-        Quoted::Line(n) => packed(0, n),
-        Quoted::BadWord(n) => packed(10, n),
-        Quoted::LineTooLong(n) => packed(2, n),
-        Quoted::NoRoom(n) => packed(9, n),
+        Quoted::Line(n) => packed(0, n, 0, 0),
+        Quoted::BadWord(n) => packed(10, n, 0, 0),
+        Quoted::LineTooLong(n) => packed(2, n, 0, 0),
+        Quoted::NoRoom(n) => packed(9, n, 0, 0),
+    }
+}
+
+// A fresh session in a state of 260 bytes and slots of 25,600.
+#[no_mangle]
+pub extern "C" fn rissemat_fresh(state: &mut [u8], slots: &mut [u8]) -> u64
+    ensures { λ r. ⌜ FreshCall (now (state .entry)) (now (slots .entry)) r (now (state .exit)) (now (slots .exit)) ⌝ }
+{
+    match begin(state, slots) {
+        Begun::Ready => packed(0, 0, 0, 0),
+        Begun::NoRoom(n) => packed(9, n, 0, 0),
+    }
+}
+
+// One key: kind 1 at Enter, with the length of the line that is submitted as second value; kind 2 when the byte was dropped.
+#[no_mangle]
+pub extern "C" fn rissemat_key(
+    state: &mut [u8],
+    slots: &mut [u8],
+    prompt: &[u8],
+    key: u8,
+    line: &mut [u8],
+    screen: &mut [u8],
+) -> u64
+    ensures { λ r. ⌜ KeyCall (now (state .entry)) (now (slots .entry)) (now (prompt .entry)) key (now (line .entry)) (now (screen .entry)) r (now (state .exit)) (now (slots .exit)) (now (line .exit)) (now (screen .exit)) ⌝ }
+{
+    match press(state, slots, prompt, key, line, screen) {
+        Pressed::Shown(n) => packed(0, n, 0, 0),
+        Pressed::Entered(n) => packed(0, 1, 1, n),
+        Pressed::Dropped => packed(0, 0, 2, 0),
+        Pressed::BadState => packed(12, 0, 0, 0),
+        Pressed::BadPrompt(n) => packed(11, n, 0, 0),
+        Pressed::NoRoom(n) => packed(9, n, 0, 0),
+    }
+}
+
+// A text added to a session's history.
+#[no_mangle]
+pub extern "C" fn rissemat_history_add(state: &mut [u8], slots: &mut [u8], text: &[u8]) -> u64
+    ensures { λ r. ⌜ AddCall (now (state .entry)) (now (slots .entry)) (now (text .entry)) r (now (state .exit)) (now (slots .exit)) ⌝ }
+{
+    match add(state, slots, text) {
+        Added::Done => packed(0, 0, 0, 0),
+        Added::BadState => packed(12, 0, 0, 0),
+        Added::TooLong(n) => packed(13, n, 0, 0),
+        Added::IllFormed(n) => packed(3, n, 0, 0),
     }
 }

@@ -1,25 +1,47 @@
 -- `abi::pack::packed` meets its contract.
 use Rattle.abi.specs.Packed.{answered}
-use Prim.Native.Nat.{min, ℕ, _+_, _*_}
-use mathlib.Core.Logic.{⊎-elim}
 use borrow.Author.Needs.{needs}
-use native.Mathlib.Omega.{arith}
-use mathlib.Core.Path.{_≡_, ap}
 use Rattle.abi.proofs.pack.packed.Statement.{statement}
 use Rattle.abi.proofs.pack.packed.Tie as tie
+
+at-most-requires : tie.Need-at-most-requires
+at-most-requires c κs = search needs
+
+at-most-requires-2 : tie.Need-at-most-requires-2
+at-most-requires-2 c κs = search needs
 
 mul-result : tie.Need-mul-result
 mul-result c = search needs
 
-low-is : (c : tie.Joined1) → c .if1 .low ≡ min (c .before .args .value) 0xFFFF_FFFF
-low-is c = ⊎-elim (λ w. omega arith) (λ w. omega arith) (c .if1 .came)
+mul-result-2 : tie.Need-mul-result-2
+mul-result-2 c = search needs
 
 add-result : tie.Need-add-result
-add-result c = let e = low-is (c .before) in omega (arith, e)
+add-result c = search needs
+
+mul-result-3 : tie.Need-mul-result-3
+mul-result-3 c = search needs
+
+add-result-2 : tie.Need-add-result-2
+add-result-2 c = search needs
+
+add-result-3 : tie.Need-add-result-3
+add-result-3 c = search needs
 
 returns : tie.Need-returns
 unfolding answered
-returns c = ap (λ (n : ℕ). c .before .before .args .number * 0x1_0000_0000 + n) (low-is (c .before))
+returns c = cc
 
 pub packed-spec : {M : Type 1} → statement M
-packed-spec = tie.close (tie.spec mul-result add-result returns)
+packed-spec =
+    tie.close
+    (tie.spec
+    at-most-requires
+    at-most-requires-2
+    mul-result
+    mul-result-2
+    add-result
+    mul-result-3
+    add-result-2
+    add-result-3
+    returns)
