@@ -1,21 +1,18 @@
 -- Laws of Enter, and of any turn with the slots and the line buffer beside it.
-use Prim.Native.Nat.{ℕ, _+_, _<_, _≤_}
+use Prim.Native.Nat.{ℕ, _<_, _≤_}
 use mathlib.Core.Path.{_≡_, refl, sym, ap, _∙_}
 use mathlib.Core.Bool.{Bool, true, false, cond}
-use mathlib.Core.List.{List, [], _∷_}
+use mathlib.Core.List.{List, []}
 use native.Mathlib.Omega.{arith}
 use lib.Dec.{eqb, ltb}
 use lib.ListN.{length}
 use borrow.Author.Tests.{eq-eqb, ne-eqb}
 use Rattle.buffer.proofs.Choices.{then-is, else-is}
-use Rattle.buffer.proofs.Lending.{overAt-front}
-use Rattle.buffer.specs.Write.{over, Pushed}
-use Rattle.history.specs.Slots.{good}
+use Rattle.buffer.specs.Write.{over}
 use Rattle.history.specs.Answer.{entriesAfter, Offered}
 use Rattle.history.specs.declared.past.History.{History}
 use Rattle.editor.specs.declared.line.Editor.{Editor}
 use Rattle.editor.specs.declared.drawing.Key.{Key}
-use Rattle.editor.specs.declared.drawing.Pressed.{Pressed}
 use Rattle.editor.specs.declared.drawing.Pressed.the-variants.{Entered, NoRoom}
 use Rattle.editor.specs.Line.{limit, freshEditor, lineOf, goodLine, content}
 use Rattle.editor.specs.Keys.{State, Turn, enters, afterEnter, lineFeed, enter}

@@ -1,17 +1,16 @@
 -- No key leads from a good state to a bad one, so no sequence of keys from the fresh state reaches one.
 use Prim.Native.Nat.{ℕ, _+_, _-_, _<_, _≤_}
-use mathlib.Core.Path.{_≡_, refl, sym, ap, _∙_}
+use mathlib.Core.Path.{_≡_, refl, ap, _∙_}
 use mathlib.Core.Bool.{Bool, true, false, cond}
 use mathlib.Core.List.{List, [], _∷_, _++_}
 use native.Mathlib.Omega.{arith}
 use lib.Dec.{eqb, ltb}
 use lib.ListN.{length, getD}
-use borrow.Author.Tests.{eq-eqb, le-leb, ltb-true, ltb-false, eqb-false}
-use Rattle.buffer.proofs.Choices.{then-is, else-is}
+use borrow.Author.Tests.{eq-eqb, le-leb, ltb-true, eqb-false}
+use Rattle.buffer.proofs.Choices.{then-is}
 use Rattle.buffer.proofs.Ordering.{is-same}
 use Rattle.text.proofs.Prefix.{prefix-none, codes-none}
 use Rattle.history.specs.Entries.{wellFormed, sound}
-use Rattle.history.specs.Slots.{good}
 use Rattle.history.specs.Answer.{entriesIn}
 use Rattle.history.specs.declared.past.History.{History}
 use Rattle.history.proofs.Layouts.{none, length-entries}
@@ -21,7 +20,7 @@ use Rattle.editor.specs.declared.line.Mode.{Mode}
 use Rattle.editor.specs.declared.line.Mode.the-variants.{Typing, Escape, Sequence}
 use Rattle.editor.specs.declared.line.Editor.{Editor}
 use Rattle.editor.specs.declared.drawing.Key.{Key}
-use Rattle.editor.specs.Line.{limit, padded, holding, lineOf, goodLine, inserted, erased, content}
+use Rattle.editor.specs.Line.{limit, padded, holding, goodLine, inserted, erased, content}
 use Rattle.editor.specs.Keys.{State, Turn, inMode, enter, afterEnter, erase, insert, typed, escaped, up, onPlace, down, right, left, sequenced, turnIn, turnOf, freshState, afterKeys}
 use Rattle.editor.specs.Answer.{stateOf, editorOf, historyOf, slotsOf, goodState, refused, Pressing}
 use Rattle.editor.proofs.Lines.{good-line, length-of, line-held, length-inserted, length-erased, content-short, below-limit}

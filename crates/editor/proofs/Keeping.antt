@@ -1,12 +1,11 @@
 -- Every key but Enter keeps the entries of history and submits nothing.
 use Prim.Native.Nat.{ℕ}
-use mathlib.Core.Path.{_≡_, refl, sym, ap, _∙_}
+use mathlib.Core.Path.{_≡_, refl, ap, _∙_}
 use mathlib.Core.Bool.{Bool, true, false, cond}
 use mathlib.Core.List.{List, []}
 use lib.Dec.{eqb, ltb}
 use lib.ListN.{length}
 use Rattle.history.specs.Slots.{good, layout}
-use Rattle.history.specs.Answer.{entriesIn}
 use Rattle.history.specs.declared.past.History.{History}
 use Rattle.editor.specs.declared.line.Mode.{Mode}
 use Rattle.editor.specs.declared.line.Editor.{Editor}

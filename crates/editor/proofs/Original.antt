@@ -1,19 +1,19 @@
 -- Each key does what the Rust's loop does: the same line, cursor, mode, history and screen bytes, in every state within the rules.
-use Prim.Native.Nat.{ℕ, zero, suc, _+_, _-_, _<_, _≤_, min}
+use Prim.Native.Nat.{ℕ, zero, suc, _+_, _-_, min}
 use mathlib.Core.Path.{_≡_, refl, sym, ap, _∙_}
 use mathlib.Core.Bool.{Bool, true, false, cond}
 use mathlib.Core.List.{List, [], _∷_, _++_}
-use mathlib.Core.Option.{Option, none, some}
+use mathlib.Core.Option.{none, some}
 use native.Mathlib.Omega.{arith}
 use lib.Dec.{eqb, ltb}
-use lib.ListN.{length, take, drop, getD}
+use lib.ListN.{length, take, getD}
 use lib.Seq.{take-all}
-use borrow.Author.Tests.{lt-ltb, le-ltb, ltb-true, ltb-false, eqb-true, eqb-false, eq-eqb, ne-eqb}
+use borrow.Author.Tests.{lt-ltb, ltb-true, ltb-false, ne-eqb}
 use Rattle.buffer.proofs.Choices.{then-is, else-is, true-is-not-false}
 use Rattle.buffer.specs.Compare.{sameBytes}
 use Rattle.text.specs.Apart.{blank}
 use Rattle.history.specs.Entries.{added, wellFormed, usable, sound}
-use Rattle.history.specs.Rust.{CommandHistory, addCommand, Told, previous, next}
+use Rattle.history.specs.Rust.{CommandHistory, Told}
 use Rattle.history.proofs.States.{holds, short-at}
 use Rattle.history.proofs.Original.{original, add-is, previous-is, next-is}
 use Rattle.screen.specs.Decimal.{decimal}

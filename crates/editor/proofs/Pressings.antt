@@ -7,7 +7,6 @@ use lib.Dec.{leb, ltb}
 use lib.ListN.{length}
 use borrow.Author.Tests.{lt-ltb, le-ltb, ltb-true, ltb-false, leb-true}
 use Rattle.buffer.proofs.Choices.{then-is, else-is}
-use Rattle.buffer.specs.Write.{over}
 use Rattle.history.proofs.States.{holds}
 use Rattle.history.specs.declared.past.History.{History}
 use Rattle.editor.specs.declared.line.Editor.{Editor}
@@ -16,8 +15,8 @@ use Rattle.editor.specs.declared.drawing.Pressed.{Pressed}
 use Rattle.editor.specs.declared.drawing.Pressed.the-variants.{BadState, BadPrompt, NoRoom}
 use Rattle.editor.specs.Line.{limit}
 use Rattle.editor.specs.Keys.{Kind, shows, enters, drops, Turn, turnOf}
-use Rattle.editor.specs.Answer.{stateOf, editorOf, historyOf, slotsOf, goodState, goodPrompt, taken, turnAnswer, keyAnswer, refused, Pressing}
-use Rattle.editor.specs.Steps.{attempt, keyOf, madeBy, Does}
+use Rattle.editor.specs.Answer.{stateOf, editorOf, historyOf, goodState, goodPrompt, taken, turnAnswer, keyAnswer, refused, Pressing}
+use Rattle.editor.specs.Steps.{keyOf, madeBy, Does}
 use Rattle.editor.proofs.Showings.{attempt-fits, attempt-short}
 
 taken-not-refused : (t : Turn) (k : Kind) → refused (taken t k) ≡ false

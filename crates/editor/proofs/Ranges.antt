@@ -1,8 +1,7 @@
 -- Laws of the ranges of key bytes: which turn a byte takes, in each mode.
 use Prim.Native.Nat.{ℕ, _<_, _≤_}
-use mathlib.Core.Path.{_≡_, refl, ap, _∙_}
+use mathlib.Core.Path.{_≡_, ap, _∙_}
 use mathlib.Core.List.{List, []}
-use native.Mathlib.Omega.{arith}
 use borrow.Author.Tests.{ne-eqb, lt-ltb, le-ltb}
 use Rattle.buffer.proofs.Choices.{then-is, else-is}
 use Rattle.history.specs.declared.past.History.{History}
@@ -10,7 +9,7 @@ use Rattle.editor.specs.declared.line.Mode.{Mode}
 use Rattle.editor.specs.declared.line.Mode.the-variants.{Typing, Escape, Sequence}
 use Rattle.editor.specs.declared.line.Editor.{Editor}
 use Rattle.editor.specs.Answer.{stateOf}
-use Rattle.editor.specs.Keys.{State, Turn, showing, inMode, enter, erase, insert, typed, escaped, up, down, right, left, sequenced, turnIn, turnOf}
+use Rattle.editor.specs.Keys.{State, showing, inMode, enter, erase, insert, typed, escaped, up, down, right, left, sequenced, turnIn, turnOf}
 
 module _ (prompt : List ℕ) (s : State) (b : ℕ) where
   -- typing

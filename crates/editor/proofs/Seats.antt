@@ -1,31 +1,27 @@
 -- Laws of states: who holds a good state holds just what the state says, and what a turn comes to.
-use Prim.Native.Nat.{ℕ, _+_, _-_, _<_, _≤_}
+use Prim.Native.Nat.{ℕ, _-_, _<_, _≤_}
 use mathlib.Core.Path.{_≡_, refl, sym, ap, _∙_}
-use mathlib.Core.Bool.{Bool, true, false, cond}
-use mathlib.Core.List.{List, [], _∷_}
+use mathlib.Core.Bool.{true}
+use mathlib.Core.List.{List, []}
 use native.Mathlib.Omega.{arith}
-use lib.Dec.{eqb, ltb}
 use lib.ListN.{length}
-use borrow.Author.Tests.{eq-eqb, ne-eqb, lt-ltb, le-ltb}
-use Rattle.buffer.proofs.Choices.{then-is, else-is}
 use Rattle.buffer.specs.Write.{over}
-use Rattle.history.specs.Slots.{layout, good}
+use Rattle.history.specs.Slots.{good}
 use Rattle.history.specs.Answer.{entriesIn}
 use Rattle.history.specs.declared.past.History.{History}
 use Rattle.history.proofs.Layouts.{length-entries}
-use Rattle.history.proofs.States.{holds, Good, good-has}
+use Rattle.history.proofs.States.{holds, good-has}
 use Rattle.screen.specs.Redraw.{redraw}
 use Rattle.editor.specs.declared.line.Mode.{Mode}
 use Rattle.editor.specs.declared.line.Mode.the-variants.{Typing}
 use Rattle.editor.specs.declared.line.Editor.{Editor}
 use Rattle.editor.specs.declared.drawing.Key.{Key}
-use Rattle.editor.specs.declared.drawing.Pressed.{Pressed}
 use Rattle.editor.specs.declared.drawing.Pressed.the-variants.{Shown, Dropped, NoRoom}
 use Rattle.editor.specs.Line.{limit, holding, lineOf, freshEditor, goodLine, content}
 use Rattle.editor.specs.Keys.{State, Turn, drops, showing, redrawn, redrawing}
-use Rattle.editor.specs.Answer.{stateOf, editorOf, historyOf, slotsOf, goodState, taken}
+use Rattle.editor.specs.Answer.{stateOf, editorOf, historyOf, slotsOf, goodState}
 use Rattle.editor.specs.Steps.{attempt, keyOf, Shows, madeBy, Acts}
-use Rattle.editor.proofs.Lines.{GoodLine, good-line, held-line, line-held, length-padded}
+use Rattle.editor.proofs.Lines.{good-line, held-line, line-held, length-padded}
 use Rattle.editor.proofs.Showings.{attempt-fits}
 
 -- a good state has a good line and a good history

@@ -2,7 +2,7 @@
 use Prim.Native.Nat.{ℕ, _+_, _-_, _<_, _≤_}
 use mathlib.Core.Path.{_≡_, refl, sym, ap, _∙_}
 use mathlib.Core.Bool.{Bool, true, false, cond}
-use mathlib.Core.List.{List, [], _∷_}
+use mathlib.Core.List.{List, []}
 use native.Mathlib.Omega.{arith}
 use lib.Dec.{eqb, ltb}
 use lib.ListN.{length, getD}
@@ -28,7 +28,7 @@ use Rattle.editor.specs.Keys.{State, showing, redrawing, withLine, inMod
 use Rattle.editor.specs.Answer.{stateOf, editorOf, historyOf, goodState}
 use Rattle.editor.specs.Steps.{keyOf, Shows, Acts}
 use Rattle.editor.proofs.Lines.{editor, good-line, length-of, same-editor}
-use Rattle.editor.proofs.Seats.{good-parts, holds-history, holds-editor, same-history, acts-quiet, acts-dropped, acts-shown, acts-redrawn, acts-as}
+use Rattle.editor.proofs.Seats.{good-parts, holds-history, holds-editor, acts-quiet, acts-dropped, acts-shown, acts-redrawn, acts-as}
 
 -- a good editor with the cursor elsewhere, or in another mode
 pub held-as : (e : Editor) (cursor : ℕ) (mode : Mode) → goodLine e ≡ true → editor (e .line) (e .length) cursor mode ≡ holding (lineOf e) cursor mode

@@ -1,12 +1,12 @@
 -- The Rust's loop (docs/src/src/shell/mod.rs) as a function on values: what one key writes and leaves. The prompt after Enter and the command's own
 -- output are left out: the caller writes them. `buf[..line_len]` is a list, and a `String` its bytes.
 use Prim.Native.Nat.{ℕ, _+_, _-_, min}
-use mathlib.Core.Bool.{Bool, cond}
+use mathlib.Core.Bool.{cond}
 use mathlib.Core.List.{List, [], _∷_, _++_}
 use mathlib.Core.Option.{Option, none, some}
 use lib.Dec.{eqb, ltb}
 use lib.ListN.{length, take, drop}
-use Rattle.history.specs.Rust.{CommandHistory, addCommand, Told, previous, next}
+use Rattle.history.specs.Rust.{CommandHistory, addCommand, previous, next}
 use Rattle.screen.specs.Decimal.{decimal}
 use Rattle.editor.specs.declared.line.Mode.{Mode}
 use Rattle.editor.specs.declared.line.Mode.the-variants.{Typing, Escape, Sequence}

@@ -5,8 +5,8 @@ use mathlib.Core.Bool.{Bool, true, false, cond}
 use mathlib.Core.List.{List, [], _∷_, _++_, append-assoc}
 use native.Mathlib.Omega.{arith}
 use lib.Dec.{eqb}
-use lib.ListN.{length, take, drop, getD, replicate, length-take, length-drop, take-append-drop}
-use lib.Seq.{take-add, drop-drop, getD-drop, drop-nil, length-take-le}
+use lib.ListN.{length, take, drop, getD, length-drop, take-append-drop}
+use lib.Seq.{take-add, drop-drop, getD-drop, length-take-le}
 use borrow.Author.Tests.{eq-eqb, ne-eqb, lt-ltb, le-ltb, le-leb}
 use Rattle.buffer.proofs.Choices.{then-is, else-is, true-is-not-false}
 use Rattle.buffer.proofs.Lists.{drop-step}
@@ -19,7 +19,7 @@ use Rattle.text.specs.Apart.{blank, allWhite}
 use Rattle.history.specs.Entries.{mostEntries, usable, sound}
 use Rattle.history.specs.Slots.{zeros, slot, run, layout, entry, entriesOf, good}
 use Rattle.history.specs.Steps.{unused, goodSlot, slotBefore, judged}
-use Rattle.history.proofs.Layouts.{length-zeros, length-slot, length-entries, entry-slot}
+use Rattle.history.proofs.Layouts.{length-slot, length-entries, entry-slot}
 
 -- all zero
 pub zero-bytes : (t : List ℕ) → sameBytes (zeros (length t)) t ≡ eqb (greatest t) 0

@@ -4,18 +4,22 @@ use mathlib.Core.Path.{_≡_, refl, sym, ap, _∙_}
 use mathlib.Core.Bool.{Bool, true, false, cond, not}
 use mathlib.Core.List.{List, [], _∷_, _++_}
 use native.Mathlib.Omega.{arith}
-use lib.Dec.{ltb}
-use lib.ListN.{length, drop, length-append, length-drop}
-use borrow.Author.Tests.{eq-eqb, le-leb, lt-ltb, le-ltb, ltb-true, ltb-false, not-true}
+use lib.Dec.{ltb, eqb}
+use lib.ListN.{length, drop, length-append}
+use borrow.Author.Tests.{eq-eqb, le-leb, ltb-true, ltb-false}
 use Rattle.buffer.proofs.Choices.{then-is, else-is, true-is-not-false}
 use Rattle.buffer.proofs.Ordering.{is-same}
 use Rattle.buffer.specs.Compare.{sameBytes}
 use Rattle.text.specs.Apart.{blank}
 use Rattle.history.specs.Entries.{mostEntries, newestIs, isNew, withRoom, added, wellFormed, usable, sound}
 use Rattle.history.specs.Slots.{layout, entriesOf, good}
+use Rattle.history.specs.Steps.{back, recalledAt, onward}
+use Rattle.history.specs.declared.past.History.{History}
+use Rattle.history.specs.declared.past.Recalled.the-variants.{Entry, Nothing}
+use Rattle.history.specs.declared.past.Step.{Step}
 use Rattle.history.proofs.Layouts.{Short, none, more, length-layout, entries-layout}
 use Rattle.history.proofs.Judging.{usable-some}
-use Rattle.history.proofs.States.{holds, Good}
+use Rattle.history.proofs.States.{holds, Good, good-has}
 
 -- the facts of a good state are enough for it
 pub good-of : (count place : ℕ) (slots : List ℕ) → Good count place slots → good count place slots ≡ true
@@ -130,3 +134,28 @@ added-entries es t g l w = by (blank t) (newestIs t es) refl refl
     by true n p q = g
     by false true p q = g
     by false false p q = with-room es t (ltb (length es) 100) refl g l (usable-of t p w) q
+
+-- a step back and a step on move the place only, and keep it within the count
+pub placed-good : (count place place′ : ℕ) (slots : List ℕ) → good count place slots ≡ true → place′ ≤ count → good count place′ slots ≡ true
+placed-good count place place′ slots g h =
+    let k = good-has count place slots g in
+    good-of count place′ slots (record { size = k .size; counted = k .counted; placed = h; is-sound = k .is-sound; laid = k .laid })
+
+pub back-good : (h : History) (slots : List ℕ) → good (h .count) (h .place) slots ≡ true → good (back h .history .count) (back h .history .place) slots ≡ true
+unfolding back
+back-good h slots g = by (eqb (h .place) 0)
+  where
+    placed : h .place ≤ h .count
+    placed = good-has (h .count) (h .place) slots g .placed
+
+    by : (t : Bool) → let r : Step = cond t (record { history = h; recalled = Nothing }) (record { history = record { count = h .count; place = h .place - 1 }; recalled = Entry (h .place - 1) }) in good (r .history .count) (r .history .place) slots ≡ true
+    by true = g
+    by false = placed-good (h .count) (h .place) (h .place - 1) slots g (let p = placed in omega arith)
+
+pub onward-good : (h : History) (slots : List ℕ) → good (h .count) (h .place) slots ≡ true → good (onward h .history .count) (onward h .history .place) slots ≡ true
+unfolding onward
+onward-good h slots g = by (ltb (h .place) (h .count)) refl
+  where
+    by : (t : Bool) → ltb (h .place) (h .count) ≡ t → let r : Step = cond t (record { history = record { count = h .count; place = h .place + 1 }; recalled = recalledAt (h .count) (h .place + 1) }) (record { history = h; recalled = Nothing }) in good (r .history .count) (r .history .place) slots ≡ true
+    by true q = placed-good (h .count) (h .place) (h .place + 1) slots g (let l = ltb-true (h .place) (h .count) q in omega arith)
+    by false q = g

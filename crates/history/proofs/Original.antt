@@ -1,6 +1,6 @@
 -- Our history is the Rust's `CommandHistory::new(100)`: its three functions on values and ours do the same to entries and place.
 use Prim.Native.Nat.{ℕ, zero, suc, _+_, _-_, _<_, _≤_}
-use mathlib.Core.Path.{_≡_, refl, sym, ap, _∙_}
+use mathlib.Core.Path.{_≡_, refl, ap, _∙_}
 use mathlib.Core.Bool.{Bool, true, false, cond, not, Bool·beq}
 use mathlib.Core.List.{List, [], _∷_, _++_}
 use mathlib.Core.Option.{Option, none, some}
@@ -9,12 +9,11 @@ use lib.Dec.{ltb, leb, eqb}
 use lib.ListN.{length, drop, getD, getElem?}
 use borrow.Author.Tests.{lt-ltb, le-ltb, le-leb, lt-leb, ltb-true, ltb-false, eqb-true, eqb-false}
 use Rattle.buffer.proofs.Choices.{then-is, else-is}
-use Rattle.buffer.specs.Compare.{sameBytes}
-use Rattle.text.specs.Decoding.{Piece, piecesOf, bytesOf, bytesAll}
+use Rattle.text.specs.Decoding.{Piece, piecesOf, bytesAll}
 use Rattle.text.specs.Apart.{white, behindRun, trimEnd, beforeEnd, trimmed, allWhite, blank}
 use Rattle.text.proofs.Sights.{some-bytes}
 use Rattle.history.specs.Entries.{mostEntries, newestIs, isNew, withRoom, added}
-use Rattle.history.specs.Rust.{CommandHistory, isEmpty, last, isSome, pushed, kept, addCommand, Told, previous, next}
+use Rattle.history.specs.Rust.{CommandHistory, new, isEmpty, last, isSome, pushed, kept, addCommand, Told, previous, next}
 
 -- `trim().is_empty()` is blank
 some-left : (l : List ℕ) → 0 < length l → isEmpty l ≡ false
@@ -70,6 +69,10 @@ kept-is es t =
 -- the Rust's history with these entries, at this place
 abbrev pub original : List (List ℕ) → ℕ → CommandHistory
 original es place = record { history = es; index = place; size = 100 }
+
+-- it begins as the Rust's does
+pub fresh-is : original [] 0 ≡ new 100
+fresh-is = refl
 
 pub add-is : (es : List (List ℕ)) (place : ℕ) (t : List ℕ) → addCommand (original es place) t ≡ original (added t es) (length (added t es))
 unfolding addCommand

@@ -1,5 +1,5 @@
 -- History (01): at most 100 entries, here from oldest to newest, and a place from 0 to their count.
-use Prim.Native.Nat.{ℕ, pred}
+use Prim.Native.Nat.{ℕ}
 use mathlib.Core.Bool.{Bool, true, false, cond, not}
 use mathlib.Core.List.{List, [], _∷_, _++_}
 use lib.Dec.{ltb, eqb}
@@ -30,10 +30,11 @@ withRoom es = cond (ltb (length es) mostEntries) es (drop 1 es)
 unfoldable pub added : List ℕ → List (List ℕ) → List (List ℕ)
 added text es = cond (isNew text es) (withRoom es ++ (text ∷ [])) es
 
--- a well-formed text that is not blank
+-- a well-formed text: its longest well-formed prefix is all of it
 unfoldable pub wellFormed : List ℕ → Bool
 wellFormed text = eqb (wellFormedLength text) (length text)
 
+-- a text that a history may hold: well-formed and not blank
 unfoldable pub usable : List ℕ → Bool
 usable text = cond (blank text) false (wellFormed text)
 

@@ -1,9 +1,9 @@
 -- How the code goes: the steps through a history by its numbers, and the test of a state slot by slot.
 use Prim.Native.Nat.{ℕ, zero, suc, _+_, _-_}
-use mathlib.Core.Bool.{Bool, true, false, cond}
-use mathlib.Core.List.{List, [], _∷_}
+use mathlib.Core.Bool.{Bool, false, cond}
+use mathlib.Core.List.{List, []}
 use lib.Dec.{ltb, eqb}
-use lib.ListN.{length, take, drop, getD}
+use lib.ListN.{take, drop, getD}
 use Rattle.buffer.specs.Compare.{sameBytes}
 use Rattle.buffer.specs.Most.{greatest}
 use Rattle.history.specs.Entries.{usable}

@@ -1,10 +1,9 @@
 -- A node's definitions by key or by short: a flag first, then an option; of each the first definition wins.
 use Prim.Native.Nat.{ℕ}
-use mathlib.Core.Bool.{Bool, true, false, cond}
+use mathlib.Core.Bool.{Bool, false, cond}
 use mathlib.Core.List.{List}
 use lib.Dec.{eqb}
 use Rattle.image.specs.Frames.{Frame, node, option, flag}
-use Rattle.image.specs.Limits.{both}
 use Rattle.image.specs.Reading.{Read, read, broken, ended}
 use Rattle.lookup.specs.Spots.{spot}
 use Rattle.lookup.specs.Searches.{keyed, isNode}

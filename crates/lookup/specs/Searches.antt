@@ -1,16 +1,12 @@
 -- What is looked up: nodes by depth and name, the end of a subtree, and a node's definitions, whose list ends at the next node of any depth.
-use Prim.Native.Nat.{ℕ, _+_}
+use Prim.Native.Nat.{ℕ}
 use mathlib.Core.Bool.{Bool, true, false, cond}
-use mathlib.Core.List.{List, [], _∷_}
+use mathlib.Core.List.{List}
 use lib.Dec.{eqb, leb}
-use lib.ListN.{length, drop}
 use Rattle.buffer.specs.Compare.{sameBytes}
 use Rattle.image.specs.Frames.{Perhaps, absent, present, Frame, node, option, flag}
 use Rattle.image.specs.Limits.{both}
-use Rattle.image.specs.Reading.{Read, read, broken, ended, readFirst}
-use Rattle.lookup.specs.Spots.{spot}
-use Rattle.lookup.specs.declared.seek.Spot.{Spot}
-use Rattle.lookup.specs.declared.seek.Spot.the-variants.{At, Nothing}
+use Rattle.image.specs.Reading.{Read, read, broken, ended}
 use Rattle.lookup.specs.declared.look.Sought.{Sought}
 use Rattle.lookup.specs.declared.look.Sought.the-variants.{Node, Upper, Option, Flag, OptionKeyed}
 use Rattle.lookup.specs.declared.look.Look.{Look}

@@ -1,6 +1,6 @@
 -- The first frame that passes a test, before any that ends the search: where its bytes begin.
 use Prim.Native.Nat.{ℕ, _+_}
-use mathlib.Core.Bool.{Bool, true, false, cond}
+use mathlib.Core.Bool.{Bool, cond}
 use mathlib.Core.List.{List, [], _∷_}
 use lib.ListN.{length, drop}
 use Rattle.image.specs.Frames.{Frame, encode}

@@ -6,7 +6,7 @@ use mathlib.Core.List.{List, []}
 use native.Mathlib.Omega.{arith}
 use lib.ListN.{length}
 use Rattle.buffer.proofs.Choices.{then-is}
-use Rattle.history.specs.Slots.{layout, good}
+use Rattle.history.specs.Slots.{layout}
 use Rattle.history.specs.Answer.{atEnd, entriesAfter, addAnswer, slotsBy}
 use Rattle.history.specs.declared.past.History.{History}
 use Rattle.history.specs.declared.adding.Added.{Added}
@@ -81,3 +81,18 @@ add-stays state slots text told state′ slots′ g k =
     by BadHistory d = g
     by (TooLong n) d = g
     by (IllFormed n) d = g
+
+-- what calls reach from a fresh session, keys and adds in any order, each with buffers of its own
+pub data Reached : List ℕ → List ℕ → Type 0 where
+  begun : Reached (savedOf freshEditor (atEnd 0)) (layout [])
+  by-key : {state slots prompt line screen state′ slots′ line′ screen′ : List ℕ} {byte : ℕ} {told : Pressed} → Reached state slots
+      → SavedKey state slots prompt byte line screen told state′ slots′ line′ screen′ → Reached state′ slots′
+  by-add : {state slots text state′ slots′ : List ℕ} {told : Added} → Reached state slots → SavedAdd state slots text told state′ slots′ → Reached state′ slots′
+
+-- no sequence of calls reaches a bad state
+pub never-reached-bad : (state slots : List ℕ) → Reached state slots → goodSaved state slots ≡ true
+never-reached-bad _ _ begun = fresh-good
+never-reached-bad state′ slots′ (by-key {state} {slots} {prompt} {line} {screen} {line′ = line′} {screen′ = screen′} {byte = byte} {told = told} r k) =
+    key-stays state slots prompt byte line screen told state′ slots′ line′ screen′ (never-reached-bad state slots r) k
+never-reached-bad state′ slots′ (by-add {state} {slots} {text} {told = told} r k) =
+    add-stays state slots text told state′ slots′ (never-reached-bad state slots r) k

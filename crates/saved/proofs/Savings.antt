@@ -14,7 +14,7 @@ use Rattle.buffer.proofs.Writing.{pushed-both}
 use Rattle.buffer.specs.Write.{over, Pushed}
 use Rattle.history.specs.declared.past.History.{History}
 use Rattle.history.specs.Answer.{atEnd}
-use Rattle.history.specs.Slots.{zeros, run, layout, good}
+use Rattle.history.specs.Slots.{zeros, run, layout}
 use Rattle.history.proofs.States.{holds, good-has}
 use Rattle.editor.specs.declared.line.Mode.{Mode}
 use Rattle.editor.specs.declared.line.Mode.the-variants.{Typing, Escape, Sequence}

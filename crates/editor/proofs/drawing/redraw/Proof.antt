@@ -1,12 +1,11 @@
 -- `editor::drawing::redraw` meets its contract.
 use borrow.Author.Needs.{needs}
-use Rattle.editor.specs.Line.{lineOf, content, limit}
+use Rattle.editor.specs.Line.{lineOf, content}
 use Rattle.editor.proofs.Lines.{within-limit, line-short}
 use Rattle.editor.proofs.Showings.{told-as, redraw-fits, redraw-short}
 use native.Mathlib.Omega.{arith}
-use mathlib.Core.Path.{sym, ap, _∙_}
+use mathlib.Core.Path.{sym}
 use lib.Seq.{length-take-le}
-use lib.ListN.{length}
 use Rattle.editor.proofs.drawing.redraw.Statement.{statement}
 use Rattle.editor.proofs.drawing.redraw.Tie as tie
 

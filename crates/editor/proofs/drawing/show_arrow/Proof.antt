@@ -3,7 +3,6 @@ use borrow.Author.Needs.{needs}
 use Rattle.editor.proofs.Showings.{shows-fits, shows-short}
 use Rattle.editor.specs.Keys.{arrow}
 use Rattle.buffer.proofs.Lending.{overAt-front}
-use native.Mathlib.Omega.{arith}
 use mathlib.Core.Path.{refl, _∙_}
 use Rattle.editor.proofs.drawing.show_arrow.Statement.{statement}
 use Rattle.editor.proofs.drawing.show_arrow.Tie as tie

@@ -3,9 +3,6 @@ use borrow.Author.Needs.{needs}
 use Rattle.history.proofs.Answers.{answer-bad, answer-long, answer-ill, answer-done, addition}
 use Rattle.history.specs.declared.adding.Added.the-variants.{Done, BadState, TooLong, IllFormed}
 use borrow.Author.Tests.{not-true, not-false}
-use native.Mathlib.Omega.{arith}
-use Prim.Native.Nat.{ℕ}
-use mathlib.Core.List.{List}
 use mathlib.Core.Path.{refl, sym, ap, _∙_}
 use lib.ListN.{length}
 use Rattle.history.proofs.adding.add_command.Statement.{statement}

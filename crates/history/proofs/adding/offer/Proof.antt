@@ -1,14 +1,9 @@
 -- `history::adding::offer` meets its contract.
 use borrow.Author.Needs.{needs}
 use Rattle.history.proofs.States.{good-has, offered-old, offered-more, offered-full}
-use Rattle.buffer.specs.Write.{over, overAt}
-use Rattle.history.specs.Slots.{slot}
 use borrow.Author.Tests.{not-true, not-false}
 use native.Mathlib.Omega.{arith}
-use Prim.Native.Nat.{ℕ}
-use mathlib.Core.List.{List}
-use mathlib.Core.Path.{sym, ap, _∙_}
-use lib.ListN.{length, drop}
+use mathlib.Core.Path.{sym, _∙_}
 use Rattle.history.proofs.adding.offer.Statement.{statement}
 use Rattle.history.proofs.adding.offer.Tie as tie
 

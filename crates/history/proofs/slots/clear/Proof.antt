@@ -5,7 +5,6 @@ use Rattle.buffer.specs.Write.{overAt}
 use native.Mathlib.Omega.{arith}
 use Prim.Native.Nat.{ℕ, _≤_, _-_}
 use mathlib.Core.Path.{_≡_, refl, ap, _∙_}
-use mathlib.Core.List.{List}
 use lib.ListN.{length, length-set}
 use Rattle.history.proofs.slots.clear.Statement.{statement}
 use Rattle.history.proofs.slots.clear.Tie as tie

@@ -1,13 +1,7 @@
 -- `history::slots::store` meets its contract.
 use borrow.Author.Needs.{needs}
-use Rattle.history.specs.Slots.{slot}
-use Rattle.history.proofs.Layouts.{slot-stored, length-slot}
-use Rattle.buffer.proofs.Lending.{length-overAt}
-use native.Mathlib.Omega.{arith}
-use mathlib.Core.Path.{ap, _∙_}
-use mathlib.Core.List.{List}
-use lib.ListN.{length}
-use Prim.Native.Nat.{ℕ}
+use Rattle.history.proofs.Layouts.{slot-stored}
+use mathlib.Core.Path.{_∙_}
 use Rattle.history.proofs.slots.store.Statement.{statement}
 use Rattle.history.proofs.slots.store.Tie as tie
 

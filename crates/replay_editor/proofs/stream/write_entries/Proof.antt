@@ -1,7 +1,6 @@
 -- `stream::write_entries` is safe and ends.
 use borrow.Author.Needs.{needs}
-use Prim.Native.Nat.{_≤_, _+_, _-_}
-use lib.ListN.{length}
+use Prim.Native.Nat.{_≤_, _-_}
 use Rattle.replay_editor.proofs.stream.write_entries.Statement.{statement}
 use Rattle.replay_editor.proofs.stream.write_entries.Tie as tie
 

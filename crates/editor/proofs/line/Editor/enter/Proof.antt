@@ -1,14 +1,12 @@
 -- `editor::line::Editor::enter` meets its contract.
 use borrow.Author.Needs.{needs}
-use Rattle.editor.specs.Line.{lineOf, content, limit}
+use Rattle.editor.specs.Line.{lineOf}
 use Rattle.editor.proofs.Lines.{good-line, length-of, line-short}
 use Rattle.editor.proofs.Seats.{good-parts}
 use Rattle.editor.proofs.Enters.{enter-refused, enter-empty, enter-line, limit-above}
 use Rattle.buffer.proofs.Lending.{overAt-front}
 use native.Mathlib.Omega.{arith}
-use mathlib.Core.Path.{sym, ap, _∙_}
-use mathlib.Core.List.{List}
-use Prim.Native.Nat.{ℕ}
+use mathlib.Core.Path.{sym, _∙_}
 use lib.Seq.{length-take-le}
 use lib.ListN.{length}
 use Rattle.editor.proofs.line.Editor.enter.Statement.{statement}

@@ -2,9 +2,8 @@
 use Rattle.editor.specs.Line.{lineOf}
 use Rattle.editor.proofs.Lines.{good-line, length-of, Erasing, erase-start, erase-turn, erase-end}
 use native.Mathlib.Omega.{arith}
-use Prim.Native.Nat.{_+_, _-_, _<_, _≤_}
-use mathlib.Core.Path.{_≡_, refl, sym, ap, _∙_}
-use lib.ListN.{length, length-set}
+use Prim.Native.Nat.{_+_, _-_, _≤_}
+use lib.ListN.{length}
 use Rattle.editor.proofs.line.Editor.erase.Statement.{statement}
 use Rattle.editor.proofs.line.Editor.erase.Tie as tie
 

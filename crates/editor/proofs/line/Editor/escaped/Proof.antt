@@ -1,7 +1,6 @@
 -- `editor::line::Editor::escaped` meets its contract.
 use borrow.Author.Needs.{needs}
 use Rattle.editor.specs.declared.line.Mode.the-variants.{Typing, Sequence}
-use Rattle.editor.specs.Keys.{inMode}
 use Rattle.editor.specs.Answer.{stateOf}
 use Rattle.editor.proofs.Turns.{quiet-in}
 use Rattle.editor.proofs.Ranges.{at-bracket, at-other}

@@ -1,9 +1,9 @@
 -- `editor::line::Editor::insert` meets its contract. What stood at the cursor and behind it has moved on up to i.
 use Rattle.editor.proofs.Lines.{below-limit, good-line, length-of, Inserting, insert-begin, insert-turn, insert-end}
 use native.Mathlib.Omega.{arith}
-use Prim.Native.Nat.{_+_, _-_, _<_, _≤_}
-use mathlib.Core.Path.{_≡_, refl, sym, ap, _∙_}
-use lib.ListN.{length, length-set}
+use Prim.Native.Nat.{_+_, _-_, _≤_}
+use mathlib.Core.Path.{_≡_, refl}
+use lib.ListN.{length}
 use Rattle.editor.proofs.line.Editor.insert.Statement.{statement}
 use Rattle.editor.proofs.line.Editor.insert.Tie as tie
 

@@ -2,7 +2,7 @@
 use borrow.Author.Needs.{needs}
 use Rattle.editor.specs.Line.{lineOf, inserted}
 use Rattle.editor.proofs.Turns.{insert-dropped, insert-shown}
-use Rattle.editor.proofs.Lines.{below-limit, good-line, length-of, length-inserted}
+use Rattle.editor.proofs.Lines.{good-line, length-of, length-inserted}
 use Rattle.editor.proofs.Seats.{held-fits, in-limit, past-limit}
 use native.Mathlib.Omega.{arith}
 use Prim.Native.Nat.{_≤_}

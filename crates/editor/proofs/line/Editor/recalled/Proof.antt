@@ -5,9 +5,9 @@ use Rattle.history.proofs.Layouts.{length-zeros}
 use Rattle.buffer.proofs.Lending.{copy-step}
 use native.Mathlib.Omega.{arith}
 use Prim.Native.Nat.{_≤_, _-_}
-use mathlib.Core.Path.{_≡_, refl, sym, ap, _∙_}
-use mathlib.Core.List.{List, _++_}
-use lib.ListN.{length, take, drop, length-set}
+use mathlib.Core.Path.{_≡_}
+use mathlib.Core.List.{_++_}
+use lib.ListN.{length, take, drop}
 use Rattle.editor.proofs.line.Editor.recalled.Statement.{statement}
 use Rattle.editor.proofs.line.Editor.recalled.Tie as tie
 

@@ -1,10 +1,9 @@
 -- `history::past::History::next` meets its contract.
 use borrow.Author.Needs.{needs}
-use Rattle.buffer.proofs.Choices.{then-is, else-is}
-use borrow.Author.Tests.{lt-ltb, le-ltb}
-use mathlib.Core.Path.{sym, _∙_}
-use Rattle.history.specs.Steps.{onward, recalledAt}
-use mathlib.Core.Path.{ap}
+use Rattle.buffer.proofs.Choices.{else-is}
+use borrow.Author.Tests.{le-ltb}
+use mathlib.Core.Path.{sym}
+use Rattle.history.specs.Steps.{onward}
 use Rattle.history.proofs.Stepping.{onward-end, onward-entry}
 use Rattle.history.proofs.past.History.next.Statement.{statement}
 use Rattle.history.proofs.past.History.next.Tie as tie
