@@ -1,5 +1,6 @@
--- Definitions of the crate `frame`: texts behind their length, frames of one text, hexadecimal, and house lines.
+-- Definitions of the crate `frame`: texts behind their length, frames of one text and many of them, hexadecimal, and house lines.
 pub mod Text
 pub mod Framed
+pub mod Series
 pub mod Hex
 pub mod House

@@ -14,11 +14,12 @@ use Rattle.buffer.proofs.Choices.{then-is, else-is, true-is-not-false}
 use Rattle.buffer.proofs.Lists.{drop-end}
 use Rattle.text.specs.Decoding.{wellFormedLength}
 use Rattle.frame.specs.Framed.{frameFirst}
+use Rattle.frame.specs.Series.{onFrame}
 use Rattle.frame.specs.declared.framed.Framed.{Framed}
 use Rattle.frame.specs.declared.framed.Framed.the-variants.{Frame, Broken, End}
 use Rattle.frame.proofs.framed.Framed.{the-type}
 use Rattle.frame.proofs.Frames.{frame-within}
-use Rattle.quote.specs.Given.{Listed, broken, word, onFrame, listedFrom, listed, goodWord, bad, fine, before, judge}
+use Rattle.quote.specs.Given.{Listed, broken, word, listedFrom, listed, goodWord, bad, fine, before, judge}
 use Rattle.quote.specs.Shown.{shown}
 use Rattle.quote.specs.Steps.{itemOf, itemFirst, plainWord}
 use Rattle.text.proofs.Prefix.{prefix-fits}

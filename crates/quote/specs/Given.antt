@@ -6,19 +6,13 @@ use lib.Dec.{eqb}
 use lib.ListN.{length, take, drop}
 use Rattle.text.specs.Decoding.{wellFormedLength}
 use Rattle.frame.specs.Framed.{frameFirst}
-use Rattle.frame.specs.declared.framed.Framed.{Framed}
-use Rattle.frame.specs.declared.framed.Framed.the-variants.{Frame, Broken, End}
+use Rattle.frame.specs.Series.{onFrame}
 
 -- the words as they come, up to the end or to what is no frame of kind 14
 pub data Listed : Type 0 where
   done : Listed
   broken : Listed
   word : List ℕ → Listed → Listed
-
-abbrev pub onFrame : {A : Type 0} → Framed → (ℕ → ℕ → A) → A → A
-onFrame (Frame kind n) f other = f kind n
-onFrame Broken f other = other
-onFrame End f other = other
 
 -- the words of bytes of which the first `skip` are read already
 unfoldable pub listedFrom : List ℕ → ℕ → Listed

@@ -6,7 +6,8 @@ use lib.Dec.{eqb}
 use lib.ListN.{length, take, drop}
 use Rattle.frame.specs.Framed.{frameFirst}
 use Rattle.words.specs.Tokens.{backslash}
-use Rattle.quote.specs.Given.{onFrame, goodWord, listed, judge, Judged, bad, fine, onJudged}
+use Rattle.frame.specs.Series.{onFrame}
+use Rattle.quote.specs.Given.{goodWord, listed, judge, Judged, bad, fine, onJudged}
 use Rattle.text.specs.Decoding.{decodeFirst, onDecoded, codesIn, wellFormedLength}
 use Rattle.text.specs.declared.utf8.Decoded.{Decoded}
 use Rattle.quote.specs.Shown.{special, quoting, plain, shown}

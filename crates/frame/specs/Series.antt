@@ -1,0 +1,26 @@
+-- Frames of one text, one after the other: the texts that they hold, and the bytes of many put together.
+use Prim.Native.Nat.{ℕ, zero, suc, _+_}
+use mathlib.Core.List.{List, [], _∷_, _++_}
+use lib.ListN.{take, drop}
+use Rattle.frame.specs.Framed.{frameFirst}
+use Rattle.frame.specs.declared.framed.Framed.{Framed}
+use Rattle.frame.specs.declared.framed.Framed.the-variants.{Frame, Broken, End}
+
+abbrev pub onFrame : {A : Type 0} → Framed → (ℕ → ℕ → A) → A → A
+onFrame (Frame kind n) f other = f kind n
+onFrame Broken f other = other
+onFrame End f other = other
+
+-- the texts of bytes of which the first `skip` are read already, up to the end or to what is no frame
+unfoldable pub textsFrom : List ℕ → ℕ → List (List ℕ)
+textsFrom [] skip = []
+textsFrom (a ∷ s) (suc skip) = textsFrom s skip
+textsFrom (a ∷ s) zero = onFrame (frameFirst (a ∷ s)) (λ kind n. take n (drop 3 (a ∷ s)) ∷ textsFrom s (2 + n)) []
+
+unfoldable pub textsIn : List ℕ → List (List ℕ)
+textsIn s = textsFrom s 0
+
+-- the bytes of each, one after the other
+unfoldable pub runs : {A : Type 0} → (A → List ℕ) → List A → List ℕ
+runs f [] = []
+runs f (x ∷ l) = f x ++ runs f l
