@@ -3,6 +3,7 @@ use Prim.Native.Nat.{ℕ, _+_, _<_, _≤_}
 use mathlib.Core.Path.{_≡_, refl, sym, ap, _∙_}
 use mathlib.Core.Bool.{Bool, true, false, cond}
 use mathlib.Core.List.{List, [], _∷_}
+use mathlib.Core.Option.{Option, none, some}
 use native.Mathlib.Omega.{arith}
 use lib.ListN.{length, drop, length-drop}
 use lib.Seq.{drop-drop}
@@ -12,7 +13,7 @@ use Rattle.image.specs.Reading.{Read, read, broken, ended, readFirst}
 use Rattle.image.proofs.Encoding.{read-within, read-size, read-ended}
 use Rattle.tree.specs.Images.{Item, whole, torn, items, framesIn, framesOf}
 use Rattle.tree.proofs.Items.{bytes-drop, items-read, items-broken, items-none}
-use Rattle.lookup.specs.Spots.{later, placeOf, spot}
+use Rattle.lookup.specs.Spots.{later, placeOf, firstOf, spot}
 use Rattle.lookup.specs.Searches.{wanted, endedBy}
 use Rattle.lookup.specs.Nodes.{orEnd, endAfter, endBy, subtreeEnd, partAt, findNode}
 use Rattle.lookup.specs.declared.seek.Spot.{Spot}
@@ -65,44 +66,82 @@ beyond want s n j h x =
       some = x .some;
     }
 
-place-told : (want ends : Frame → Bool) (l : List Item) (s : List ℕ) (k : ℕ) → Bytes s → items s ≡ l → placeOf want ends (framesIn l) ≡ At k → FrameAt want s k
-unfolding placeOf framesIn
-place-told want ends [] s k b e p = absurd (let z : _≡_ {A = ℕ} 0 1 = cc in omega arith)
-place-told want ends (torn ∷ l) s k b e p = absurd (let z : _≡_ {A = ℕ} 0 1 = cc in omega arith)
-place-told want ends (whole f ∷ l) s k b e p =
+-- the frame at a place of bytes is the first that was wanted
+record FirstAt (want ends : Frame → Bool) (fs : List Frame) (s : List ℕ) (k : ℕ) : Type 0 where
+  frame-at : FrameAt want s k
+  first : firstOf want ends fs ≡ some (frame-at .frame)
+
+place-first : (want ends : Frame → Bool) (l : List Item) (s : List ℕ) (k : ℕ) → Bytes s → items s ≡ l → placeOf want ends (framesIn l) ≡ At k
+    → FirstAt want ends (framesIn l) s k
+unfolding placeOf framesIn firstOf beyond here
+place-first want ends [] s k b e p = absurd (let z : _≡_ {A = ℕ} 0 1 = cc in omega arith)
+place-first want ends (torn ∷ l) s k b e p = absurd (let z : _≡_ {A = ℕ} 0 1 = cc in omega arith)
+place-first want ends (whole f ∷ l) s k b e p =
     let i = first-item s f l e in
-    by i (ends f) (want f) refl (placeOf want ends (framesIn l)) p (λ j q. place-told want ends l (drop (i .size) s) j (bytes-drop (i .size) s b) (i .others) q)
+    let x = by i (ends f) (want f) refl (placeOf want ends (framesIn l)) p (λ j q. place-first want ends l (drop (i .size) s) j (bytes-drop (i .size) s b) (i .others) q) in
+    record { frame-at = x .0; first = x .1 }
   where
     by : (i : FirstItem s f l) (t u : Bool) → want f ≡ u → (x : Spot) → cond t Nothing (cond u (At 0) (later (length (encode f)) x)) ≡ At k
-        → ((j : ℕ) → x ≡ At j → FrameAt want (drop (i .size) s) j) → FrameAt want s k
+        → ((j : ℕ) → x ≡ At j → FirstAt want ends (framesIn l) (drop (i .size) s) j)
+        → (a : FrameAt want s k) × (cond t none (cond u (some f) (firstOf want ends (framesIn l))) ≡ some (a .frame))
     by i true u w x q more = absurd (let z : _≡_ {A = ℕ} 0 1 = cc in omega arith)
-    by i false true w x q more = let z : _≡_ {A = ℕ} 0 k = cc in rw (← z) (here want s f (i .size) (i .found) w)
+    by i false true w x q more = let z : _≡_ {A = ℕ} 0 k = cc in rw (← z) (here want s f (i .size) (i .found) w, refl)
     by i false false w (At j) q more =
         let n = read-size s f (i .size) b (i .found) in
         let z : length (encode f) + j ≡ k = cc in
         let y : i .size + j ≡ k = omega arith in
-        rw (← y) (beyond want s (i .size) j (read-within s f (i .size) (i .found) .1) (more j refl))
+        let m = more j refl in
+        rw (← y) (beyond want s (i .size) j (read-within s f (i .size) (i .found) .1) (m .frame-at), m .first)
     by i false false w Nothing q more = absurd (let z : _≡_ {A = ℕ} 0 1 = cc in omega arith)
 
--- what a spot tells
+-- what a spot tells, and which frame it is
 pub record SpotTold (want : Frame → Bool) (image : List ℕ) (at p : ℕ) : Type 0 where
   pub frame-at : FrameAt want image p
   pub behind : at ≤ p
 
-pub spot-told : (want ends : Frame → Bool) (image : List ℕ) (at p : ℕ) → Bytes image → spot want ends image at ≡ At p → SpotTold want image at p
-unfolding spot framesOf
-spot-told want ends image at p b e = by (placeOf want ends (framesIn (items (drop at image)))) refl e
+pub record SpotFirst (want ends : Frame → Bool) (image : List ℕ) (at p : ℕ) : Type 0 where
+  pub told : SpotTold want image at p
+  pub first : firstOf want ends (framesOf (drop at image)) ≡ some (told .frame-at .frame)
+
+pub spot-first : (want ends : Frame → Bool) (image : List ℕ) (at p : ℕ) → Bytes image → spot want ends image at ≡ At p → SpotFirst want ends image at p
+unfolding spot framesOf beyond
+spot-first want ends image at p b e = by (placeOf want ends (framesIn (items (drop at image)))) refl e
   where
-    by : (x : Spot) → placeOf want ends (framesIn (items (drop at image))) ≡ x → later at x ≡ At p → SpotTold want image at p
+    by : (x : Spot) → placeOf want ends (framesIn (items (drop at image))) ≡ x → later at x ≡ At p → SpotFirst want ends image at p
     by (At k) q r =
         let z : at + k ≡ p = cc in
-        let f = place-told want ends (items (drop at image)) (drop at image) k (bytes-drop at image b) refl q in
+        let g = place-first want ends (items (drop at image)) (drop at image) k (bytes-drop at image b) refl q in
+        let f = g .frame-at in
         let l = length-drop at image in
         let w = f .within in
         let s = f .some in
         let h : at ≤ length image = omega arith in
-        record { frame-at = rw (← z) (beyond want image at k h f); behind = omega arith }
+        rw (← z) record { told = record { frame-at = beyond want image at k h f; behind = omega arith }; first = g .first }
     by Nothing q r = absurd (let z : _≡_ {A = ℕ} 0 1 = cc in omega arith)
+
+pub spot-told : (want ends : Frame → Bool) (image : List ℕ) (at p : ℕ) → Bytes image → spot want ends image at ≡ At p → SpotTold want image at p
+spot-told want ends image at p b e = spot-first want ends image at p b e .told
+
+-- that there is no spot tells that no frame is wanted before the end of the search
+place-none : (want ends : Frame → Bool) (fs : List Frame) → placeOf want ends fs ≡ Nothing → firstOf want ends fs ≡ none
+unfolding placeOf firstOf
+place-none want ends [] e = refl
+place-none want ends (f ∷ l) e = by (ends f) (want f) (placeOf want ends l) e (place-none want ends l)
+  where
+    by : (t u : Bool) (x : Spot) → cond t Nothing (cond u (At 0) (later (length (encode f)) x)) ≡ Nothing → (x ≡ Nothing → firstOf want ends l ≡ none)
+        → cond t none (cond u (some f) (firstOf want ends l)) ≡ none
+    by true u x q more = refl
+    by false true x q more = absurd (let z : _≡_ {A = ℕ} 0 1 = cc in omega arith)
+    by false false (At j) q more = absurd (let z : _≡_ {A = ℕ} 0 1 = cc in omega arith)
+    by false false Nothing q more = more refl
+
+pub spot-none : (want ends : Frame → Bool) (image : List ℕ) (at : ℕ) → spot want ends image at ≡ Nothing → firstOf want ends (framesOf (drop at image)) ≡ none
+unfolding spot
+spot-none want ends image at e = by (placeOf want ends (framesOf (drop at image))) refl e
+  where
+    by : (x : Spot) → placeOf want ends (framesOf (drop at image)) ≡ x → later at x ≡ Nothing → firstOf want ends (framesOf (drop at image)) ≡ none
+    by (At k) q r = absurd (let z : _≡_ {A = ℕ} 0 1 = cc in omega arith)
+    by Nothing q r = place-none want ends (framesOf (drop at image)) q
 
 -- what a part tells: the node wanted stands at its start, and the part lies within the image
 pub record PartTold (image : List ℕ) (depth : ℕ) (name : List ℕ) (start end : ℕ) : Type 0 where

@@ -2,6 +2,7 @@
 use Prim.Native.Nat.{ℕ, _+_}
 use mathlib.Core.Bool.{Bool, cond}
 use mathlib.Core.List.{List, [], _∷_}
+use mathlib.Core.Option.{Option, none, some}
 use lib.ListN.{length, drop}
 use Rattle.image.specs.Frames.{Frame, encode}
 use Rattle.tree.specs.Images.{framesOf}
@@ -17,6 +18,11 @@ unfoldable pub placeOf : (Frame → Bool) → (Frame → Bool) → List Frame �
 placeOf wanted ends [] = Nothing
 placeOf wanted ends (f ∷ l) =
     cond (ends f) Nothing (cond (wanted f) (At 0) (later (length (encode f)) (placeOf wanted ends l)))
+
+-- that frame itself
+unfoldable pub firstOf : (Frame → Bool) → (Frame → Bool) → List Frame → Option Frame
+firstOf wanted ends [] = none
+firstOf wanted ends (f ∷ l) = cond (ends f) none (cond (wanted f) (some f) (firstOf wanted ends l))
 
 -- from a place of an image on
 unfoldable pub spot : (Frame → Bool) → (Frame → Bool) → List ℕ → ℕ → Spot
