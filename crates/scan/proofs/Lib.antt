@@ -1,0 +1,6 @@
+-- The laws of the crate `scan` that belong to no one function.
+pub mod Equals
+pub mod Moves
+pub mod Meanings
+pub mod Steps
+pub mod Walks

@@ -1,0 +1,224 @@
+// `parse_args`: the argument words, left to right.
+use super::form::before_equals;
+use super::meaning::Meaning;
+use super::meaning::meaning_by_short;
+use super::standing::Progress;
+use super::standing::Scan;
+use super::standing::Told;
+use frame::Framed;
+use frame::read_frame;
+use lookup::Defined;
+use lookup::Spot;
+use lookup::definition_of;
+use lookup::option_of;
+use table::Part;
+use table::Source;
+use text::Decoded;
+use text::decode;
+ghost use mathlib.Core.Path.{_≡_};
+ghost use mathlib.Core.List.{List};
+ghost use Prim.Native.Nat.{ℕ, _+_, _-_, _≤_, _<_};
+ghost use lib.ListN.{length, take, drop};
+ghost use Rattle.text.specs.Unicode.{encode};
+ghost use Rattle.text.specs.Decoding.{codesIn};
+ghost use Rattle.frame.specs.Framed.{frameFirst};
+ghost use Rattle.frame.specs.declared.framed.Framed.the-variants.{Frame};
+ghost use Rattle.frame.specs.Series.{textsIn};
+ghost use Rattle.table.specs.Held.{partOf};
+ghost use Rattle.scan.specs.Meanings.{definitionsAt};
+ghost use Rattle.scan.specs.Forms.{longForm, formOf};
+ghost use Rattle.scan.specs.Arguments.{noneFound, go, shortStep, shortSteps, formStep, wordStep, args};
+ghost use Rattle.scan.specs.Held.{stored, foundOf, standOf, Sizes, KeySmall, Apt, Moved, Stepped, Scanned};
+ghost use Rattle.scan.specs.declared.standing.Progress.the-variants.{Going};
+
+impl Scan {
+    // What stands behind `--`, from one place of the words to another.
+    fn long<'a>(
+        self,
+        words: &'a [u8],
+        image: &'a [u8],
+        from: usize,
+        start: usize,
+        end: usize,
+    ) -> Self
+        requires { ⌜ Sizes (now words) (now image) × (start ≤ end) × (end ≤ length (now words)) ⌝ }
+        ensures { λ r. ⌜ ((w : List ℕ) → Moved (now (words .entry)) (now (image .entry)) self r (λ rest. formStep stored (definitionsAt (now (image .entry)) from) (foundOf (now (words .entry)) (now (image .entry)) rest self) w (longForm (take (end - start) (drop start (now (words .entry))))))) ⌝ }
+    {
+        let name = &words[start..end];
+        let equals = before_equals(name);
+        let key = Part {
+            start,
+            length: equals,
+        };
+        let told = Told {
+            dashes: 2,
+            start,
+            length: equals,
+        };
+        if equals < name.len() {
+            let Spot::At(_) = option_of(image, from, &name[..equals]) else {
+                return self.at(Progress::UnknownOption(told));
+            };
+            let value = Part {
+                start: start + equals + 1,
+                length: name.len() - equals - 1,
+            };
+            return self.with_option(words, image, Source::Words, key, value);
+        }
+        match definition_of(image, from, name) {
+            Defined::Flag(_) => self.with_flag(words, image, Source::Words, key),
+            Defined::Option(_) => self.at(Progress::Waiting {
+                source: Source::Words,
+                key,
+                told,
+            }),
+            Defined::Unknown => self.at(Progress::UnknownOption(told)),
+        }
+    }
+
+    // One character of a word of shorts, which lies at a place of the words.
+    fn short<'a>(
+        self,
+        words: &'a [u8],
+        image: &'a [u8],
+        from: usize,
+        place: usize,
+        code: u32,
+        length: usize,
+    ) -> Self
+        requires { ⌜ Sizes (now words) (now image) × (partOf (now words) place length ≡ encode code) ⌝ }
+        ensures { λ r. ⌜ Moved (now (words .entry)) (now (image .entry)) self r (λ rest. shortStep stored (definitionsAt (now (image .entry)) from) (standOf (now (words .entry)) (now (image .entry)) rest self) code) ⌝ }
+    {
+        let told = Told {
+            dashes: 1,
+            start: place,
+            length,
+        };
+        let progress = self.progress;
+        match progress {
+            Progress::Going => match meaning_by_short(image, from, code as usize) {
+                Meaning::Flag(name) => self.with_flag(words, image, Source::Image, name),
+                Meaning::Option(name) => self.at(Progress::Waiting {
+                    source: Source::Image,
+                    key: name,
+                    told,
+                }),
+                Meaning::Unknown => self.at(Progress::UnknownOption(told)),
+            },
+            Progress::Waiting {
+                source: _,
+                key: _,
+                told: before,
+            } => self.at(Progress::MissingValue(before)),
+            _ => self,
+        }
+    }
+
+    // A word of shorts, behind its dash, from one place of the words to another.
+    fn shorts<'a>(
+        self,
+        words: &'a [u8],
+        image: &'a [u8],
+        from: usize,
+        start: usize,
+        end: usize,
+    ) -> Self
+        requires { ⌜ Sizes (now words) (now image) × (start ≤ end) × (end ≤ length (now words)) × KeySmall (self .progress) ⌝ }
+        ensures { λ r. ⌜ Moved (now (words .entry)) (now (image .entry)) self r (λ rest. shortSteps stored (definitionsAt (now (image .entry)) from) (standOf (now (words .entry)) (now (image .entry)) rest self) (codesIn (take (end - start) (drop start (now (words .entry)))))) ⌝ }
+    {
+        let letters = &words[start..end];
+        let mut scan = self;
+        let mut at = 0;
+        while at < letters.len() {
+            let Decoded::Character { code, length } = decode(letters, at) else {
+                return scan;
+            };
+            scan = scan.short(words, image, from, start + at, code, length);
+            at += length;
+        }
+        scan
+    }
+
+    // A word that is no value: the frame at a place, of a text of that length.
+    fn argument<'a>(
+        self,
+        words: &'a [u8],
+        image: &'a [u8],
+        from: usize,
+        at: usize,
+        bytes: usize,
+        rest: &mut [u8],
+    ) -> Self
+        requires { ⌜ Sizes (now words) (now image) × ((kind : ℕ) × (frameFirst (drop at (now words)) ≡ Frame kind bytes)) ⌝ }
+        requires { ⌜ Apt (now rest) self × (self .progress ≡ Going) × (self .kept + 3 + bytes ≤ length (now rest)) ⌝ }
+        ensures { λ r. ⌜ Stepped (now (words .entry)) (now (image .entry)) (now (rest .entry)) (now (rest .exit)) self r (3 + bytes) (formStep stored (definitionsAt (now (image .entry)) from) (foundOf (now (words .entry)) (now (image .entry)) (now (rest .entry)) self) (partOf (now (words .entry)) (at + 3) bytes) (formOf (partOf (now (words .entry)) (at + 3) bytes))) ⌝ }
+    {
+        let start = at + 3;
+        let end = start + bytes;
+        if bytes < 2 {
+            return self.keep(&words[at..end], rest);
+        }
+        if words[start] != 0x2D {
+            return self.keep(&words[at..end], rest);
+        }
+        if words[start + 1] == 0x2D {
+            return self.long(words, image, from, start + 2, end);
+        }
+        self.shorts(words, image, from, start + 1, end)
+    }
+
+    // One word: a value where one is waited for, whatever it begins with.
+    fn word<'a>(
+        self,
+        words: &'a [u8],
+        image: &'a [u8],
+        from: usize,
+        at: usize,
+        bytes: usize,
+        rest: &mut [u8],
+    ) -> Self
+        requires { ⌜ Sizes (now words) (now image) × ((kind : ℕ) × (frameFirst (drop at (now words)) ≡ Frame kind bytes)) ⌝ }
+        requires { ⌜ Apt (now rest) self × (self .kept + 3 + bytes ≤ length (now rest)) ⌝ }
+        ensures { λ r. ⌜ Stepped (now (words .entry)) (now (image .entry)) (now (rest .entry)) (now (rest .exit)) self r (3 + bytes) (wordStep stored (definitionsAt (now (image .entry)) from) (standOf (now (words .entry)) (now (image .entry)) (now (rest .entry)) self) (partOf (now (words .entry)) (at + 3) bytes)) ⌝ }
+    {
+        let progress = self.progress;
+        match progress {
+            Progress::Going => self.argument(words, image, from, at, bytes, rest),
+            Progress::Waiting {
+                source,
+                key,
+                told: _,
+            } => {
+                let value = Part {
+                    start: at + 3,
+                    length: bytes,
+                };
+                self.with_option(words, image, source, key, value)
+            }
+            _ => self,
+        }
+    }
+}
+
+// The words from a place on, over the definitions from a place of the node's part on. Positional words are kept in `rest`.
+pub fn parse_args<'a>(
+    words: &'a [u8],
+    image: &'a [u8],
+    from: usize,
+    start: usize,
+    rest: &mut [u8],
+) -> Scan
+    requires { ⌜ Sizes (now words) (now image) × (length (now words) ≤ length (now rest)) ⌝ }
+    ensures { λ r. ⌜ Scanned (now (words .entry)) (now (image .entry)) (now (rest .entry)) (now (rest .exit)) r (args stored (definitionsAt (now (image .entry)) from) (go noneFound) (textsIn (drop start (now (words .entry))))) ⌝ }
+{
+    let mut scan = Scan::start();
+    let mut at = start;
+    while at < words.len() {
+        let Framed::Frame { kind: _, length } = read_frame(words, at) else {
+            return scan;
+        };
+        scan = scan.word(words, image, from, at, length, rest);
+        at += 3 + length;
+    }
+    scan
+}
