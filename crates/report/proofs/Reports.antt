@@ -1,0 +1,77 @@
+-- The four parts of a report: how long they are together, and where each goes.
+use Prim.Native.Nat.{ℕ, _+_, _-_, _≤_}
+use mathlib.Core.Path.{_≡_, refl}
+use mathlib.Core.List.{List, _++_}
+use native.Mathlib.Omega.{arith}
+use lib.ListN.{length, take, drop, length-append}
+use borrow.Rule.Slice.PartMut.{putMid}
+use Rattle.buffer.specs.Write.{over, Written}
+use Rattle.frame.specs.Framed.{frameOf}
+use Rattle.frame.specs.Series.{textsIn, runs}
+use Rattle.table.specs.Held.{mapOf}
+use Rattle.table.specs.declared.sorted.Table.{Table}
+use Rattle.report.specs.Report.{optionFrame, flagFrame, reportOf, reportHeld}
+use Rattle.report.proofs.Ahead.{Ahead, ahead-first, ahead-lent, ahead-turn, last-lent, ahead-last}
+
+module _ (words image path : List ℕ) (options flags : Table) (rest : List ℕ) where
+  abbrev whole : List ℕ
+  whole = reportHeld words image path options flags rest
+
+  -- the parts
+  abbrev pathPart : List ℕ
+  pathPart = runs (frameOf 0x11) (textsIn path)
+
+  abbrev optionsPart : List ℕ
+  optionsPart = runs optionFrame (mapOf words image options)
+
+  abbrev flagsPart : List ℕ
+  flagsPart = runs flagFrame (mapOf words image flags)
+
+  abbrev restPart : List ℕ
+  restPart = runs (frameOf 0x14) (textsIn rest)
+
+  pub report-length : length whole ≡ length pathPart + length restPart + length optionsPart + length flagsPart
+  unfolding reportOf
+  report-length =
+      let a = length-append pathPart (optionsPart ++ (flagsPart ++ restPart)) in
+      let b = length-append optionsPart (flagsPart ++ restPart) in
+      let d = length-append flagsPart restPart in
+      omega arith
+
+  -- where the code stands behind the path words, behind the options, behind the flags
+  abbrev pub BehindPath : List ℕ → ℕ → List ℕ → Type 0
+  BehindPath out o mid = Ahead whole out (optionsPart ++ (flagsPart ++ restPart)) o mid
+
+  abbrev pub BehindOptions : List ℕ → ℕ → List ℕ → Type 0
+  BehindOptions out o mid = Ahead whole out (flagsPart ++ restPart) o mid
+
+  abbrev pub BehindFlags : List ℕ → ℕ → List ℕ → Type 0
+  BehindFlags out o mid = Ahead whole out restPart o mid
+
+  -- each part fits into the rest that is lent, and once it is written what is behind it is ahead
+  module _ (out : List ℕ) (fits : length whole ≤ length out) where
+    pub path-written : (o : ℕ) (left : List ℕ) → Written pathPart out o left → BehindPath out o left
+    unfolding reportOf
+    path-written o left w = ahead-first whole out fits pathPart (optionsPart ++ (flagsPart ++ restPart)) o left refl w
+
+    module _ (o : ℕ) (mid : List ℕ) where
+      pub options-lent : BehindPath out o mid → length optionsPart ≤ length (take (length mid - o) (drop o mid))
+      options-lent a = ahead-lent whole out _ optionsPart (flagsPart ++ restPart) o mid a refl fits
+
+      pub options-written : BehindPath out o mid → (n : ℕ) (left : List ℕ) → Written optionsPart (take (length mid - o) (drop o mid)) n left
+          → BehindOptions out (o + n) (putMid o (length mid - o) mid left)
+      options-written a n left w = ahead-turn whole out _ optionsPart (flagsPart ++ restPart) o mid a refl fits n left w
+
+      pub flags-lent : BehindOptions out o mid → length flagsPart ≤ length (take (length mid - o) (drop o mid))
+      flags-lent a = ahead-lent whole out _ flagsPart restPart o mid a refl fits
+
+      pub flags-written : BehindOptions out o mid → (n : ℕ) (left : List ℕ) → Written flagsPart (take (length mid - o) (drop o mid)) n left
+          → BehindFlags out (o + n) (putMid o (length mid - o) mid left)
+      flags-written a n left w = ahead-turn whole out _ flagsPart restPart o mid a refl fits n left w
+
+      pub rest-lent : BehindFlags out o mid → length restPart ≤ length (take (length mid - o) (drop o mid))
+      rest-lent a = last-lent whole out fits restPart o mid a
+
+      pub rest-written : BehindFlags out o mid → (n : ℕ) (left : List ℕ) → Written restPart (take (length mid - o) (drop o mid)) n left
+          → putMid o (length mid - o) mid left ≡ over whole out
+      rest-written a n left w = ahead-last whole out fits restPart o mid a n left w .bytes

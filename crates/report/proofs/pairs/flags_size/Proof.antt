@@ -1,0 +1,83 @@
+-- `report::pairs::flags_size` meets its contract: what is counted and the frames of the flags still to come make up the whole.
+use Rattle.table.specs.Held.{mapOf, sizeOf}
+use Rattle.frame.specs.Series.{runs}
+use Rattle.report.specs.Report.{flagFrame}
+use Rattle.report.proofs.Ahead.{count-end}
+use Rattle.report.proofs.Tables.{pairsAt, pairs-end, flag-counted, flags-most}
+use borrow.Author.Needs.{needs}
+use native.Mathlib.Omega.{arith}
+use Prim.Native.Nat.{_+_, _-_, _≤_, _<_}
+use mathlib.Core.Path.{_≡_}
+use lib.ListN.{length}
+use Rattle.report.proofs.pairs.flags_size.Statement.{statement}
+use Rattle.report.proofs.pairs.flags_size.Tie as tie
+
+abbrev Inv-loop : tie.InvT-loop
+Inv-loop words image flags n size₀ i₀ size i = (i ≤ n) × (size + length (pairsAt flagFrame words image flags i) ≡ length (runs flagFrame (mapOf words image flags)))
+
+abbrev μ-loop : tie.MeasureT-loop
+μ-loop words image flags n size₀ i₀ size i = n - i
+
+size-requires : tie.Need-size-requires Inv-loop μ-loop
+size-requires c κs = search needs
+
+loop-holds : tie.Need-loop-holds Inv-loop μ-loop
+loop-holds c = (omega arith, omega arith)
+
+mul-e : tie.Need-mul-e Inv-loop μ-loop
+mul-e c = search needs
+
+element-copy-out-e : tie.Need-element-copy-out-e Inv-loop μ-loop
+element-copy-out-e c = search needs
+
+key-requires : tie.Need-key-requires Inv-loop μ-loop
+key-requires c κs = search needs
+
+frame-size-requires : tie.Need-frame-size-requires Inv-loop μ-loop
+frame-size-requires c κs = search needs
+
+add-size : tie.Need-add-size Inv-loop μ-loop
+add-size c =
+    let a = c .before .before .before .before .before .before .before .before .args in
+    let h : c .before .before .before .before .loop .i < sizeOf (a .t3) = omega arith in
+    let p = flag-counted (a .words .now) (a .image .now) (a .t3) (c .before .before .before .before .loop .i) h _ (c .before .key .ensures) _ _ _ (c .frame-size .ensures 0x13) (c .before .before .before .before .loop .inv .1) in
+    let m = flags-most (a .words .now) (a .image .now) (a .t3) in
+    omega arith
+
+add-i : tie.Need-add-i Inv-loop μ-loop
+add-i c = search needs
+
+loop-less : tie.Need-loop-less Inv-loop μ-loop
+loop-less c = search needs
+
+loop-again : tie.Need-loop-again Inv-loop μ-loop
+loop-again c =
+    let a = c .before .before .before .before .before .before .before .before .args in
+    let h : c .before .before .before .before .loop .i < sizeOf (a .t3) = omega arith in
+    (omega arith, flag-counted (a .words .now) (a .image .now) (a .t3) (c .before .before .before .before .loop .i) h _ (c .before .key .ensures) _ _ _ (c .frame-size .ensures 0x13) (c .before .before .before .before .loop .inv .1))
+
+returns : tie.Need-returns Inv-loop μ-loop
+returns c =
+    let a = c .before .before .before .before .before .args in
+    let h : sizeOf (a .t3) ≤ c .before .loop .i = omega arith in
+    let e = count-end _ _ _ (pairs-end flagFrame (a .words .now) (a .image .now) (a .t3) (c .before .loop .i) h) (c .before .loop .inv .1) in
+    let m = flags-most (a .words .now) (a .image .now) (a .t3) in
+    (e, omega arith)
+
+pub flags-size-spec : {M : Type 1} → statement M
+flags-size-spec =
+    tie.close
+    (tie.spec
+    Inv-loop
+    μ-loop
+    size-requires
+    loop-holds
+    mul-e
+    element-copy-out-e
+    key-requires
+    frame-size-requires
+    add-size
+    add-i
+    loop-less
+    loop-again
+    returns)

@@ -1,0 +1,131 @@
+-- `report::reporter::write_frames` meets its contract: four parts, each into the rest behind the one before.
+use Rattle.report.proofs.Reports.{report-length, path-written, options-lent, options-written, flags-lent, flags-written, rest-lent, rest-written}
+use borrow.Author.Needs.{needs}
+use native.Mathlib.Omega.{arith}
+use Rattle.report.proofs.reporter.write_frames.Statement.{statement}
+use Rattle.report.proofs.reporter.write_frames.Tie as tie
+
+write-words-requires : tie.Need-write-words-requires
+write-words-requires c κs =
+    let a = c .before .before .before .before .before .before .args in
+    omega (arith, report-length (a .words .now) (a .image .now) (a .path .now) (a .options) (a .flags) (a .rest .now), c .before .before .before .before .before .before .pre)
+
+sub-write-options : tie.Need-sub-write-options
+sub-write-options c =
+    let a = c .before .before .before .before .before .before .before .before .before .args in
+    let s = path-written (a .words .now) (a .image .now) (a .path .now) (a .options) (a .flags) (a .rest .now) (a .out .now) (c .before .before .before .before .before .before .before .before .before .pre) _ _ (c .before .before .write-words .ensures) in
+    omega (arith, s .count, s .same, c .before .before .before .before .before .before .before .before .before .pre)
+
+part-write-options-start : tie.Need-part-write-options-start
+part-write-options-start c =
+    let a = c .before .before .before .before .before .before .before .before .before .args in
+    let s = path-written (a .words .now) (a .image .now) (a .path .now) (a .options) (a .flags) (a .rest .now) (a .out .now) (c .before .before .before .before .before .before .before .before .before .pre) _ _ (c .before .before .write-words .ensures) in
+    omega (arith, s .count, s .same, c .before .before .before .before .before .before .before .before .before .pre)
+
+part-write-options-end : tie.Need-part-write-options-end
+part-write-options-end c = search needs
+
+write-options-requires : tie.Need-write-options-requires
+write-options-requires c κs =
+    let a = c .before .before .before .before .before .before .before .before .before .before .args in
+    let s = path-written (a .words .now) (a .image .now) (a .path .now) (a .options) (a .flags) (a .rest .now) (a .out .now) (c .before .before .before .before .before .before .before .before .before .before .pre) _ _ (c .before .before .before .write-words .ensures) in
+    options-lent (a .words .now) (a .image .now) (a .path .now) (a .options) (a .flags) (a .rest .now) (a .out .now) (c .before .before .before .before .before .before .before .before .before .before .pre) _ _ s
+
+add-at : tie.Need-add-at
+add-at c =
+    let a = c .before .before .before .before .before .before .before .before .before .before .before .before .before .args in
+    let s = path-written (a .words .now) (a .image .now) (a .path .now) (a .options) (a .flags) (a .rest .now) (a .out .now) (c .before .before .before .before .before .before .before .before .before .before .before .before .before .pre) _ _ (c .before .before .before .before .before .before .write-words .ensures) in
+    let t = options-written (a .words .now) (a .image .now) (a .path .now) (a .options) (a .flags) (a .rest .now) (a .out .now) (c .before .before .before .before .before .before .before .before .before .before .before .before .before .pre) _ _ s _ _ (c .before .before .write-options .ensures) in
+    omega (arith, t .count, t .same, c .before .before .before .before .before .before .before .before .before .before .before .before .before .pre)
+
+sub-write-flags : tie.Need-sub-write-flags
+sub-write-flags c =
+    let a = c .before .before .before .before .before .before .before .before .before .before .before .before .before .args in
+    let s = path-written (a .words .now) (a .image .now) (a .path .now) (a .options) (a .flags) (a .rest .now) (a .out .now) (c .before .before .before .before .before .before .before .before .before .before .before .before .before .pre) _ _ (c .before .before .before .before .before .before .write-words .ensures) in
+    let t = options-written (a .words .now) (a .image .now) (a .path .now) (a .options) (a .flags) (a .rest .now) (a .out .now) (c .before .before .before .before .before .before .before .before .before .before .before .before .before .pre) _ _ s _ _ (c .before .before .write-options .ensures) in
+    omega (arith, t .count, t .same, c .before .before .before .before .before .before .before .before .before .before .before .before .before .pre)
+
+part-write-flags-start : tie.Need-part-write-flags-start
+part-write-flags-start c =
+    let a = c .before .before .before .before .before .before .before .before .before .before .before .before .before .args in
+    let s = path-written (a .words .now) (a .image .now) (a .path .now) (a .options) (a .flags) (a .rest .now) (a .out .now) (c .before .before .before .before .before .before .before .before .before .before .before .before .before .pre) _ _ (c .before .before .before .before .before .before .write-words .ensures) in
+    let t = options-written (a .words .now) (a .image .now) (a .path .now) (a .options) (a .flags) (a .rest .now) (a .out .now) (c .before .before .before .before .before .before .before .before .before .before .before .before .before .pre) _ _ s _ _ (c .before .before .write-options .ensures) in
+    omega (arith, t .count, t .same, c .before .before .before .before .before .before .before .before .before .before .before .before .before .pre)
+
+part-write-flags-end : tie.Need-part-write-flags-end
+part-write-flags-end c = search needs
+
+write-flags-requires : tie.Need-write-flags-requires
+write-flags-requires c κs =
+    let a = c .before .before .before .before .before .before .before .before .before .before .before .before .before .before .args in
+    let s = path-written (a .words .now) (a .image .now) (a .path .now) (a .options) (a .flags) (a .rest .now) (a .out .now) (c .before .before .before .before .before .before .before .before .before .before .before .before .before .before .pre) _ _ (c .before .before .before .before .before .before .before .write-words .ensures) in
+    let t = options-written (a .words .now) (a .image .now) (a .path .now) (a .options) (a .flags) (a .rest .now) (a .out .now) (c .before .before .before .before .before .before .before .before .before .before .before .before .before .before .pre) _ _ s _ _ (c .before .before .before .write-options .ensures) in
+    flags-lent (a .words .now) (a .image .now) (a .path .now) (a .options) (a .flags) (a .rest .now) (a .out .now) (c .before .before .before .before .before .before .before .before .before .before .before .before .before .before .pre) _ _ t
+
+add-at-2 : tie.Need-add-at-2
+add-at-2 c =
+    let a = c .before .before .before .before .before .before .before .before .before .before .before .before .before .before .before .before .before .args in
+    let s = path-written (a .words .now) (a .image .now) (a .path .now) (a .options) (a .flags) (a .rest .now) (a .out .now) (c .before .before .before .before .before .before .before .before .before .before .before .before .before .before .before .before .before .pre) _ _ (c .before .before .before .before .before .before .before .before .before .before .write-words .ensures) in
+    let t = options-written (a .words .now) (a .image .now) (a .path .now) (a .options) (a .flags) (a .rest .now) (a .out .now) (c .before .before .before .before .before .before .before .before .before .before .before .before .before .before .before .before .before .pre) _ _ s _ _ (c .before .before .before .before .before .before .write-options .ensures) in
+    let u = flags-written (a .words .now) (a .image .now) (a .path .now) (a .options) (a .flags) (a .rest .now) (a .out .now) (c .before .before .before .before .before .before .before .before .before .before .before .before .before .before .before .before .before .pre) _ _ t _ _ (c .before .before .write-flags .ensures) in
+    omega (arith, u .count, u .same, c .before .before .before .before .before .before .before .before .before .before .before .before .before .before .before .before .before .pre)
+
+sub-write-words : tie.Need-sub-write-words
+sub-write-words c =
+    let a = c .before .before .before .before .before .before .before .before .before .before .before .before .before .before .before .before .before .args in
+    let s = path-written (a .words .now) (a .image .now) (a .path .now) (a .options) (a .flags) (a .rest .now) (a .out .now) (c .before .before .before .before .before .before .before .before .before .before .before .before .before .before .before .before .before .pre) _ _ (c .before .before .before .before .before .before .before .before .before .before .write-words .ensures) in
+    let t = options-written (a .words .now) (a .image .now) (a .path .now) (a .options) (a .flags) (a .rest .now) (a .out .now) (c .before .before .before .before .before .before .before .before .before .before .before .before .before .before .before .before .before .pre) _ _ s _ _ (c .before .before .before .before .before .before .write-options .ensures) in
+    let u = flags-written (a .words .now) (a .image .now) (a .path .now) (a .options) (a .flags) (a .rest .now) (a .out .now) (c .before .before .before .before .before .before .before .before .before .before .before .before .before .before .before .before .before .pre) _ _ t _ _ (c .before .before .write-flags .ensures) in
+    omega (arith, u .count, u .same, c .before .before .before .before .before .before .before .before .before .before .before .before .before .before .before .before .before .pre)
+
+part-write-words-start : tie.Need-part-write-words-start
+part-write-words-start c =
+    let a = c .before .before .before .before .before .before .before .before .before .before .before .before .before .before .before .before .before .args in
+    let s = path-written (a .words .now) (a .image .now) (a .path .now) (a .options) (a .flags) (a .rest .now) (a .out .now) (c .before .before .before .before .before .before .before .before .before .before .before .before .before .before .before .before .before .pre) _ _ (c .before .before .before .before .before .before .before .before .before .before .write-words .ensures) in
+    let t = options-written (a .words .now) (a .image .now) (a .path .now) (a .options) (a .flags) (a .rest .now) (a .out .now) (c .before .before .before .before .before .before .before .before .before .before .before .before .before .before .before .before .before .pre) _ _ s _ _ (c .before .before .before .before .before .before .write-options .ensures) in
+    let u = flags-written (a .words .now) (a .image .now) (a .path .now) (a .options) (a .flags) (a .rest .now) (a .out .now) (c .before .before .before .before .before .before .before .before .before .before .before .before .before .before .before .before .before .pre) _ _ t _ _ (c .before .before .write-flags .ensures) in
+    omega (arith, u .count, u .same, c .before .before .before .before .before .before .before .before .before .before .before .before .before .before .before .before .before .pre)
+
+part-write-words-end : tie.Need-part-write-words-end
+part-write-words-end c = search needs
+
+write-words-requires-2 : tie.Need-write-words-requires-2
+write-words-requires-2 c κs =
+    let a = c .before .before .before .before .before .before .before .before .before .before .before .before .before .before .before .before .before .before .args in
+    let s = path-written (a .words .now) (a .image .now) (a .path .now) (a .options) (a .flags) (a .rest .now) (a .out .now) (c .before .before .before .before .before .before .before .before .before .before .before .before .before .before .before .before .before .before .pre) _ _ (c .before .before .before .before .before .before .before .before .before .before .before .write-words .ensures) in
+    let t = options-written (a .words .now) (a .image .now) (a .path .now) (a .options) (a .flags) (a .rest .now) (a .out .now) (c .before .before .before .before .before .before .before .before .before .before .before .before .before .before .before .before .before .before .pre) _ _ s _ _ (c .before .before .before .before .before .before .before .write-options .ensures) in
+    let u = flags-written (a .words .now) (a .image .now) (a .path .now) (a .options) (a .flags) (a .rest .now) (a .out .now) (c .before .before .before .before .before .before .before .before .before .before .before .before .before .before .before .before .before .before .pre) _ _ t _ _ (c .before .before .before .write-flags .ensures) in
+    rest-lent (a .words .now) (a .image .now) (a .path .now) (a .options) (a .flags) (a .rest .now) (a .out .now) (c .before .before .before .before .before .before .before .before .before .before .before .before .before .before .before .before .before .before .pre) _ _ u
+
+same-length : tie.Need-same-length
+same-length c = search needs
+
+returns : tie.Need-returns
+returns c =
+    let a = c .before .before .before .before .before .before .before .before .before .before .before .before .before .before .before .before .before .before .before .before .before .args in
+    let s = path-written (a .words .now) (a .image .now) (a .path .now) (a .options) (a .flags) (a .rest .now) (a .out .now) (c .before .before .before .before .before .before .before .before .before .before .before .before .before .before .before .before .before .before .before .before .before .pre) _ _ (c .before .before .before .before .before .before .before .before .before .before .before .before .before .before .write-words .ensures) in
+    let t = options-written (a .words .now) (a .image .now) (a .path .now) (a .options) (a .flags) (a .rest .now) (a .out .now) (c .before .before .before .before .before .before .before .before .before .before .before .before .before .before .before .before .before .before .before .before .before .pre) _ _ s _ _ (c .before .before .before .before .before .before .before .before .before .before .write-options .ensures) in
+    let u = flags-written (a .words .now) (a .image .now) (a .path .now) (a .options) (a .flags) (a .rest .now) (a .out .now) (c .before .before .before .before .before .before .before .before .before .before .before .before .before .before .before .before .before .before .before .before .before .pre) _ _ t _ _ (c .before .before .before .before .before .before .write-flags .ensures) in
+    rest-written (a .words .now) (a .image .now) (a .path .now) (a .options) (a .flags) (a .rest .now) (a .out .now) (c .before .before .before .before .before .before .before .before .before .before .before .before .before .before .before .before .before .before .before .before .before .pre) _ _ u _ _ (c .before .before .write-words2 .ensures)
+
+pub write-frames-spec : {M : Type 1} → statement M
+write-frames-spec =
+    tie.close
+    (tie.spec
+    write-words-requires
+    sub-write-options
+    part-write-options-start
+    part-write-options-end
+    write-options-requires
+    add-at
+    sub-write-flags
+    part-write-flags-start
+    part-write-flags-end
+    write-flags-requires
+    add-at-2
+    sub-write-words
+    part-write-words-start
+    part-write-words-end
+    write-words-requires-2
+    same-length
+    returns)
