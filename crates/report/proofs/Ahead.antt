@@ -78,7 +78,7 @@ module _ (whole out : List ℕ) (fits : length whole ≤ length out) where
   ahead-first x more r left e w = ahead-push whole out whole x more 0 out (ahead-start whole whole out refl) e fits r left (front-pushed x out left r w)
 
   module _ (x : List ℕ) (o : ℕ) (mid : List ℕ) (a : Ahead whole out x o mid) where
-    pub last-room : o + length x ≤ length mid
+    last-room : o + length x ≤ length mid
     last-room = ahead-room whole out x x [] o mid a (sym (append-nil x)) fits
 
     pub last-lent : length x ≤ length (take (length mid - o) (drop o mid))

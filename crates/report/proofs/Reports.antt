@@ -32,11 +32,7 @@ module _ (words image path : List ℕ) (options flags : Table) (rest : List ℕ)
 
   pub report-length : length whole ≡ length pathPart + length restPart + length optionsPart + length flagsPart
   unfolding reportOf
-  report-length =
-      let a = length-append pathPart (optionsPart ++ (flagsPart ++ restPart)) in
-      let b = length-append optionsPart (flagsPart ++ restPart) in
-      let d = length-append flagsPart restPart in
-      omega arith
+  report-length = simp length-append (omega arith)
 
   -- where the code stands behind the path words, behind the options, behind the flags
   abbrev pub BehindPath : List ℕ → ℕ → List ℕ → Type 0

@@ -117,13 +117,19 @@ module _ (words image : List ℕ) (t : Table) (i : ℕ) (h : i < sizeOf t) (k : 
   flag-counted size n whole e c = pair-counted flagFrame words image t i h k _ p refl size n whole e c
 
   module _ (out₀ : List ℕ) (o : ℕ) (out : List ℕ) (a : AheadPairs flagFrame words image t out₀ i o out) (fits : length (runs flagFrame (mapOf words image t)) ≤ length out₀) where
-    pub flag-room : o + length (frameOf 0x13 k) ≤ length out
-    unfolding flagFrame
-    flag-room = pair-room flagFrame words image t i h k _ p refl out₀ o out a fits
+    pub flag-lent : (kind : ℕ) → length (frameOf kind k) ≤ length (take (length out - o) (drop o out))
+    flag-lent kind =
+        let r = pair-lent flagFrame words image t i h k _ p refl out₀ o out a fits in
+        let l = length-flag k (valueOf words (getD (t .at) i 0)) in
+        let m = length-frameOf kind k in
+        omega arith
 
-    pub flag-lent : length (frameOf 0x13 k) ≤ length (take (length out - o) (drop o out))
-    unfolding flagFrame
-    flag-lent = pair-lent flagFrame words image t i h k _ p refl out₀ o out a fits
+    pub flag-place : (kind n : ℕ) (lent left : List ℕ) → Written (frameOf kind k) lent n left → o + n ≤ length out
+    flag-place kind n lent left w =
+        let r = pair-room flagFrame words image t i h k _ p refl out₀ o out a fits in
+        let l = length-flag k (valueOf words (getD (t .at) i 0)) in
+        let m = length-frameOf kind k in
+        omega (arith, r, l, m, w .count)
 
     pub flag-written : (r : ℕ) (left : List ℕ) → Written (frameOf 0x13 k) (take (length out - o) (drop o out)) r left
         → AheadPairs flagFrame words image t out₀ (i + 1) (o + r) (putMid o (length out - o) out left)

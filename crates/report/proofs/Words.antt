@@ -20,7 +20,7 @@ use Rattle.frame.proofs.framed.Framed.{the-type}
 use Rattle.frame.proofs.Texts.{read-told, value-two}
 use Rattle.frame.proofs.Frames.{length-frameOf, first-at, frame-within}
 use Rattle.frame.proofs.Series.{texts-more, texts-stop, texts-end}
-use Rattle.report.proofs.Ahead.{Ahead, ahead-room, ahead-lent, ahead-turn, runs-more, runs-none, count-turn}
+use Rattle.report.proofs.Ahead.{Ahead, ahead-lent, ahead-turn, runs-more, runs-none, count-turn}
 
 -- the frames of the words from a place on
 abbrev pub wordsAt : ℕ → List ℕ → ℕ → List ℕ
@@ -89,12 +89,6 @@ AheadWords kind words out₀ at out = Ahead (runs (frameOf kind) (textsIn words)
 -- a turn of it: a word goes to the place that it is read from
 module _ (kind : ℕ) (words out₀ : List ℕ) (at : ℕ) (out : List ℕ) (a : AheadWords kind words out₀ at out)
     (fits : length (runs (frameOf kind) (textsIn words)) ≤ length out₀) (k n : ℕ) (e : frameFirst (drop at words) ≡ Frame k n) where
-  pub word-room : at + (3 + n) ≤ length out
-  word-room =
-      let s = word-size words at k n e kind in
-      let r = ahead-room _ _ _ (frameOf kind (partAt words at n)) (wordsAt kind words (at + (3 + n))) at out a (word-next words at k n e kind (at + (3 + n)) refl) fits in
-      omega arith
-
   pub word-lent : length (frameOf kind (partAt words at n)) ≤ length (take (length out - at) (drop at out))
   word-lent = ahead-lent _ _ _ (frameOf kind (partAt words at n)) (wordsAt kind words (at + (3 + n))) at out a (word-next words at k n e kind (at + (3 + n)) refl) fits
 

@@ -2,7 +2,7 @@
 use Rattle.table.specs.Held.{sizeOf}
 use Rattle.report.specs.Report.{flagFrame}
 use Rattle.report.proofs.Ahead.{ahead-start, ahead-end}
-use Rattle.report.proofs.Tables.{AheadPairs, pairs-end, pair-short, flag-room, flag-lent, flag-written}
+use Rattle.report.proofs.Tables.{AheadPairs, pairs-end, pair-short, flag-lent, flag-place, flag-written}
 use borrow.Author.Needs.{needs}
 use native.Mathlib.Omega.{arith}
 use Prim.Native.Nat.{_-_, _≤_, _<_}
@@ -32,18 +32,10 @@ key-requires : tie.Need-key-requires Inv-loop μ-loop
 key-requires c κs = search needs
 
 sub-write-frame : tie.Need-sub-write-frame Inv-loop μ-loop
-sub-write-frame c =
-    let a = c .before .before .before .before .before .before .before .before .args in
-    let h : c .before .before .before .loop .i < sizeOf (a .t3) = omega arith in
-    let r = flag-room (a .words .now) (a .image .now) (a .t3) (c .before .before .before .loop .i) h _ (c .key .ensures) (a .out .now) _ _ (c .before .before .before .loop .inv .1) (c .before .before .before .before .before .before .before .before .pre) in
-    omega arith
+sub-write-frame c = omega (arith, c .before .before .before .loop .inv .1 .count, c .before .before .before .loop .inv .1 .same, c .before .before .before .before .before .before .before .before .pre)
 
 part-write-frame-start : tie.Need-part-write-frame-start Inv-loop μ-loop
-part-write-frame-start c =
-    let a = c .before .before .before .before .before .before .before .before .args in
-    let h : c .before .before .before .loop .i < sizeOf (a .t3) = omega arith in
-    let r = flag-room (a .words .now) (a .image .now) (a .t3) (c .before .before .before .loop .i) h _ (c .key .ensures) (a .out .now) _ _ (c .before .before .before .loop .inv .1) (c .before .before .before .before .before .before .before .before .pre) in
-    omega arith
+part-write-frame-start c = omega (arith, c .before .before .before .loop .inv .1 .count, c .before .before .before .loop .inv .1 .same, c .before .before .before .before .before .before .before .before .pre)
 
 part-write-frame-end : tie.Need-part-write-frame-end Inv-loop μ-loop
 part-write-frame-end c = search needs
@@ -52,14 +44,14 @@ write-frame-requires : tie.Need-write-frame-requires Inv-loop μ-loop
 write-frame-requires c κs =
     let a = c .before .before .before .before .before .before .before .before .before .args in
     let h : c .before .before .before .before .loop .i < sizeOf (a .t3) = omega arith in
-    (pair-short (a .words .now) (a .image .now) _ _ _ (c .before .key .ensures) refl .0, flag-lent (a .words .now) (a .image .now) (a .t3) (c .before .before .before .before .loop .i) h _ (c .before .key .ensures) (a .out .now) _ _ (c .before .before .before .before .loop .inv .1) (c .before .before .before .before .before .before .before .before .before .pre))
+    (pair-short (a .words .now) (a .image .now) _ _ _ (c .before .key .ensures) refl .0, flag-lent (a .words .now) (a .image .now) (a .t3) (c .before .before .before .before .loop .i) h _ (c .before .key .ensures) (a .out .now) _ _ (c .before .before .before .before .loop .inv .1) (c .before .before .before .before .before .before .before .before .before .pre) _)
 
 add-o : tie.Need-add-o Inv-loop μ-loop
 add-o c =
     let a = c .before .before .before .before .before .before .before .before .before .before .before .before .args in
     let h : c .before .before .before .before .before .before .before .loop .i < sizeOf (a .t3) = omega arith in
-    let r = flag-room (a .words .now) (a .image .now) (a .t3) (c .before .before .before .before .before .before .before .loop .i) h _ (c .before .before .before .before .key .ensures) (a .out .now) _ _ (c .before .before .before .before .before .before .before .loop .inv .1) (c .before .before .before .before .before .before .before .before .before .before .before .before .pre) in
-    omega (arith, r, c .before .before .write-frame .ensures .count)
+    let r = flag-place (a .words .now) (a .image .now) (a .t3) (c .before .before .before .before .before .before .before .loop .i) h _ (c .before .before .before .before .key .ensures) (a .out .now) _ _ (c .before .before .before .before .before .before .before .loop .inv .1) (c .before .before .before .before .before .before .before .before .before .before .before .before .pre) _ _ _ _ (c .before .before .write-frame .ensures) in
+    omega arith
 
 add-i : tie.Need-add-i Inv-loop μ-loop
 add-i c = search needs

@@ -1,6 +1,6 @@
 -- `report::pairs::write_option` meets its contract: the kind, then the key, then the value, each right behind what is there.
 use Rattle.frame.specs.Text.{textOf}
-use Rattle.report.proofs.Ahead.{ahead-room, ahead-lent, ahead-turn, last-room, last-lent, ahead-last}
+use Rattle.report.proofs.Ahead.{ahead-room, ahead-lent, ahead-turn, last-lent, ahead-last}
 use Rattle.report.proofs.Tables.{length-option, option-kind}
 use borrow.Author.Needs.{needs}
 use native.Mathlib.Omega.{arith}
@@ -15,15 +15,13 @@ sub-write-long-text : tie.Need-sub-write-long-text
 sub-write-long-text c =
     let a = c .before .before .before .before .before .before .before .args in
     let s = option-kind (a .key .now) (a .value .now) (a .out .now) _ _ (c .before .before .before .before .before .before .before .pre .1) (c .before .before .push-byte .ensures) in
-    let r = ahead-room _ _ _ (textOf 2 (a .key .now)) (textOf 2 (a .value .now)) _ _ s refl (c .before .before .before .before .before .before .before .pre .1) in
-    omega arith
+    omega (arith, s .count, s .same, c .before .before .before .before .before .before .before .pre .1)
 
 part-write-long-text-start : tie.Need-part-write-long-text-start
 part-write-long-text-start c =
     let a = c .before .before .before .before .before .before .before .args in
     let s = option-kind (a .key .now) (a .value .now) (a .out .now) _ _ (c .before .before .before .before .before .before .before .pre .1) (c .before .before .push-byte .ensures) in
-    let r = ahead-room _ _ _ (textOf 2 (a .key .now)) (textOf 2 (a .value .now)) _ _ s refl (c .before .before .before .before .before .before .before .pre .1) in
-    omega arith
+    omega (arith, s .count, s .same, c .before .before .before .before .before .before .before .pre .1)
 
 part-write-long-text-end : tie.Need-part-write-long-text-end
 part-write-long-text-end c = search needs
@@ -46,16 +44,14 @@ sub-write-long-text-2 c =
     let a = c .before .before .before .before .before .before .before .before .before .before .before .args in
     let s = option-kind (a .key .now) (a .value .now) (a .out .now) _ _ (c .before .before .before .before .before .before .before .before .before .before .before .pre .1) (c .before .before .before .before .before .before .push-byte .ensures) in
     let m = ahead-turn _ _ _ (textOf 2 (a .key .now)) (textOf 2 (a .value .now)) _ _ s refl (c .before .before .before .before .before .before .before .before .before .before .before .pre .1) _ _ (c .before .before .write-long-text .ensures) in
-    let r = last-room _ _ (c .before .before .before .before .before .before .before .before .before .before .before .pre .1) (textOf 2 (a .value .now)) _ _ m in
-    omega arith
+    omega (arith, m .count, m .same, c .before .before .before .before .before .before .before .before .before .before .before .pre .1)
 
 part-write-long-text-start-2 : tie.Need-part-write-long-text-start-2
 part-write-long-text-start-2 c =
     let a = c .before .before .before .before .before .before .before .before .before .before .before .args in
     let s = option-kind (a .key .now) (a .value .now) (a .out .now) _ _ (c .before .before .before .before .before .before .before .before .before .before .before .pre .1) (c .before .before .before .before .before .before .push-byte .ensures) in
     let m = ahead-turn _ _ _ (textOf 2 (a .key .now)) (textOf 2 (a .value .now)) _ _ s refl (c .before .before .before .before .before .before .before .before .before .before .before .pre .1) _ _ (c .before .before .write-long-text .ensures) in
-    let r = last-room _ _ (c .before .before .before .before .before .before .before .before .before .before .before .pre .1) (textOf 2 (a .value .now)) _ _ m in
-    omega arith
+    omega (arith, m .count, m .same, c .before .before .before .before .before .before .before .before .before .before .before .pre .1)
 
 part-write-long-text-end-2 : tie.Need-part-write-long-text-end-2
 part-write-long-text-end-2 c = search needs

@@ -35,18 +35,10 @@ value-requires : tie.Need-value-requires Inv-loop μ-loop
 value-requires c κs = search needs
 
 sub-write-option : tie.Need-sub-write-option Inv-loop μ-loop
-sub-write-option c =
-    let a = c .before .before .before .before .before .before .before .before .before .args in
-    let h : c .before .before .before .before .loop .i < sizeOf (a .t3) = omega arith in
-    let r = pair-room optionFrame (a .words .now) (a .image .now) (a .t3) (c .before .before .before .before .loop .i) h _ _ (c .before .key .ensures) (c .value .ensures) (a .out .now) _ _ (c .before .before .before .before .loop .inv .1) (c .before .before .before .before .before .before .before .before .before .pre) in
-    omega arith
+sub-write-option c = omega (arith, c .before .before .before .before .loop .inv .1 .count, c .before .before .before .before .loop .inv .1 .same, c .before .before .before .before .before .before .before .before .before .pre)
 
 part-write-option-start : tie.Need-part-write-option-start Inv-loop μ-loop
-part-write-option-start c =
-    let a = c .before .before .before .before .before .before .before .before .before .args in
-    let h : c .before .before .before .before .loop .i < sizeOf (a .t3) = omega arith in
-    let r = pair-room optionFrame (a .words .now) (a .image .now) (a .t3) (c .before .before .before .before .loop .i) h _ _ (c .before .key .ensures) (c .value .ensures) (a .out .now) _ _ (c .before .before .before .before .loop .inv .1) (c .before .before .before .before .before .before .before .before .before .pre) in
-    omega arith
+part-write-option-start c = omega (arith, c .before .before .before .before .loop .inv .1 .count, c .before .before .before .before .loop .inv .1 .same, c .before .before .before .before .before .before .before .before .before .pre)
 
 part-write-option-end : tie.Need-part-write-option-end Inv-loop μ-loop
 part-write-option-end c = search needs

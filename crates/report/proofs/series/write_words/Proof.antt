@@ -1,6 +1,6 @@
 -- `report::series::write_words` meets its contract: a word goes to the place that it is read from, and to write the rest there is to write the whole.
 use Rattle.report.proofs.Ahead.{ahead-start, ahead-end}
-use Rattle.report.proofs.Words.{AheadWords, words-stop, words-end, word-within, word-short, word-size, word-room, word-lent, word-written}
+use Rattle.report.proofs.Words.{AheadWords, words-stop, words-end, word-within, word-short, word-size, word-lent, word-written}
 use borrow.Author.Needs.{needs}
 use native.Mathlib.Omega.{arith}
 use Prim.Native.Nat.{_-_}
@@ -46,16 +46,10 @@ part-write-frame-end : tie.Need-part-write-frame-end Inv-loop μ-loop
 part-write-frame-end c = let w = word-within (c .before .before .before .before .before .before .before .before .args .words .now) (c .before .before .before .before .before .loop .at) _ _ (sym (c .before .before .before .read-frame .ensures) ∙ c .before .length .given .1) in omega arith
 
 sub-write-frame-2 : tie.Need-sub-write-frame-2 Inv-loop μ-loop
-sub-write-frame-2 c =
-    let a = c .before .before .before .before .before .before .before .before .before .args in
-    let r = word-room (a .kind) (a .words .now) (a .out .now) (c .before .before .before .before .before .before .loop .at) (c .before .before .before .before .before .before .loop .out) (c .before .before .before .before .before .before .loop .inv) (c .before .before .before .before .before .before .before .before .before .pre) _ _ (sym (c .before .before .before .before .read-frame .ensures) ∙ c .before .before .length .given .1) in
-    omega arith
+sub-write-frame-2 c = omega (arith, c .before .before .before .before .before .before .loop .inv .count, c .before .before .before .before .before .before .loop .inv .same, c .before .before .before .before .before .before .before .before .before .pre)
 
 part-write-frame-start-2 : tie.Need-part-write-frame-start-2 Inv-loop μ-loop
-part-write-frame-start-2 c =
-    let a = c .before .before .before .before .before .before .before .before .before .args in
-    let r = word-room (a .kind) (a .words .now) (a .out .now) (c .before .before .before .before .before .before .loop .at) (c .before .before .before .before .before .before .loop .out) (c .before .before .before .before .before .before .loop .inv) (c .before .before .before .before .before .before .before .before .before .pre) _ _ (sym (c .before .before .before .before .read-frame .ensures) ∙ c .before .before .length .given .1) in
-    omega arith
+part-write-frame-start-2 c = omega (arith, c .before .before .before .before .before .before .loop .inv .count, c .before .before .before .before .before .before .loop .inv .same, c .before .before .before .before .before .before .before .before .before .pre)
 
 part-write-frame-end-2 : tie.Need-part-write-frame-end-2 Inv-loop μ-loop
 part-write-frame-end-2 c = search needs
