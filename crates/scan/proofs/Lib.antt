@@ -4,3 +4,4 @@ pub mod Moves
 pub mod Meanings
 pub mod Steps
 pub mod Walks
+pub mod Room

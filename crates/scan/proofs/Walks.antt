@@ -128,16 +128,16 @@ module _ (words : List ℕ) (at kind n : ℕ) (e : frameFirst (drop at words) �
       ∙ take-append-seam (frameOf kind (partOf words (at + 3) n)) (drop (3 + n) (drop at words))
 
 -- WHOLE FRAMES, one more
-one-text : (kind : ℕ) (t : List ℕ) → length t < 256 ^ 2 → textsIn (frameOf kind t) ≡ t ∷ []
+pub one-text : (kind : ℕ) (t : List ℕ) → length t < 256 ^ 2 → textsIn (frameOf kind t) ≡ t ∷ []
 unfolding textsIn textsFrom
 one-text kind t h = ap textsIn (sym (append-nil (frameOf kind t))) ∙ texts-written kind t [] h
 
-whole-frame : (kind : ℕ) (t : List ℕ) → length t < 256 ^ 2 → Whole (frameOf kind t)
+pub whole-frame : (kind : ℕ) (t : List ℕ) → length t < 256 ^ 2 → Whole (frameOf kind t)
 unfolding Whole
 whole-frame kind t h more =
     texts-written kind t more h ∙ ap (λ (l : List (List ℕ)). l ++ textsIn more) (sym (one-text kind t h))
 
-whole-both : (a b : List ℕ) → Whole a → Whole b → Whole (a ++ b)
+pub whole-both : (a b : List ℕ) → Whole a → Whole b → Whole (a ++ b)
 unfolding Whole
 whole-both a b x y more =
     ap textsIn (append-assoc a b more) ∙ x (b ++ more) ∙ ap (λ (l : List (List ℕ)). textsIn a ++ l) (y more)
@@ -185,11 +185,12 @@ pub record ArgsAt (words image : List ℕ) (defs : List Frame) (start : ℕ) (re
   pub steps : args stored defs (standOf words image rest s) (textsIn (drop at words)) ≡ args stored defs (go noneFound) (textsIn (drop start words))
   pub apt : Apt rest s
   pub kept : s .kept ≤ at
+  pub bound : s .kept ≤ length words
   pub room : length rest ≡ length rest₀
 
 module _ (words image : List ℕ) (defs : List Frame) (start : ℕ) (rest₀ : List ℕ) where
   pub args-start : (s : Scan) → standOf words image rest₀ s ≡ go noneFound → Apt rest₀ s → s .kept ≡ 0 → ArgsAt words image defs start rest₀ rest₀ s start
-  args-start s e a k = record { steps = ap (λ (x : Stand). args stored defs x (textsIn (drop start words))) e; apt = a; kept = omega arith; room = refl }
+  args-start s e a k = record { steps = ap (λ (x : Stand). args stored defs x (textsIn (drop start words))) e; apt = a; kept = omega arith; bound = omega arith; room = refl }
 
   pub args-turn : (rest left : List ℕ) (s r : Scan) (at kind n : ℕ) → ArgsAt words image defs start rest₀ rest s at → frameFirst (drop at words) ≡ Framed kind n
       → Stepped words image rest left s r (3 + n) (wordStep stored defs (standOf words image rest s) (partOf words (at + 3) n)) → ArgsAt words image defs start rest₀ left r (at + (3 + n))
@@ -204,6 +205,7 @@ module _ (words image : List ℕ) (defs : List Frame) (start : ℕ) (rest₀ : L
             ∙ i .steps;
         apt = st .apt;
         kept = let a = st .kept in let b = i .kept in omega arith;
+        bound = let a = st .kept in let b = i .kept in let h = word-within words at kind n e in omega arith;
         room = st .room ∙ i .room;
       }
 
@@ -211,4 +213,4 @@ module _ (words image : List ℕ) (defs : List Frame) (start : ℕ) (rest₀ : L
       → Scanned words image rest₀ rest s (args stored defs (go noneFound) (textsIn (drop start words)))
   unfolding args
   args-end rest s at i e =
-      record { stand = sym (ap (args stored defs (standOf words image rest s)) e) ∙ i .steps; apt = i .apt; room = i .room }
+      record { stand = sym (ap (args stored defs (standOf words image rest s)) e) ∙ i .steps; apt = i .apt; kept = i .bound; room = i .room }

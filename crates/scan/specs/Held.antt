@@ -100,4 +100,5 @@ pub record Stepped (words image rest left : List ℕ) (s r : Scan) (size : ℕ) 
 pub record Scanned (words image rest left : List ℕ) (r : Scan) (to : Stand) : Type 0 where
   pub stand : standOf words image left r ≡ to
   pub apt : Apt left r
+  pub kept : r .kept ≤ length words
   pub room : length left ≡ length rest

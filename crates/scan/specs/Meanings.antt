@@ -13,7 +13,9 @@ use Rattle.lookup.specs.Definitions.{hasKey, flagWith, optionWith}
 -- the definitions of a node, given its subtree: the frames behind it up to the next node of any depth
 unfoldable pub definitionsOf : List Frame → List Frame
 definitionsOf [] = []
-definitionsOf (f ∷ l) = upTo isNode l
+definitionsOf (node depth handler name description usage ∷ l) = upTo isNode l
+definitionsOf (option required short name long description ∷ l) = []
+definitionsOf (flag short name long description ∷ l) = []
 
 -- those that stand in bytes from a place on
 unfoldable pub definitionsAt : List ℕ → ℕ → List Frame

@@ -1,0 +1,133 @@
+-- The definitions from a place on, one after the other, and the first that is required and missing.
+use Prim.Native.Nat.{ℕ, _+_, _<_, _≤_}
+use mathlib.Core.Path.{_≡_, refl, sym, ap, _∙_}
+use mathlib.Core.Bool.{Bool, true, false, cond}
+use mathlib.Core.List.{List, [], _∷_}
+use mathlib.Core.Option.{Option, none, some}
+use native.Mathlib.Omega.{arith}
+use types.Run.{OneOf, hit, miss}
+use denote.Enum.Declared.{tagOf}
+use lib.ListN.{length, take, drop, length-drop}
+use lib.Seq.{drop-drop}
+use Rattle.buffer.proofs.Choices.{then-is, else-is}
+use Rattle.image.specs.Frames.{Frame, node, option, flag}
+use Rattle.image.specs.Reading.{Read, read, broken, ended, headFirst, readBy, readFirst, nodeIn, optionIn, flagIn}
+use Rattle.image.specs.declared.head.Lengths.{Lengths}
+use Rattle.image.specs.declared.head.Head.{Head}
+use Rattle.image.specs.declared.head.Head.the-variants.{Node as HeadNode, Option as HeadOption, Flag as HeadFlag, Bad, End}
+use Rattle.image.proofs.head.Head.{the-type}
+use Rattle.image.proofs.Encoding.{read-within, read-ended}
+use Rattle.tree.specs.Images.{Item, whole, torn, items, framesIn, framesOf}
+use Rattle.tree.proofs.Items.{items-read, items-broken, items-none, items-end}
+use Rattle.lookup.specs.Searches.{isNode}
+use Rattle.lookup.specs.Subtrees.{upTo}
+use Rattle.table.specs.Map.{Map}
+use Rattle.table.specs.Held.{partOf}
+use Rattle.scan.specs.Meanings.{definitionsOf, definitionsAt}
+use Rattle.parse.specs.Commands.{lacking, isMissing, missingRequired}
+
+-- the frames of bytes, by what they begin with
+pub frames-read : (s : List ℕ) (f : Frame) (n : ℕ) → readFirst s ≡ read f n → framesOf s ≡ f ∷ framesOf (drop n s)
+unfolding framesOf framesIn
+frames-read s f n e = ap framesIn (items-read s f n e)
+
+pub frames-none : (s : List ℕ) (head : Head) → headFirst s ≡ head → OneOf (3 ∷ 4 ∷ []) (tagOf the-type head) → framesOf s ≡ []
+unfolding framesOf framesIn readFirst
+frames-none s (HeadNode d h t) e k = absurd (miss (3 ∷ 4 ∷ []) 0 tt k)
+frames-none s (HeadOption r c t) e k = absurd (miss (3 ∷ 4 ∷ []) 1 tt k)
+frames-none s (HeadFlag c t) e k = absurd (miss (3 ∷ 4 ∷ []) 2 tt k)
+frames-none s Bad e k = ap framesIn (items-broken s (ap (readBy s) e))
+frames-none s End e k = ap (λ (l : List ℕ). framesIn (items l)) (read-ended s (ap (readBy s) e)) ∙ ap framesIn items-none
+
+pub frames-end : (s : List ℕ) (at : ℕ) → length s ≤ at → framesOf (drop at s) ≡ []
+unfolding framesOf framesIn
+frames-end s at h = ap framesIn (items-end s at h)
+
+module _ (image : List ℕ) (at : ℕ) where
+  -- a definition, and those behind it
+  pub definitions-more : (f : Frame) (n : ℕ) → readFirst (drop at image) ≡ read f n → isNode f ≡ false → definitionsAt image at ≡ f ∷ definitionsAt image (at + n)
+  unfolding definitionsAt upTo
+  definitions-more f n e k =
+      ap (upTo isNode) (frames-read (drop at image) f n e) ∙ else-is _ _ _ k ∙ ap (λ (l : List ℕ). f ∷ upTo isNode (framesOf l)) (drop-drop n at image)
+
+  pub definitions-stop : (head : Head) → headFirst (drop at image) ≡ head → OneOf (0 ∷ 3 ∷ 4 ∷ []) (tagOf the-type head) → definitionsAt image at ≡ []
+  unfolding definitionsAt upTo nodeIn readFirst
+  definitions-stop (HeadNode d h t) e k = ap (upTo isNode) (frames-read (drop at image) _ _ (ap (readBy (drop at image)) e))
+  definitions-stop (HeadOption r c t) e k = absurd (miss (0 ∷ 3 ∷ 4 ∷ []) 1 tt k)
+  definitions-stop (HeadFlag c t) e k = absurd (miss (0 ∷ 3 ∷ 4 ∷ []) 2 tt k)
+  definitions-stop Bad e k = ap (upTo isNode) (frames-none (drop at image) Bad e (hit (3 ∷ 4 ∷ []) 3 tt))
+  definitions-stop End e k = ap (upTo isNode) (frames-none (drop at image) End e (hit (3 ∷ 4 ∷ []) 4 tt))
+
+  pub definitions-end : length image ≤ at → definitionsAt image at ≡ []
+  unfolding definitionsAt upTo
+  definitions-end h = ap (upTo isNode) (frames-end image at h)
+
+-- a frame at a place lies within
+pub record Step (image : List ℕ) (at size : ℕ) : Type 0 where
+  pub some : 0 < size
+  pub within : at + size ≤ length image
+
+step-by : (image : List ℕ) (at : ℕ) (f : Frame) (n : ℕ) → at < length image → readFirst (drop at image) ≡ read f n → Step image at n
+step-by image at f n h e =
+    let w = read-within (drop at image) f n e in
+    let w₀ = w .0 in
+    let w₁ = w .1 in
+    let l = length-drop at image in
+    record { some = w₀; within = omega arith }
+
+-- ONE DEFINITION of the search for what is missing
+module _ (node : List ℕ) (at : ℕ) (options : Map) (texts : Lengths) where
+  option-read : (r c : ℕ) → headFirst (drop at node) ≡ HeadOption r c texts → readFirst (drop at node) ≡ read (optionIn (drop at node) r c texts) (texts .size)
+  unfolding readFirst
+  option-read r c e = ap (readBy (drop at node)) e
+
+  flag-read : (c : ℕ) → headFirst (drop at node) ≡ HeadFlag c texts → readFirst (drop at node) ≡ read (flagIn (drop at node) c texts) (texts .size)
+  unfolding readFirst
+  flag-read c e = ap (readBy (drop at node)) e
+
+  pub option-step : (r c : ℕ) → at < length node → headFirst (drop at node) ≡ HeadOption r c texts → Step node at (texts .size)
+  option-step r c h e = step-by node at _ _ h (option-read r c e)
+
+  pub flag-step : (c : ℕ) → at < length node → headFirst (drop at node) ≡ HeadFlag c texts → Step node at (texts .size)
+  flag-step c h e = step-by node at _ _ h (flag-read c e)
+
+  name-there : take (texts .name) (drop 4 (drop at node)) ≡ partOf node (at + 4) (texts .name)
+  name-there = ap (take (texts .name)) (drop-drop 4 at node)
+
+  -- it is the option here, or it is sought behind
+  option-next : (r c : ℕ) → headFirst (drop at node) ≡ HeadOption r c texts
+      → missingRequired (definitionsAt node at) options ≡ cond (lacking r (partOf node (at + 4) (texts .name)) options) (some (partOf node (at + 4) (texts .name))) (missingRequired (definitionsAt node (at + texts .size)) options)
+  unfolding missingRequired isMissing optionIn
+  option-next r c e =
+      ap (λ (l : List Frame). missingRequired l options) (definitions-more node at _ _ (option-read r c e) refl)
+      ∙ ap (λ (name : List ℕ). cond (lacking r name options) (some name) (missingRequired (definitionsAt node (at + texts .size)) options)) name-there
+
+  pub option-missing : (r c : ℕ) (t : Bool) → headFirst (drop at node) ≡ HeadOption r c texts → t ≡ lacking r (partOf node (at + 4) (texts .name)) options → t ≡ true
+      → missingRequired (definitionsAt node at) options ≡ some (partOf node (at + 4) (texts .name))
+  option-missing r c t e q k = option-next r c e ∙ then-is _ _ _ (sym q ∙ k)
+
+  pub option-there : (r c : ℕ) (t : Bool) → headFirst (drop at node) ≡ HeadOption r c texts → t ≡ lacking r (partOf node (at + 4) (texts .name)) options → t ≡ false
+      → missingRequired (definitionsAt node at) options ≡ missingRequired (definitionsAt node (at + texts .size)) options
+  option-there r c t e q k = option-next r c e ∙ else-is _ _ _ (sym q ∙ k)
+
+  pub flag-passed : (c : ℕ) → headFirst (drop at node) ≡ HeadFlag c texts → missingRequired (definitionsAt node at) options ≡ missingRequired (definitionsAt node (at + texts .size)) options
+  unfolding missingRequired isMissing flagIn
+  flag-passed c e = ap (λ (l : List Frame). missingRequired l options) (definitions-more node at _ _ (flag-read c e) refl)
+
+pub none-missing : (options : Map) → missingRequired [] options ≡ none
+unfolding missingRequired
+none-missing options = refl
+
+-- where the definitions of a node begin
+module _ (node : List ℕ) where
+  pub start-behind : (d h : ℕ) (texts : Lengths) → headFirst node ≡ HeadNode d h texts → definitionsAt node (texts .size) ≡ definitionsOf (framesOf node)
+  unfolding definitionsAt definitionsOf nodeIn readFirst
+  start-behind d h texts e = sym (ap definitionsOf (frames-read node _ _ (ap (readBy node) e)))
+
+  pub start-none : (head : Head) → headFirst node ≡ head → OneOf (1 ∷ 2 ∷ 3 ∷ 4 ∷ []) (tagOf the-type head) → definitionsAt node (length node) ≡ definitionsOf (framesOf node)
+  unfolding definitionsOf optionIn flagIn readFirst
+  start-none (HeadNode d h t) e k = absurd (miss (1 ∷ 2 ∷ 3 ∷ 4 ∷ []) 0 tt k)
+  start-none (HeadOption r c t) e k = definitions-end node (length node) (omega arith) ∙ sym (ap definitionsOf (frames-read node _ _ (ap (readBy node) e)))
+  start-none (HeadFlag c t) e k = definitions-end node (length node) (omega arith) ∙ sym (ap definitionsOf (frames-read node _ _ (ap (readBy node) e)))
+  start-none Bad e k = definitions-end node (length node) (omega arith) ∙ sym (ap definitionsOf (frames-none node Bad e (hit (3 ∷ 4 ∷ []) 3 tt)))
+  start-none End e k = definitions-end node (length node) (omega arith) ∙ sym (ap definitionsOf (frames-none node End e (hit (3 ∷ 4 ∷ []) 4 tt)))

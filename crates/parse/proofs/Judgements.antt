@@ -1,0 +1,309 @@
+-- What a verdict rests on: the scan's stand, the command that was reached, and the limits of its node, within which a table holds what the map holds.
+use Prim.Native.Nat.{ℕ, suc, _+_, _-_, _*_, _≤_}
+use mathlib.Core.Path.{_≡_, refl, sym, ap, _∙_}
+use mathlib.Core.Bool.{Bool, true, false, cond}
+use mathlib.Core.List.{List, [], _∷_, _++_}
+use mathlib.Core.Option.{Option, none, some}
+use native.Mathlib.Omega.{arith}
+use borrow.Author.Tests.{leb-true}
+use lib.Dec.{leb}
+use lib.ListN.{length, take, drop}
+use Rattle.buffer.specs.Compare.{order, sameBytes}
+use Rattle.frame.specs.Text.{Bytes}
+use Rattle.frame.specs.Framed.{frameFirst}
+use Rattle.frame.specs.declared.framed.Framed.the-variants.{Frame as Framed}
+use Rattle.frame.specs.Series.{textsFrom, textsIn}
+use Rattle.image.specs.Frames.{Perhaps, Frame, node, option, flag}
+use Rattle.image.specs.Limits.{both, fair}
+use Rattle.image.proofs.Fields.{both-first, both-second, both-true}
+use Rattle.tree.specs.Images.{framesOf, flat}
+use Rattle.tree.specs.Rules.{Seen, start, isLess, follows, obeys, after, obeyAll, checkTree}
+use Rattle.tree.specs.Forest.{Forest, bare, grown, flatten, optionsIn, flagsIn, definitionsOnly, modest, orderly}
+use Rattle.tree.specs.declared.check.Checked.the-variants.{Good}
+use Rattle.tree.proofs.Wholes.{frames-flat, WellFormed, good-well-formed}
+use Rattle.tree.proofs.Planting.{ForestOf, obeys-forest}
+use Rattle.lookup.specs.Searches.{isNode}
+use Rattle.lookup.specs.Nodes.{findNode}
+use Rattle.lookup.specs.Subtrees.{upTo, subtree, treeNamed}
+use Rattle.lookup.specs.declared.node.Part.the-variants.{Between, Nowhere}
+use Rattle.lookup.proofs.Lookups.{subtree-named, child-named, named-orderly}
+use Rattle.table.specs.Held.{partOf, mapOf}
+use Rattle.table.specs.Map.{put}
+use Rattle.scan.specs.Meanings.{definitionsOf, definitionsAt}
+use Rattle.scan.specs.Arguments.{Found, noneFound, Stand, go, args}
+use Rattle.scan.specs.Held.{stored, foundOf, standBy, standOf, toldOf, Whole, Scanned}
+use Rattle.scan.specs.declared.standing.Progress.{Progress}
+use Rattle.scan.specs.declared.standing.Progress.the-variants.{Going}
+use Rattle.scan.specs.declared.standing.Scan.{Scan}
+use Rattle.scan.proofs.Steps.{stand-by}
+use Rattle.scan.proofs.Room.{optionKeys, flagKeys, options-few, flags-few, args-same}
+use Rattle.parse.specs.Commands.{Reached, onSubtree, descend, missingRequired, Outcome, parsed, fault, onMissing, outcomeOf, concluded, parseIn, parseWords, emptyCommand}
+use Rattle.parse.specs.Held.{partAt, outcomeBy, outcomeIn, Within, allFair, Sound, Descended, Judging}
+use Rattle.parse.specs.declared.command.Place.{Place}
+use Rattle.parse.specs.declared.judging.Verdict.{Verdict}
+use Rattle.parse.specs.declared.judging.Verdict.the-variants.{NoWords, UnknownCommand}
+use Rattle.parse.specs.declared.judging.Judged.{Judged}
+use Rattle.scan.proofs.Walks.{word-within}
+use Rattle.parse.proofs.Descents.{all-fit, fair-subtree, sound-flat, found-in, found-some, path-more, path-whole, words-more}
+
+-- THE VERDICT on a scan
+module _ (words part : List ℕ) (s : Scan) (defs : List Frame) (path : List (List ℕ)) (rest : List ℕ) where
+  -- while it goes on, what is required decides
+  pub verdict-going : (x : Option (List ℕ)) → s .progress ≡ Going → x ≡ missingRequired defs (mapOf words part (s .options))
+      → onMissing x (λ name. fault 7 name) (parsed path (foundOf words part rest s)) ≡ outcomeOf path defs (standOf words part rest s)
+  unfolding foundOf
+  verdict-going x e q =
+      ap (λ (y : Option (List ℕ)). onMissing y (λ name. fault 7 name) (parsed path (foundOf words part rest s))) q
+      ∙ sym (ap (outcomeOf path defs) (stand-by words part rest s Going e))
+
+  -- else its progress does
+  pub verdict-by : (p : Progress) → s .progress ≡ p → outcomeOf path defs (standBy words part (foundOf words part rest s) p) ≡ outcomeOf path defs (standOf words part rest s)
+  verdict-by p e = sym (ap (outcomeOf path defs) (stand-by words part rest s p e))
+
+-- THE ARGUMENTS of a command
+pub arguments-judged : (words image rest left : List ℕ) (place : Place) (to : Reached) (j : Judged) («from» : ℕ)
+    → Descended words image place to → j .place ≡ place → definitionsAt (partAt image place) «from» ≡ definitionsOf (framesOf (partAt image place))
+    → Scanned words (partAt image place) rest left (j .scan) (args stored (definitionsAt (partAt image place) «from») (go noneFound) (textsIn (drop (place .at) words)))
+    → ((path : List (List ℕ)) (rest : List ℕ) → outcomeBy words (partAt image place) path (foundOf words (partAt image place) rest (j .scan)) (j .verdict) ≡ outcomeOf path (definitionsAt (partAt image place) «from») (standOf words (partAt image place) rest (j .scan)))
+    → length words ≤ length rest
+    → Judging words image rest left j (concluded stored to)
+unfolding outcomeIn concluded
+arguments-judged words image rest left place to j «from» d at defs s v h =
+    record {
+      outcome =
+        ap (λ (p : Place). outcomeBy words (partAt image p) (textsIn (take (p .at) words)) (foundOf words (partAt image p) left (j .scan)) (j .verdict)) at
+        ∙ v (textsIn (take (place .at) words)) left
+        ∙ ap (λ (a : Stand). outcomeOf (textsIn (take (place .at) words)) (definitionsAt (partAt image place) «from») a) (s .stand)
+        ∙ ap (λ (l : List Frame). outcomeOf (textsIn (take (place .at) words)) l (args stored l (go noneFound) (textsIn (drop (place .at) words)))) (defs ∙ ap definitionsOf (d .frames))
+        ∙ ap (λ (p : List (List ℕ)). outcomeOf p (definitionsOf (to .frames)) (args stored (definitionsOf (to .frames)) (go noneFound) (textsIn (drop (place .at) words)))) (d .path)
+        ∙ ap (λ (l : List (List ℕ)). outcomeOf (to .path) (definitionsOf (to .frames)) (args stored (definitionsOf (to .frames)) (go noneFound) l)) (d .left);
+      within = rw at (d .within);
+      kept = let k = s .kept in let l = s .room in omega arith;
+      room = s .room;
+    }
+
+-- THE LIMITS of a node
+pub record Modest (fs : List Frame) : Type 0 where
+  pub options : optionsIn (definitionsOf fs) ≤ 32
+  pub flags : flagsIn (definitionsOf fs) ≤ 32
+
+-- a node's definitions are those before anything below it
+none-up : (e : ℕ) (f : Forest) → upTo isNode (flatten e f ++ []) ≡ []
+unfolding upTo flatten
+none-up e bare = refl
+none-up e (grown h n ds u defs below after) = refl
+
+defs-up : (e : ℕ) (f : Forest) (defs : List Frame) → definitionsOnly defs ≡ true → upTo isNode (defs ++ (flatten e f ++ [])) ≡ defs
+unfolding upTo definitionsOnly
+defs-up e f [] o = none-up e f
+defs-up e f (node d h n ds u ∷ l) o = absurd (let z : _≡_ {A = ℕ} 0 1 = cc in omega arith)
+defs-up e f (option r c n x ds ∷ l) o = ap (λ (m : List Frame). option r c n x ds ∷ m) (defs-up e f l (both-second (fair (option r c n x ds)) _ o))
+defs-up e f (flag c n x ds ∷ l) o = ap (λ (m : List Frame). flag c n x ds ∷ m) (defs-up e f l (both-second (fair (flag c n x ds)) _ o))
+
+module _ (before : List ℕ) (d h : ℕ) (n ds : List ℕ) (u : Perhaps) (defs : List Frame) (below : Forest) (o : orderly before d (grown h n ds u defs below bare) ≡ true) where
+  limits : modest defs ≡ true
+  unfolding orderly
+  limits = both-first (modest defs) _ (both-second (fair (node d h n ds u)) _ (both-second (isLess (order before n)) _ o))
+
+  beneath : orderly [] (suc d) below ≡ true
+  unfolding orderly
+  beneath = both-first (orderly [] (suc d) below) _ (both-second (modest defs) _ (both-second (fair (node d h n ds u)) _ (both-second (isLess (order before n)) _ o)))
+
+  tree-modest : Modest (flatten d (grown h n ds u defs below bare))
+  unfolding flatten definitionsOf
+  tree-modest =
+      let only = both-first (definitionsOnly defs) _ limits in
+      let both₂ = both-second (definitionsOnly defs) _ limits in
+      let q = defs-up (suc d) below defs only in
+      record {
+        options = rw q (leb-true _ _ (both-first (leb (optionsIn defs) 32) _ both₂));
+        flags = rw q (leb-true _ _ (both-second (leb (optionsIn defs) 32) _ both₂));
+      }
+
+-- a tree by its name stands alone
+abbrev Alone : Forest → Type 0
+Alone bare = Unit
+Alone (grown h n ds u defs below after) = after ≡ bare
+
+named-alone : (w : List ℕ) (f : Forest) → Alone (treeNamed w f)
+unfolding treeNamed
+named-alone w bare = tt
+named-alone w (grown h n ds u defs below after) = by (sameBytes n w) (named-alone w after)
+  where
+    by : (t : Bool) → Alone (treeNamed w after) → Alone (cond t (grown h n ds u defs below bare) (treeNamed w after))
+    by true more = refl
+    by false more = more
+
+-- the child that a word names, if there is one
+module _ (d : ℕ) (frames : List Frame) (path : List (List ℕ)) (w : List ℕ) (l : List (List ℕ)) where
+  abbrev onto : List Frame → Reached
+  onto c = descend (suc (suc d)) c (path ++ (w ∷ [])) l
+
+  abbrev stay : Reached
+  stay = record { path = path; words = w ∷ l; frames = frames }
+
+  abbrev Below : Type 0
+  Below = (m : List ℕ) (h : ℕ) (n ds : List ℕ) (u : Perhaps) (defs : List Frame) (below : Forest) → orderly m (suc d) (grown h n ds u defs below bare) ≡ true
+      → Modest (onto (flatten (suc d) (grown h n ds u defs below bare)) .frames)
+
+  alone-modest : (m : List ℕ) (h : ℕ) (n ds : List ℕ) (u : Perhaps) (defs : List Frame) (below after : Forest) → after ≡ bare → orderly m (suc d) (grown h n ds u defs below after) ≡ true
+      → Below → Modest (onto (flatten (suc d) (grown h n ds u defs below after)) .frames)
+  alone-modest m h n ds u defs below after a o more = rw a (more m h n ds u defs below (rw a at o))
+
+  child-modest : (t : Forest) → Alone t → (m : List ℕ) → orderly m (suc d) t ≡ true → Modest frames → Below → Modest (onSubtree (flatten (suc d) t) stay onto .frames)
+  unfolding flatten
+  child-modest bare a m o here more = here
+  child-modest (grown h n ds u defs below after) a m o here more = alone-modest m h n ds u defs below after a o more
+
+-- THE WHOLE DESCENT stays within the limits
+descent-modest : (l : List (List ℕ)) (path : List (List ℕ)) (before : List ℕ) (d h : ℕ) (n ds : List ℕ) (u : Perhaps) (defs : List Frame) (below : Forest)
+    → orderly before d (grown h n ds u defs below bare) ≡ true → Modest (descend (suc d) (flatten d (grown h n ds u defs below bare)) path l .frames)
+unfolding descend
+descent-modest [] path before d h n ds u defs below o = tree-modest before d h n ds u defs below o
+descent-modest (w ∷ l) path before d h n ds u defs below o =
+    let x = named-orderly below [] (suc d) w (beneath before d h n ds u defs below o) in
+    rw (child-named h n ds u defs below before d w o)
+    (child-modest d (flatten d (grown h n ds u defs below bare)) path w l (treeNamed w below) (named-alone w below) (x .0) (x .1) (tree-modest before d h n ds u defs below o)
+    (λ m h₂ n₂ ds₂ u₂ defs₂ below₂ o₂. descent-modest l (path ++ (w ∷ [])) m (suc d) h₂ n₂ ds₂ u₂ defs₂ below₂ o₂))
+
+-- the command of a first word, in a forest
+command-modest : (t : Forest) → Alone t → (m : List ℕ) → orderly m 0 t ≡ true → (l path : List (List ℕ)) (g : Frame) (rest : List Frame) → flatten 0 t ≡ g ∷ rest → Modest (descend 1 (flatten 0 t) path l .frames)
+unfolding flatten
+command-modest bare a m o l path g rest e = absurd (let z : _≡_ {A = ℕ} 0 1 = cc in omega arith)
+command-modest (grown h n ds u defs below after) a m o l path g rest e = only h n ds u defs below after a o
+  where
+    only : (h : ℕ) (n ds : List ℕ) (u : Perhaps) (defs : List Frame) (below after : Forest) → after ≡ bare → orderly m 0 (grown h n ds u defs below after) ≡ true
+        → Modest (descend 1 (flatten 0 (grown h n ds u defs below after)) path l .frames)
+    only h n ds u defs below after a o = rw a (descent-modest l path m 0 h n ds u defs below (rw a at o))
+
+-- within the limits a table's insert is the map's
+pub concluded-same : (r : Reached) → Modest (r .frames) → concluded put r ≡ concluded stored r
+unfolding concluded
+concluded-same r m =
+    let a = options-few (definitionsOf (r .frames)) in
+    let b = flags-few (definitionsOf (r .frames)) in
+    let c = m .options in
+    let d = m .flags in
+    let s = args-same (definitionsOf (r .frames)) (omega arith) (omega arith) (r .words) in
+    ap (outcomeOf (r .path) (definitionsOf (r .frames))) (s .same)
+
+-- A WELL-FORMED IMAGE
+obey-fair : (fs : List Frame) (seen : Seen) → obeyAll seen fs ≡ true → allFair fs ≡ true
+unfolding obeyAll allFair obeys
+obey-fair [] seen e = refl
+obey-fair (f ∷ l) seen e =
+    both-true _ _ (both-first (fair f) _ (both-first (both (fair f) (follows seen f)) _ e)) (obey-fair l (after seen f) (both-second (both (fair f) (follows seen f)) _ e))
+
+module _ (image : List ℕ) (b : Bytes image) (good : checkTree image ≡ Good) where
+  whole-image : WellFormed image (framesOf image)
+  whole-image = good-well-formed image b good
+
+  pub good-sound : Sound image
+  good-sound = record { joined = whole-image .joined; fair = obey-fair (framesOf image) start (whole-image .obey) }
+
+  pub good-short : length image ≤ 32768
+  good-short = whole-image .short
+
+  subtree-modest : (w : List ℕ) (l path : List (List ℕ)) (g : Frame) (rest : List Frame) → subtree 0 w (framesOf image) ≡ g ∷ rest → Modest (descend 1 (subtree 0 w (framesOf image)) path l .frames)
+  subtree-modest w l path g rest e =
+      let f = obeys-forest (framesOf image) (whole-image .obey) in
+      let q : subtree 0 w (framesOf image) ≡ flatten 0 (treeNamed w (f .forest)) = ap (subtree 0 w) (f .flattened) ∙ subtree-named (f .forest) [] 0 w (f .rising) in
+      let o = named-orderly (f .forest) [] 0 w (f .rising) in
+      rw q (command-modest (treeNamed w (f .forest)) (named-alone w (f .forest)) (o .0) (o .1) l path g rest (sym q ∙ e))
+
+-- no text at all
+no-texts : textsIn [] ≡ []
+unfolding textsIn textsFrom
+no-texts = refl
+
+whole-nothing : Whole []
+unfolding Whole textsIn textsFrom
+whole-nothing more = refl
+
+-- THE FIRST WORD
+module _ (words image : List ℕ) (kind n : ℕ) (b : Bytes words) (s : length words ≤ 4096) (e : frameFirst words ≡ Framed kind n) (bi : Bytes image) (good : checkTree image ≡ Good) where
+  abbrev first : List ℕ
+  first = partOf words 3 n
+
+  abbrev later : List (List ℕ)
+  later = textsIn (drop (3 + n) words)
+
+  texts-first : textsIn words ≡ first ∷ later
+  texts-first = words-more words 0 kind n b s e
+
+  path-first : textsIn (take (3 + n) words) ≡ first ∷ []
+  path-first = path-more words 0 kind n b s e whole-nothing ∙ ap (λ (l : List (List ℕ)). l ++ (first ∷ [])) no-texts
+
+  pub whole-first : Whole (take (3 + n) words)
+  whole-first = path-whole words 0 kind n b s e whole-nothing
+
+  pub first-unknown : findNode image 0 first ≡ Nowhere → fault 4 first ≡ parseWords (framesOf image) (textsIn words)
+  unfolding parseWords parseIn
+  first-unknown f =
+      let h = rw f at (found-in image 0 first (good-sound image bi good)) in
+      sym (ap (parseWords (framesOf image)) texts-first ∙ ap (λ (fs : List Frame). parseIn fs first later) h)
+
+  -- it names a command
+  module _ (top bottom : ℕ) (f : findNode image 0 first ≡ Between top bottom) where
+    abbrev command : List Frame
+    command = subtree 0 first (framesOf image)
+
+    abbrev place : Place
+    place = record { start = top; end = bottom; at = 3 + n }
+
+    holds : (top ≤ bottom) × (bottom ≤ length image) × (partAt image place ≡ flat command)
+    holds = rw f at (found-in image 0 first (good-sound image bi good))
+
+    command-fair : allFair command ≡ true
+    command-fair = fair-subtree 0 first (framesOf image) (good-sound image bi good .fair)
+
+    pub first-within : Within words image place
+    first-within = record { order = holds .0; inside = holds .1; passed = word-within words 0 kind n e }
+
+    pub first-sound : Sound (partAt image place)
+    first-sound = rw (holds .2) (sound-flat command command-fair)
+
+    abbrev reached : Reached
+    reached = descend 1 (framesOf (partAt image place)) (textsIn (take (3 + n) words)) later
+
+    frames-first : framesOf (partAt image place) ≡ command
+    frames-first = ap framesOf (holds .2) ∙ frames-flat command (all-fit command command-fair)
+
+    reached-is : reached ≡ descend 1 command (first ∷ []) later
+    reached-is = ap (λ (fs : List Frame). descend 1 fs (textsIn (take (3 + n) words)) later) frames-first ∙ ap (λ (p : List (List ℕ)). descend 1 command p later) path-first
+
+    says : (g : Frame) (m : List Frame) → command ≡ g ∷ m → concluded put (descend 1 command (first ∷ []) later) ≡ parseIn command first later
+    unfolding parseIn
+    says g m q =
+        ap (λ (fs : List Frame). concluded put (descend 1 fs (first ∷ []) later)) q
+        ∙ sym (ap (λ (fs : List Frame). onSubtree fs (fault 4 first) (λ found. concluded put (descend 1 found (first ∷ []) later))) q)
+
+    pub first-judged : concluded stored reached ≡ parseWords (framesOf image) (textsIn words)
+    unfolding parseWords
+    first-judged =
+        let some = found-some image 0 first top bottom bi f in
+        let m = subtree-modest image bi good first later (first ∷ []) (some .0) (some .1 .0) (some .1 .1) in
+        ap (concluded stored) reached-is
+        ∙ sym (concluded-same (descend 1 command (first ∷ []) later) m)
+        ∙ says (some .0) (some .1 .0) (some .1 .1)
+        ∙ sym (ap (parseWords (framesOf image)) texts-first)
+
+-- a judgement told in other words
+pub judged-as : (words image rest left : List ℕ) (j : Judged) (a b : Outcome) → a ≡ b → Judging words image rest left j a → Judging words image rest left j b
+judged-as words image rest left j a b e x = record { outcome = x .outcome ∙ e; within = x .within; kept = x .kept; room = x .room }
+
+-- a verdict where there is no command
+pub judged-without : (words image rest : List ℕ) (j : Judged) (v : Verdict) (o : Outcome) → j .verdict ≡ v → j .scan .kept ≡ 0 → ((words image : List ℕ) → Within words image (j .place))
+    → ((part : List ℕ) (path : List (List ℕ)) (found : Found) → outcomeBy words part path found v ≡ o) → Judging words image rest rest j o
+unfolding outcomeIn
+judged-without words image rest j v o e k w q =
+    record {
+      outcome = ap (outcomeBy words (partAt image (j .place)) (textsIn (take (j .place .at) words)) (foundOf words (partAt image (j .place)) rest (j .scan))) e ∙ q _ _ _;
+      within = w words image;
+      kept = omega arith;
+      room = refl;
+    }
+
+pub no-words : (words image : List ℕ) → textsIn words ≡ [] → fault 4 emptyCommand ≡ parseWords (framesOf image) (textsIn words)
+unfolding parseWords
+no-words words image e = sym (ap (parseWords (framesOf image)) e)

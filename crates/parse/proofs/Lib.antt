@@ -1,0 +1,4 @@
+-- The laws of the crate `parse` that belong to no one function.
+pub mod Definitions
+pub mod Descents
+pub mod Judgements

@@ -1,0 +1,81 @@
+-- What a line says (01, "Arguments"; `CommandParser::parse` of 000): the command that its words name, its arguments, or the fault.
+use Prim.Native.Nat.{ℕ, suc}
+use mathlib.Core.Bool.{Bool, false, cond, not}
+use mathlib.Core.List.{List, [], _∷_, _++_}
+use mathlib.Core.Option.{Option, none, some}
+use lib.Dec.{eqb}
+use Rattle.image.specs.Frames.{Frame, node, option, flag}
+use Rattle.tree.specs.Images.{framesOf}
+use Rattle.lookup.specs.Subtrees.{subtree}
+use Rattle.words.specs.Tokens.{wordsOf}
+use Rattle.table.specs.Map.{Map, put, has}
+use Rattle.scan.specs.Meanings.{definitionsOf, nameOf}
+use Rattle.scan.specs.Arguments.{Found, noneFound, Insert, Stand, go, wait, unknownOption, missingValue, args}
+
+-- the command that words lead to: its path, the words left over, and its subtree
+pub record Reached : Type 0 where
+  pub path : List (List ℕ)
+  pub words : List (List ℕ)
+  pub frames : List Frame
+
+abbrev pub onSubtree : {A : Type 0} → List Frame → A → (List Frame → A) → A
+onSubtree [] absent found = absent
+onSubtree (f ∷ l) absent found = found (f ∷ l)
+
+-- words are followed while they name a child, which is a node of that depth in the subtree
+unfoldable pub descend : ℕ → List Frame → List (List ℕ) → List (List ℕ) → Reached
+descend depth frames path [] = record { path = path; words = []; frames = frames }
+descend depth frames path (w ∷ words) =
+    onSubtree (subtree depth w frames)
+    (record { path = path; words = w ∷ words; frames = frames })
+    (λ child. descend (suc depth) child (path ++ (w ∷ [])) words)
+
+-- an option that is required and whose name is no key
+abbrev pub lacking : ℕ → List ℕ → Map → Bool
+lacking required name options = cond (eqb required 1) (not (has name options)) false
+
+unfoldable pub isMissing : Map → Frame → Bool
+isMissing options (node depth handler name description usage) = false
+isMissing options (option required short name long description) = lacking required name options
+isMissing options (flag short name long description) = false
+
+-- required names are looked up among the keys in definition order
+unfoldable pub missingRequired : List Frame → Map → Option (List ℕ)
+missingRequired [] options = none
+missingRequired (f ∷ defs) options = cond (isMissing options f) (some (nameOf f)) (missingRequired defs options)
+
+-- what a line says: a command, or a fault by its number and its text
+pub data Outcome : Type 0 where
+  parsed : (path : List (List ℕ)) (found : Found) → Outcome
+  fault : (number : ℕ) (told : List ℕ) → Outcome
+
+abbrev pub onMissing : {A : Type 0} → Option (List ℕ) → (List ℕ → A) → A → A
+onMissing none missing fine = fine
+onMissing (some name) missing fine = missing name
+
+-- the end of the words: an option that still waits has no value, and then what is required must be there
+abbrev pub outcomeOf : List (List ℕ) → List Frame → Stand → Outcome
+outcomeOf path defs (go found) = onMissing (missingRequired defs (found .options)) (λ name. fault 7 name) (parsed path found)
+outcomeOf path defs (wait found key told) = fault 6 told
+outcomeOf path defs (unknownOption told) = fault 5 told
+outcomeOf path defs (missingValue told) = fault 6 told
+
+-- the arguments of the command that was reached, with a map's insert
+unfoldable pub concluded : Insert → Reached → Outcome
+concluded insert r = outcomeOf (r .path) (definitionsOf (r .frames)) (args insert (definitionsOf (r .frames)) (go noneFound) (r .words))
+
+-- a line whose first word names the command of that subtree, which is empty if there is none
+unfoldable pub parseIn : List Frame → List ℕ → List (List ℕ) → Outcome
+parseIn frames w words = onSubtree frames (fault 4 w) (λ found. concluded put (descend 1 found (w ∷ []) words))
+
+-- `empty command`
+abbrev pub emptyCommand : List ℕ
+emptyCommand = 0x65 ∷ 0x6d ∷ 0x70 ∷ 0x74 ∷ 0x79 ∷ 0x20 ∷ 0x63 ∷ 0x6f ∷ 0x6d ∷ 0x6d ∷ 0x61 ∷ 0x6e ∷ 0x64 ∷ []
+
+unfoldable pub parseWords : List Frame → List (List ℕ) → Outcome
+parseWords frames [] = fault 4 emptyCommand
+parseWords frames (w ∷ words) = parseIn (subtree 0 w frames) w words
+
+-- a line under a tree
+unfoldable pub parseLine : List ℕ → List ℕ → Outcome
+parseLine image line = parseWords (framesOf image) (wordsOf line)

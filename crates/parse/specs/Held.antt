@@ -1,0 +1,72 @@
+-- How the code holds what a line says: a verdict, the command's place in the image and in the words, and the scan.
+use Prim.Native.Nat.{ℕ, _-_, _≤_, _<_}
+use mathlib.Core.Path.{_≡_}
+use mathlib.Core.Bool.{Bool, true}
+use mathlib.Core.List.{List, [], _∷_}
+use mathlib.Core.Option.{Option, none, some}
+use lib.ListN.{length, take, drop}
+use Rattle.frame.specs.Series.{textsIn}
+use Rattle.image.specs.Frames.{Frame}
+use Rattle.image.specs.Limits.{both, fair}
+use Rattle.tree.specs.Images.{framesOf, flat}
+use Rattle.table.specs.Held.{partOf}
+use Rattle.scan.specs.Arguments.{Found}
+use Rattle.scan.specs.Held.{toldOf, foundOf, Whole}
+use Rattle.parse.specs.Commands.{Reached, Outcome, parsed, fault, emptyCommand, descend}
+use Rattle.parse.specs.declared.required.Required.{Required}
+use Rattle.parse.specs.declared.required.Required.the-variants.{Fine as AllThere, Missing}
+use Rattle.parse.specs.declared.command.Place.{Place}
+use Rattle.parse.specs.declared.judging.Verdict.{Verdict}
+use Rattle.parse.specs.declared.judging.Verdict.the-variants.{Fine, NoWords, UnknownCommand, UnknownOption, MissingValue, MissingRequired}
+use Rattle.parse.specs.declared.judging.Judged.{Judged}
+
+-- a name by where it stands in the command's part of the image
+abbrev pub requiredBy : List ℕ → Required → Option (List ℕ)
+requiredBy part AllThere = none
+requiredBy part (Missing name) = some (partOf part (name .start) (name .length))
+
+-- the command's part of the image
+abbrev pub partAt : List ℕ → Place → List ℕ
+partAt image place = take (place .end - place .start) (drop (place .start) image)
+
+-- what a verdict says
+abbrev pub outcomeBy : List ℕ → List ℕ → List (List ℕ) → Found → Verdict → Outcome
+outcomeBy words part path found Fine = parsed path found
+outcomeBy words part path found NoWords = fault 4 emptyCommand
+outcomeBy words part path found (UnknownCommand word) = fault 4 (partOf words (word .start) (word .length))
+outcomeBy words part path found (UnknownOption told) = fault 5 (toldOf words told)
+outcomeBy words part path found (MissingValue told) = fault 6 (toldOf words told)
+outcomeBy words part path found (MissingRequired name) = fault 7 (partOf part (name .start) (name .length))
+
+unfoldable pub outcomeIn : List ℕ → List ℕ → List ℕ → Judged → Outcome
+outcomeIn words image rest j =
+    outcomeBy words (partAt image (j .place)) (textsIn (take (j .place .at) words)) (foundOf words (partAt image (j .place)) rest (j .scan)) (j .verdict)
+
+-- a place within the image and the words
+pub record Within (words image : List ℕ) (place : Place) : Type 0 where
+  pub order : place .start ≤ place .end
+  pub inside : place .end ≤ length image
+  pub passed : place .at ≤ length words
+
+-- bytes that are frames, one behind the other, each within its limits
+unfoldable pub allFair : List Frame → Bool
+allFair [] = true
+allFair (f ∷ l) = both (fair f) (allFair l)
+
+pub record Sound (s : List ℕ) : Type 0 where
+  pub joined : s ≡ flat (framesOf s)
+  pub fair : allFair (framesOf s) ≡ true
+
+-- a place that words have led to
+pub record Descended (words image : List ℕ) (place : Place) (r : Reached) : Type 0 where
+  pub path : textsIn (take (place .at) words) ≡ r .path
+  pub left : textsIn (drop (place .at) words) ≡ r .words
+  pub frames : framesOf (partAt image place) ≡ r .frames
+  pub within : Within words image place
+
+-- what was judged, and what can be lent of it
+pub record Judging (words image rest left : List ℕ) (j : Judged) (o : Outcome) : Type 0 where
+  pub outcome : outcomeIn words image left j ≡ o
+  pub within : Within words image (j .place)
+  pub kept : j .scan .kept ≤ length left
+  pub room : length left ≡ length rest

@@ -1,0 +1,134 @@
+// What a line says, before anything is written: a verdict on its words, with all that a report needs.
+use super::command::Place;
+use super::command::find_command;
+use super::required::Required;
+use super::required::validate_required_options;
+use frame::Framed;
+use frame::read_frame;
+use image::Head;
+use image::head_of;
+use lookup::Part as Found;
+use lookup::find_node;
+use scan::Progress;
+use scan::Scan;
+use scan::Told;
+use scan::parse_args;
+use table::Part;
+ghost use mathlib.Core.Path.{_≡_};
+ghost use mathlib.Core.List.{List};
+ghost use Prim.Native.Nat.{ℕ, _≤_};
+ghost use lib.ListN.{length};
+ghost use Rattle.frame.specs.Series.{textsIn};
+ghost use Rattle.tree.specs.Images.{framesOf};
+ghost use Rattle.tree.specs.Rules.{checkTree};
+ghost use Rattle.tree.specs.declared.check.Checked.the-variants.{Good};
+ghost use Rattle.scan.specs.Meanings.{definitionsOf, definitionsAt};
+ghost use Rattle.scan.specs.Held.{stored, foundOf, standOf};
+ghost use Rattle.parse.specs.Commands.{Reached, outcomeOf, concluded, parseWords};
+ghost use Rattle.parse.specs.Held.{outcomeBy, Within, Descended, Judging};
+
+// Texts are told by where they stand: a word in the words, a name in the command's part of the image.
+pub enum Verdict {
+    Fine,
+    NoWords,
+    UnknownCommand(Part),
+    UnknownOption(Told),
+    MissingValue(Told),
+    MissingRequired(Part),
+}
+
+pub struct Judged {
+    pub verdict: Verdict,
+    pub place: Place,
+    pub scan: Scan,
+}
+
+// The verdict on a scan that is at its end.
+fn verdict_of<'a>(words: &'a [u8], node: &'a [u8], from: usize, scan: Scan) -> Verdict
+    ensures { λ r. ⌜ ((path : List (List ℕ)) (rest : List ℕ) → outcomeBy (now (words .entry)) (now (node .entry)) path (foundOf (now (words .entry)) (now (node .entry)) rest scan) r ≡ outcomeOf path (definitionsAt (now (node .entry)) from) (standOf (now (words .entry)) (now (node .entry)) rest scan)) ⌝ }
+{
+    let progress = scan.progress;
+    match progress {
+        Progress::Going => {
+            let options = scan.options;
+            match validate_required_options(words, node, from, options) {
+                Required::Fine => Verdict::Fine,
+                Required::Missing(name) => Verdict::MissingRequired(name),
+            }
+        }
+        Progress::Waiting {
+            source: _,
+            key: _,
+            told,
+        } => Verdict::MissingValue(told),
+        Progress::UnknownOption(told) => Verdict::UnknownOption(told),
+        Progress::MissingValue(told) => Verdict::MissingValue(told),
+    }
+}
+
+// Where the definitions of a command begin: behind its node.
+fn definitions_start(node: &[u8]) -> usize
+    ensures { λ r. ⌜ definitionsAt (now (node .entry)) r ≡ definitionsOf (framesOf (now (node .entry))) ⌝ }
+{
+    let Head::Node {
+        depth: _,
+        handler: _,
+        texts,
+    } = head_of(node)
+    else {
+        return node.len();
+    };
+    texts.size
+}
+
+// A verdict where there is no command.
+fn without_command(verdict: Verdict) -> Judged
+    ensures { λ r. ⌜ (r .verdict ≡ verdict) × (r .scan .kept ≡ 0) × ((words image : List ℕ) → Within words image (r .place)) ⌝ }
+{
+    Judged {
+        verdict,
+        place: Place {
+            start: 0,
+            end: 0,
+            at: 0,
+        },
+        scan: Scan::start(),
+    }
+}
+
+// The arguments of the command at a place.
+fn judge_arguments<'a>(words: &'a [u8], image: &'a [u8], place: Place, rest: &mut [u8]) -> Judged
+    requires { ⌜ (length (now words) ≤ 4096) × (length (now image) ≤ 32768) × (length (now words) ≤ length (now rest)) × Within (now words) (now image) place ⌝ }
+    ensures { λ r. ⌜ ((to : Reached) → Descended (now (words .entry)) (now (image .entry)) place to → Judging (now (words .entry)) (now (image .entry)) (now (rest .entry)) (now (rest .exit)) r (concluded stored to)) ⌝ }
+{
+    let start = place.start;
+    let end = place.end;
+    let node = &image[start..end];
+    let from = definitions_start(node);
+    let scan = parse_args(words, node, from, place.at, rest);
+    Judged {
+        verdict: verdict_of(words, node, from, scan),
+        place,
+        scan,
+    }
+}
+
+// What the words of a line say under a well-formed tree; positional words are kept in `rest`.
+pub fn judge<'a>(words: &'a [u8], image: &'a [u8], rest: &mut [u8]) -> Judged
+    requires { ⌜ (length (now words) ≤ 4096) × (length (now words) ≤ length (now rest)) × (checkTree (now image) ≡ Good) ⌝ }
+    ensures { λ r. ⌜ Judging (now (words .entry)) (now (image .entry)) (now (rest .entry)) (now (rest .exit)) r (parseWords (framesOf (now (image .entry))) (textsIn (now (words .entry)))) ⌝ }
+{
+    let Framed::Frame { kind: _, length } = read_frame(words, 0) else {
+        return without_command(Verdict::NoWords);
+    };
+    let behind = 3 + length;
+    let Found::Between { start, end } = find_node(image, 0, &words[3..behind]) else {
+        return without_command(Verdict::UnknownCommand(Part { start: 3, length }));
+    };
+    let first = Place {
+        start,
+        end,
+        at: behind,
+    };
+    judge_arguments(words, image, find_command(words, image, first), rest)
+}
