@@ -71,12 +71,12 @@ unfolding outcomeIn concluded
 arguments-judged words image rest left place to j «from» d at defs s v h =
     record {
       outcome =
-        ap (λ (p : Place). outcomeBy words (partAt image p) (textsIn (take (p .at) words)) (foundOf words (partAt image p) left (j .scan)) (j .verdict)) at
-        ∙ v (textsIn (take (place .at) words)) left
-        ∙ ap (λ (a : Stand). outcomeOf (textsIn (take (place .at) words)) (definitionsAt (partAt image place) «from») a) (s .stand)
-        ∙ ap (λ (l : List Frame). outcomeOf (textsIn (take (place .at) words)) l (args stored l (go noneFound) (textsIn (drop (place .at) words)))) (defs ∙ ap definitionsOf (d .frames))
-        ∙ ap (λ (p : List (List ℕ)). outcomeOf p (definitionsOf (to .frames)) (args stored (definitionsOf (to .frames)) (go noneFound) (textsIn (drop (place .at) words)))) (d .path)
-        ∙ ap (λ (l : List (List ℕ)). outcomeOf (to .path) (definitionsOf (to .frames)) (args stored (definitionsOf (to .frames)) (go noneFound) l)) (d .left);
+          ap (λ (p : Place). outcomeBy words (partAt image p) (textsIn (take (p .at) words)) (foundOf words (partAt image p) left (j .scan)) (j .verdict)) at
+          ∙ v (textsIn (take (place .at) words)) left
+          ∙ ap (λ (a : Stand). outcomeOf (textsIn (take (place .at) words)) (definitionsAt (partAt image place) «from») a) (s .stand)
+          ∙ ap (λ (l : List Frame). outcomeOf (textsIn (take (place .at) words)) l (args stored l (go noneFound) (textsIn (drop (place .at) words)))) (defs ∙ ap definitionsOf (d .frames))
+          ∙ ap (λ (p : List (List ℕ)). outcomeOf p (definitionsOf (to .frames)) (args stored (definitionsOf (to .frames)) (go noneFound) (textsIn (drop (place .at) words)))) (d .path)
+          ∙ ap (λ (l : List (List ℕ)). outcomeOf (to .path) (definitionsOf (to .frames)) (args stored (definitionsOf (to .frames)) (go noneFound) l)) (d .left);
       within = rw at (d .within);
       kept = let k = s .kept in let l = s .room in omega arith;
       room = s .room;

@@ -2,3 +2,5 @@
 pub mod Definitions
 pub mod Descents
 pub mod Judgements
+pub mod Tellings
+pub mod Lines

@@ -70,3 +70,28 @@ pub record Judging (words image rest left : List ℕ) (j : Judged) (o : Outcome)
   pub within : Within words image (j .place)
   pub kept : j .scan .kept ≤ length left
   pub room : length left ≡ length rest
+
+-- the number and the text of a verdict's fault, the text in its dashes and the part behind them
+abbrev pub numberOf : Verdict → ℕ
+numberOf Fine = 0
+numberOf NoWords = 4
+numberOf (UnknownCommand word) = 4
+numberOf (UnknownOption told) = 5
+numberOf (MissingValue told) = 6
+numberOf (MissingRequired name) = 7
+
+abbrev pub dashesOf : Verdict → ℕ
+dashesOf Fine = 0
+dashesOf NoWords = 0
+dashesOf (UnknownCommand word) = 0
+dashesOf (UnknownOption told) = told .dashes
+dashesOf (MissingValue told) = told .dashes
+dashesOf (MissingRequired name) = 0
+
+abbrev pub textOf : List ℕ → List ℕ → Verdict → List ℕ
+textOf words part Fine = []
+textOf words part NoWords = emptyCommand
+textOf words part (UnknownCommand word) = partOf words (word .start) (word .length)
+textOf words part (UnknownOption told) = partOf words (told .start) (told .length)
+textOf words part (MissingValue told) = partOf words (told .start) (told .length)
+textOf words part (MissingRequired name) = partOf part (name .start) (name .length)

@@ -206,7 +206,7 @@ module _ (defs : List Frame) (fo : length (optionKeys defs) ≤ 64) (ff : length
     where
       by : (x : Means) → MeansIn (hasShort c) defs x
           → SameStep defs (onMeans x (λ name. go (withFlag put f name)) (λ name. wait f name (dash ∷ encode c)) (unknownOption (dash ∷ encode c)))
-            (onMeans x (λ name. go (withFlag stored f name)) (λ name. wait f name (dash ∷ encode c)) (unknownOption (dash ∷ encode c)))
+          (onMeans x (λ name. go (withFlag stored f name)) (λ name. wait f name (dash ∷ encode c)) (unknownOption (dash ∷ encode c)))
       by (aFlag x) m = flag-same f x r (flag-name (hasShort c) defs x m)
       by (anOption x) m = record { same = refl; roomy = (r, option-name (hasShort c) defs x m) }
       by nothing m = record { same = refl; roomy = tt }
@@ -234,7 +234,7 @@ module _ (defs : List Frame) (fo : length (optionKeys defs) ≤ 64) (ff : length
     where
       by : (x : Means) → MeansIn (hasKey k) defs x
           → SameStep defs (onMeans x (λ name. go (withFlag put f k)) (λ name. wait f k (dash ∷ dash ∷ k)) (unknownOption (dash ∷ dash ∷ k)))
-            (onMeans x (λ name. go (withFlag stored f k)) (λ name. wait f k (dash ∷ dash ∷ k)) (unknownOption (dash ∷ dash ∷ k)))
+          (onMeans x (λ name. go (withFlag stored f k)) (λ name. wait f k (dash ∷ dash ∷ k)) (unknownOption (dash ∷ dash ∷ k)))
       by (aFlag x) m = flag-same f k r (flag-key k defs x m)
       by (anOption x) m = record { same = refl; roomy = (r, option-key k defs x m) }
       by nothing m = record { same = refl; roomy = tt }

@@ -1,0 +1,140 @@
+-- What the split of a line into words tells the call: its refusals, and that the words which are judged are the line's.
+use Prim.Native.Nat.{ℕ, _+_, _*_, _^_, _<_, _≤_, min}
+use mathlib.Core.Path.{_≡_, refl, sym, ap, _∙_}
+use mathlib.Core.Bool.{Bool, true, false, cond}
+use mathlib.Core.List.{List, [], _∷_, _++_}
+use native.Mathlib.Omega.{arith}
+use borrow.Author.Tests.{ltb-true, ltb-false}
+use lib.Dec.{ltb}
+use lib.ListN.{length, take, drop, length-append, length-take}
+use lib.Seq.{take-append-seam}
+use Rattle.buffer.specs.Write.{over}
+use Rattle.buffer.proofs.Choices.{then-is, else-is}
+use Rattle.frame.specs.Framed.{frameOf}
+use Rattle.frame.specs.Series.{textsIn, runs}
+use Rattle.frame.proofs.Frames.{length-frameOf}
+use Rattle.frame.proofs.Series.{AllShort, texts-runs}
+use Rattle.text.specs.Decoding.{wellFormedLength}
+use Rattle.text.proofs.Prefix.{prefix-fits}
+use Rattle.words.specs.Tokens.{wordsOf, framesOf as wordFrames}
+use Rattle.words.specs.Answer.{written, answerFor, leavesBy, leavesFor, Tokenized}
+use Rattle.words.specs.declared.tokenizer.Tokens.{Tokens}
+use Rattle.words.specs.declared.tokenizer.Tokens.the-variants.{Words, LineTooLong as TooLong, IllFormed as Ill, NoRoom as TooShort}
+use Rattle.words.proofs.Standing.{written-most}
+use Rattle.tree.specs.Images.{framesOf}
+use Rattle.tree.specs.Rules.{checkTree}
+use Rattle.tree.specs.declared.check.Checked.{Checked}
+use Rattle.tree.specs.declared.check.Checked.the-variants.{Good, BadFrame}
+use Rattle.parse.specs.Commands.{Outcome, parseWords, parseLine}
+use Rattle.parse.specs.Answer.{outcomeAnswer, outcomeLeaves, Telling, onChecked, parseAnswer, parseLeaves, Parsing}
+use Rattle.parse.specs.declared.answer.Parsed.{Parsed}
+use Rattle.parse.specs.declared.answer.Parsed.the-variants.{BadTree, LineTooLong, IllFormed}
+
+-- the frames of words, as a series
+series : (l : List (List ℕ)) → wordFrames l ≡ runs (frameOf 0x14) l
+unfolding wordFrames runs
+series [] = refl
+series (w ∷ l) = ap (λ (s : List ℕ). frameOf 0x14 w ++ s) (series l)
+
+short-all : (l : List (List ℕ)) → length (runs (frameOf 0x14) l) ≤ 4096 → AllShort l
+unfolding runs
+short-all [] h = tt
+short-all (w ∷ l) h =
+    let a = length-append (frameOf 0x14 w) (runs (frameOf 0x14) l) in
+    let b = length-frameOf 0x14 w in
+    (omega arith, short-all l (omega arith))
+
+pub line-texts : (line : List ℕ) → length (written line) ≤ 4096 → textsIn (written line) ≡ wordsOf line
+unfolding written
+line-texts line h = ap textsIn (series (wordsOf line)) ∙ texts-runs 0x14 (wordsOf line) (short-all (wordsOf line) (let e = ap length (series (wordsOf line)) in omega arith))
+
+-- WHAT AN ANSWER TELLS of a line
+abbrev pub LineTold : List ℕ → Tokens → Type 0
+LineTold line (Words n) =
+    (ltb 1024 (length line) ≡ false) × (ltb (wellFormedLength line) (length line) ≡ false) × (length (written line) ≤ 4096) × (n ≡ length (written line))
+LineTold line (TooLong n) = (ltb 1024 (length line) ≡ true) × (n ≡ min (length line) 65535)
+LineTold line (Ill n) = (ltb 1024 (length line) ≡ false) × (ltb (wellFormedLength line) (length line) ≡ true) × (n ≡ wellFormedLength line)
+LineTold line (TooShort n) = ⊥
+
+pub line-told : (line : List ℕ) (room : ℕ) → room ≡ 4096 → LineTold line (answerFor line room)
+unfolding answerFor
+line-told line room e = by (ltb 1024 (length line)) refl (ltb (wellFormedLength line) (length line)) refl (ltb room (length (written line))) refl
+  where
+    by : (x : Bool) → ltb 1024 (length line) ≡ x → (y : Bool) → ltb (wellFormedLength line) (length line) ≡ y → (z : Bool) → ltb room (length (written line)) ≡ z
+        → LineTold line (cond x (TooLong (min (length line) 65535)) (cond y (Ill (wellFormedLength line)) (cond z (TooShort (length (written line))) (Words (length (written line))))))
+    by true p y q z r = (p, refl)
+    by false p true q z r = (p, q, refl)
+    by false p false q true r =
+        let a : length line ≤ 1024 = ltb-false 1024 (length line) p in
+        let b : length line ≤ wellFormedLength line = ltb-false (wellFormedLength line) (length line) q in
+        let c : room < length (written line) = ltb-true room (length (written line)) r in
+        let d = prefix-fits line in
+        let w = written-most line (omega arith) in
+        omega arith
+    by false p false q false r = let c : length (written line) ≤ room = ltb-false room (length (written line)) r in (p, q, omega arith, refl)
+
+told-as : (line : List ℕ) (t u : Tokens) → t ≡ u → LineTold line t → LineTold line u
+told-as line t u e x = rw e at x
+
+module _ (line words left : List ℕ) (t : Tokens) (k : Tokenized line words t left) (room : length words ≡ 4096) where
+  pub line-by : (u : Tokens) → t ≡ u → LineTold line u
+  line-by u e = told-as line (answerFor line (length words)) u (sym (k .answer) ∙ e) (line-told line (length words) room)
+
+  -- the words that are lent on
+  pub line-words : (n : ℕ) → t ≡ Words n → take n left ≡ written line
+  unfolding leavesFor over
+  line-words n e =
+      let x = line-by (Words n) e in
+      let b : left ≡ written line ++ drop (length (written line)) words = k .bytes ∙ ap (λ (u : Tokens). leavesBy u (written line) words) (sym (k .answer) ∙ e) in
+      ap (take n) b ∙ ap (λ (m : ℕ). take m (written line ++ drop (length (written line)) words)) (x .3) ∙ take-append-seam (written line) (drop (length (written line)) words)
+
+  pub left-length : (n : ℕ) → t ≡ Words n → n ≤ length left
+  left-length n e =
+      let x = line-by (Words n) e in
+      let l = ap length (line-words n e) in
+      let m : length (take n left) ≤ length left = rw length-take (omega arith) in
+      let q = x .3 in
+      omega arith
+
+-- THE CALL under a well-formed tree
+module _ (image line out : List ℕ) (good : checkTree image ≡ Good) where
+  as-good : {A : Type 0} (bad : ℕ → A) (a : A) → onChecked (checkTree image) bad a ≡ a
+  as-good bad a = ap (λ (x : Checked). onChecked x bad a) good
+
+  pub line-long : (n : ℕ) → LineTold line (TooLong n) → Parsing image line out (LineTooLong n) out
+  unfolding parseAnswer parseLeaves
+  line-long n x =
+      record {
+        answer = ap LineTooLong (x .1) ∙ sym (as-good _ _ ∙ then-is _ _ _ (x .0));
+        bytes = sym (as-good _ _ ∙ then-is _ _ _ (x .0));
+      }
+
+  pub line-ill : (n : ℕ) → LineTold line (Ill n) → Parsing image line out (IllFormed n) out
+  unfolding parseAnswer parseLeaves
+  line-ill n x =
+      record {
+        answer = ap IllFormed (x .2) ∙ sym (as-good _ _ ∙ else-is _ _ _ (x .0) ∙ then-is _ _ _ (x .1));
+        bytes = sym (as-good _ _ ∙ else-is _ _ _ (x .0) ∙ then-is _ _ _ (x .1));
+      }
+
+  pub line-parsed : (n : ℕ) (words : List ℕ) (r : Parsed) (left : List ℕ) → LineTold line (Words n) → words ≡ written line → Telling (parseWords (framesOf image) (textsIn words)) out r left
+      → Parsing image line out r left
+  unfolding parseAnswer parseLeaves parseLine
+  line-parsed n words r left x e t =
+      let o : parseWords (framesOf image) (textsIn words) ≡ parseWords (framesOf image) (wordsOf line) = ap (λ (s : List ℕ). parseWords (framesOf image) (textsIn s)) e ∙ ap (parseWords (framesOf image)) (line-texts line (x .2)) in
+      record {
+        answer = t .answer ∙ ap (λ (y : Outcome). outcomeAnswer y (length out)) o ∙ sym (as-good _ _ ∙ else-is _ _ _ (x .0) ∙ else-is _ _ _ (x .1));
+        bytes = t .bytes ∙ ap (λ (y : Outcome). outcomeLeaves y out) o ∙ sym (as-good _ _ ∙ else-is _ _ _ (x .0) ∙ else-is _ _ _ (x .1));
+      }
+
+as-bad : {A : Type 0} (x : Checked) (n : ℕ) (bad : ℕ → A) (a : A) → x ≡ BadFrame n → onChecked x bad a ≡ bad n
+as-bad x n bad a e = ap (λ (y : Checked). onChecked y bad a) e
+
+pub tree-bad : (image line out : List ℕ) (n : ℕ) → checkTree image ≡ BadFrame n → Parsing image line out (BadTree n) out
+unfolding parseAnswer parseLeaves
+tree-bad image line out n e =
+    record { answer = sym (as-bad (checkTree image) n (λ m. BadTree m) _ e); bytes = sym (as-bad (checkTree image) n (λ m. out) _ e) }
+
+-- an outcome told in other words
+pub told-same : (a b : Outcome) (out left : List ℕ) (r : Parsed) → a ≡ b → Telling a out r left → Telling b out r left
+told-same a b out left r e t = rw (← e) t

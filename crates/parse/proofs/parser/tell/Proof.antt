@@ -1,0 +1,115 @@
+-- `parse::parser::tell` meets its contract: what is written is the fault or the report of what was judged.
+use Prim.Native.Nat.{_+_, _-_, _<_, _≤_}
+use mathlib.Core.Path.{refl, sym, ap, _∙_}
+use native.Mathlib.Omega.{arith}
+use lib.ListN.{length, take, length-take}
+use lib.Seq.{length-take-le}
+use Rattle.frame.specs.Series.{textsIn}
+use Rattle.scan.specs.Held.{foundOf}
+use Rattle.parse.specs.Held.{partAt, outcomeIn, textOf}
+use Rattle.parse.proofs.Descents.{part-most}
+use Rattle.parse.proofs.Tellings.{text-short, fault-telling, report-telling}
+use borrow.Author.Needs.{needs}
+use Rattle.parse.proofs.parser.tell.Statement.{statement}
+use Rattle.parse.proofs.parser.tell.Tie as tie
+
+sub-node : tie.Need-sub-node
+sub-node c =
+    let w = c .before .before .before .before .before .pre .0 in
+    let a = w .order in
+    let b = w .inside in
+    omega arith
+
+part-node-start : tie.Need-part-node-start
+part-node-start c =
+    let w = c .before .before .before .before .before .pre .0 in
+    let a = w .order in
+    let b = w .inside in
+    omega arith
+
+part-node-end : tie.Need-part-node-end
+part-node-end c =
+    let w = c .before .before .before .before .before .pre .0 in
+    let a = w .order in
+    let b = w .inside in
+    omega arith
+
+number-of-requires : tie.Need-number-of-requires
+number-of-requires c κs = search needs
+
+dashes-of-requires : tie.Need-dashes-of-requires
+dashes-of-requires c κs = search needs
+
+slice-aggregate-text-of : tie.Need-slice-aggregate-text-of
+slice-aggregate-text-of c = search needs
+
+text-of-requires : tie.Need-text-of-requires
+text-of-requires c κs = search needs
+
+write-fault-requires : tie.Need-write-fault-requires
+write-fault-requires c κs =
+    let z = c .before .before .before .before .before .before .before .before .before .before .before .before .pre .3 in
+    let y = c .before .before .before .before .before .before .before .before .before .before .before .before .pre .4 in
+    let w = c .before .before .before .before .before .before .before .before .before .before .before .before .pre .0 .inside in
+    let m = part-most (c .before .before .before .before .before .before .before .before .before .before .before .before .args .image .now) (c .before .before .before .before .before .before .before .before .before .before .before .before .args .judged .place) in
+    let t : length (textOf (c .before .before .before .before .before .before .before .before .before .before .before .before .args .words .now) (partAt (c .before .before .before .before .before .before .before .before .before .before .before .before .args .image .now) (c .before .before .before .before .before .before .before .before .before .before .before .before .args .judged .place)) (c .before .before .before .before .before .before .before .before .before .before .before .before .args .judged .verdict)) ≤ 32768 = text-short (c .before .before .before .before .before .before .before .before .before .before .before .before .args .words .now) (partAt (c .before .before .before .before .before .before .before .before .before .before .before .before .args .image .now) (c .before .before .before .before .before .before .before .before .before .before .before .before .args .judged .place)) (c .before .before .before .before .before .before .before .before .before .before .before .before .args .judged .verdict) (omega arith) (omega arith) in
+    let e = ap length (c .before .text-of .ensures) in
+    let d = c .before .before .before .dashes-of .ensures .1 in
+    omega arith
+
+answer-requires : tie.Need-answer-requires
+answer-requires c κs = search needs
+
+same-length : tie.Need-same-length
+same-length c = search needs
+
+returns : tie.Need-returns
+unfolding outcomeIn
+returns c = fault-telling (c .before .before .before .before .before .before .before .before .before .before .before .before .before .before .before .before .args .words .now) (partAt (c .before .before .before .before .before .before .before .before .before .before .before .before .before .before .before .before .args .image .now) (c .before .before .before .before .before .before .before .before .before .before .before .before .before .before .before .before .args .judged .place)) (textsIn (take (c .before .before .before .before .before .before .before .before .before .before .before .before .before .before .before .before .args .judged .place .at) (c .before .before .before .before .before .before .before .before .before .before .before .before .before .before .before .before .args .words .now))) (foundOf (c .before .before .before .before .before .before .before .before .before .before .before .before .before .before .before .before .args .words .now) (partAt (c .before .before .before .before .before .before .before .before .before .before .before .before .before .before .before .before .args .image .now) (c .before .before .before .before .before .before .before .before .before .before .before .before .before .before .before .before .args .judged .place)) (c .before .before .before .before .before .before .before .before .before .before .before .before .before .before .before .before .args .rest .now) (c .before .before .before .before .before .before .before .before .before .before .before .before .before .before .before .before .args .judged .scan)) (c .before .before .before .before .before .before .before .before .before .before .before .before .before .before .before .before .args .out .now) _ _ _ (c .before .before .before .before .before .before .before .before .before .before .before .before .before .before .before .before .args .judged .verdict) _ _ _ (c .before .before .before .before .before .before .before .before .before .number-of .ensures) (c .before .before .before .before .before .before .before .dashes-of .ensures .0) (c .before .before .before .before .before .text-of .ensures) (c .before .before .before .before .before .before .before .before .if1 .taken) (c .before .before .before .write-fault .ensures) (c .answer .ensures)
+
+slice-aggregate-write-report : tie.Need-slice-aggregate-write-report
+slice-aggregate-write-report c = sym (length-take-le _ (c .before .before .before .before .before .before .before .before .before .before .before .before .args .words .now) (c .before .before .before .before .before .before .before .before .before .before .before .before .pre .0 .passed))
+
+slice-aggregate-write-report-2 : tie.Need-slice-aggregate-write-report-2
+slice-aggregate-write-report-2 c = sym (length-take-le _ (c .before .before .before .before .before .before .before .before .before .before .before .before .before .args .rest .now) (c .before .before .before .before .before .before .before .before .before .before .before .before .before .pre .1))
+
+write-report-requires : tie.Need-write-report-requires
+write-report-requires c κs =
+    let l = c .before .before .before .before .before .before .before .before .before .before .before .before .before .before .pre .2 in
+    let k = c .before .before .before .before .before .before .before .before .before .before .before .before .before .before .pre .1 in
+    let z = c .before .before .before .before .before .before .before .before .before .before .before .before .before .before .pre .3 in
+    let w = c .before .before .before .before .before .before .before .before .before .before .before .before .before .before .pre .0 .passed in
+    let g : length (take (c .before .before .before .before .before .before .before .before .before .before .before .before .before .before .args .judged .place .at) (c .before .before .before .before .before .before .before .before .before .before .before .before .before .before .args .words .now)) + length (take (c .before .before .before .before .before .before .before .before .before .before .before .before .before .before .args .judged .scan .kept) (c .before .before .before .before .before .before .before .before .before .before .before .before .before .before .args .rest .now)) < 0x8000000000000000 = rw (length-take, length-take) (omega arith) in
+    g
+
+answer-requires-2 : tie.Need-answer-requires-2
+answer-requires-2 c κs = search needs
+
+same-length-2 : tie.Need-same-length-2
+same-length-2 c = search needs
+
+returns-2 : tie.Need-returns-2
+unfolding outcomeIn foundOf
+returns-2 c = report-telling (c .before .before .before .before .before .before .before .before .before .before .before .before .before .before .before .before .before .before .args .words .now) (partAt (c .before .before .before .before .before .before .before .before .before .before .before .before .before .before .before .before .before .before .args .image .now) (c .before .before .before .before .before .before .before .before .before .before .before .before .before .before .before .before .before .before .args .judged .place)) (textsIn (take (c .before .before .before .before .before .before .before .before .before .before .before .before .before .before .before .before .before .before .args .judged .place .at) (c .before .before .before .before .before .before .before .before .before .before .before .before .before .before .before .before .before .before .args .words .now))) (foundOf (c .before .before .before .before .before .before .before .before .before .before .before .before .before .before .before .before .before .before .args .words .now) (partAt (c .before .before .before .before .before .before .before .before .before .before .before .before .before .before .before .before .before .before .args .image .now) (c .before .before .before .before .before .before .before .before .before .before .before .before .before .before .before .before .before .before .args .judged .place)) (c .before .before .before .before .before .before .before .before .before .before .before .before .before .before .before .before .before .before .args .rest .now) (c .before .before .before .before .before .before .before .before .before .before .before .before .before .before .before .before .before .before .args .judged .scan)) (c .before .before .before .before .before .before .before .before .before .before .before .before .before .before .before .before .before .before .args .out .now) _ _ _ (c .before .before .before .before .before .before .before .before .before .before .before .before .before .before .before .before .before .before .args .judged .verdict) _ (c .before .before .before .before .before .before .before .before .before .before .before .number-of .ensures) (c .before .before .before .before .before .before .before .before .before .before .if1 .left) (c .before .before .before .write-report .ensures) (c .answer2 .ensures)
+
+pub tell-spec : {M : Type 1} → statement M
+tell-spec =
+    tie.close
+    (tie.spec
+    sub-node
+    part-node-start
+    part-node-end
+    number-of-requires
+    dashes-of-requires
+    slice-aggregate-text-of
+    text-of-requires
+    write-fault-requires
+    answer-requires
+    same-length
+    returns
+    slice-aggregate-write-report
+    slice-aggregate-write-report-2
+    write-report-requires
+    answer-requires-2
+    same-length-2
+    returns-2)

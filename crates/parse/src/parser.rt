@@ -1,0 +1,99 @@
+// `parse`: the image is tested, the line split into words, the words are judged, and the report or the fault is written.
+use super::answer::Parsed;
+use super::answer::answer;
+use super::fault::EMPTY;
+use super::fault::dashes_of;
+use super::fault::number_of;
+use super::fault::text_of;
+use super::judging::Judged;
+use super::judging::judge;
+use report::write_fault;
+use report::write_report;
+use tree::Checked;
+use tree::check_tree;
+use words::Tokens;
+use words::tokenize;
+ghost use mathlib.Core.Path.{_≡_};
+ghost use Prim.Native.Nat.{_≤_};
+ghost use lib.ListN.{length};
+ghost use Rattle.frame.specs.Series.{textsIn};
+ghost use Rattle.tree.specs.Images.{framesOf};
+ghost use Rattle.tree.specs.Rules.{checkTree};
+ghost use Rattle.tree.specs.declared.check.Checked.the-variants.{Good};
+ghost use Rattle.parse.specs.Commands.{parseWords};
+ghost use Rattle.parse.specs.Answer.{Telling, Parsing};
+ghost use Rattle.parse.specs.Held.{outcomeIn, Within};
+
+// Writes what was judged: a report, or the frame of a fault.
+fn tell<'a>(words: &'a [u8], image: &'a [u8], judged: Judged, rest: &[u8], out: &mut [u8]) -> Parsed
+    requires { ⌜ Within (now words) (now image) (judged .place) × (judged .scan .kept ≤ length (now rest)) × (length (now rest) ≤ 4096) × (length (now words) ≤ 4096) × (length (now image) ≤ 32768) ⌝ }
+    ensures { λ r. ⌜ Telling (outcomeIn (now (words .entry)) (now (image .entry)) (now (rest .entry)) judged) (now (out .entry)) r (now (out .exit)) ⌝ }
+{
+    let place = judged.place;
+    let start = place.start;
+    let end = place.end;
+    let node = &image[start..end];
+    let verdict = judged.verdict;
+    let number = number_of(verdict);
+    if number != 0 {
+        return answer(
+            number,
+            write_fault(
+                dashes_of(verdict),
+                text_of(words, node, &EMPTY, verdict),
+                out,
+            ),
+        );
+    }
+    let scan = judged.scan;
+    let at = place.at;
+    let kept = scan.kept;
+    let options = scan.options;
+    let flags = scan.flags;
+    answer(
+        0,
+        write_report(
+            words,
+            node,
+            &words[..at],
+            options,
+            flags,
+            &rest[..kept],
+            out,
+        ),
+    )
+}
+
+// The words of a line under a well-formed tree.
+fn parse_words<'a>(words: &'a [u8], image: &'a [u8], out: &mut [u8]) -> Parsed
+    requires { ⌜ (length (now words) ≤ 4096) × (checkTree (now image) ≡ Good) ⌝ }
+    ensures { λ r. ⌜ Telling (parseWords (framesOf (now (image .entry))) (textsIn (now (words .entry)))) (now (out .entry)) r (now (out .exit)) ⌝ }
+{
+    let mut rest = [0u8; 4096];
+    let judged = judge(words, image, &mut rest);
+    tell(words, image, judged, &rest, out)
+}
+
+// A line under a well-formed tree. Its words always find room: four bytes for each byte of a line.
+fn parse_line(image: &[u8], line: &[u8], out: &mut [u8]) -> Parsed
+    requires { ⌜ checkTree (now image) ≡ Good ⌝ }
+    ensures { λ r. ⌜ Parsing (now (image .entry)) (now (line .entry)) (now (out .entry)) r (now (out .exit)) ⌝ }
+{
+    let mut words = [0u8; 4096];
+    match tokenize(line, &mut words) {
+        Tokens::Words(n) => parse_words(&words[..n], image, out),
+        Tokens::LineTooLong(n) => Parsed::LineTooLong(n),
+        Tokens::IllFormed(n) => Parsed::IllFormed(n),
+        Tokens::NoRoom(n) => Parsed::NoRoom(n),
+    }
+}
+
+// The report of a line's command, at the front of out; or a refusal, of which 4 to 7 write a frame with their text.
+pub fn parse(image: &[u8], line: &[u8], out: &mut [u8]) -> Parsed
+    ensures { λ r. ⌜ Parsing (now (image .entry)) (now (line .entry)) (now (out .entry)) r (now (out .exit)) ⌝ }
+{
+    match check_tree(image) {
+        Checked::BadFrame(n) => Parsed::BadTree(n),
+        Checked::Good => parse_line(image, line, out),
+    }
+}
