@@ -2,7 +2,7 @@
 #[path = "../crates/abi/rissemat.rs"]
 mod rissemat;
 
-use rissemat::{rissemat_fresh, rissemat_history_add, rissemat_key, rissemat_quote, rissemat_words};
+use rissemat::{rissemat_fresh, rissemat_history_add, rissemat_key, rissemat_quote, rissemat_tree, rissemat_words};
 
 /// Writes the words of a line as frames of kind 14.
 pub fn words(line: &[u8], out: &mut [u8]) -> u64 {
@@ -50,4 +50,9 @@ pub fn history_add(state: &mut [u8], slots: &mut [u8], text: &[u8]) -> u64 {
             text.len(),
         )
     }
+}
+
+/// Tests a tree image.
+pub fn tree(image: &[u8]) -> u64 {
+    unsafe { rissemat_tree(image.as_ptr(), image.len()) }
 }

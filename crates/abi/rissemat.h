@@ -47,4 +47,8 @@ uint64_t rissemat_key(uint8_t *state, size_t state_len, uint8_t *slots, size_t s
  * well-formed prefix). */
 uint64_t rissemat_history_add(uint8_t *state, size_t state_len, uint8_t *slots, size_t slots_len, const uint8_t *text, size_t text_len);
 
+/* The test of a tree image: frames 01, 02 and 03 one behind the other. The value is 0.
+ * Refusal: 1 (a bad tree: the number, from 0, of the first frame that breaks a rule; an image over 32,768 bytes is bad at frame 0). */
+uint64_t rissemat_tree(const uint8_t *image, size_t image_len);
+
 #endif

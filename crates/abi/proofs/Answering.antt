@@ -18,8 +18,11 @@ use Rattle.editor.specs.Answer.{slotsOf, refused}
 use Rattle.saved.specs.State.{savedOf, historyIn}
 use Rattle.saved.specs.Calls.{Beginning, isReady, turnIn, savedAfter, SavedKey, stateBy, SavedAdd}
 use Rattle.saved.specs.declared.calls.Begun.{Begun}
+use Rattle.tree.specs.declared.check.Checked.{Checked}
+use Rattle.tree.specs.Rules.{checkTree}
+use Rattle.tree.specs.Answer.{number as treeNumber, value as treeValue}
 use Rattle.abi.specs.Packed.{plain}
-use Rattle.abi.specs.Calls.{WordsCall, QuoteCall, FreshCall, freshNumber, freshValue, KeyCall, keyTold, AddCall}
+use Rattle.abi.specs.Calls.{WordsCall, QuoteCall, FreshCall, freshNumber, freshValue, KeyCall, keyTold, AddCall, TreeCall}
 
 pub words-call : (line out left : List ℕ) (r q : Tokens) (p : ℕ) → Tokenized line out r left → r ≡ q → p ≡ plain (number q) (value q) → WordsCall line out p left
 words-call line out left r q p h e f =
@@ -59,6 +62,9 @@ add-call state slots text state′ slots′ r q p h e f =
       held = h .held ∙ ap (λ (x : Added). slotsBy x slots (entriesAfter (historyIn state) slots text)) (h .answer);
     }
 
+pub tree-call : (image : List ℕ) (r q : Checked) (p : ℕ) → r ≡ checkTree image → r ≡ q → p ≡ plain (treeNumber q) (treeValue q) → TreeCall image p
+tree-call image r q p h e f = record { answer = f ∙ ap (λ (x : Checked). plain (treeNumber x) (treeValue x)) (sym e ∙ h) }
+
 -- no second answer and no other bytes
 pub one-fresh : (state slots a b a′ b′ : List ℕ) (r r′ : ℕ) → FreshCall state slots r a b → FreshCall state slots r′ a′ b′ → (r ≡ r′) × (a ≡ a′) × (b ≡ b′)
 one-fresh state slots a b a′ b′ r r′ h k = (h .answer ∙ sym (k .answer), h .kept ∙ sym (k .kept), h .held ∙ sym (k .held))
@@ -70,3 +76,6 @@ one-key state slots prompt byte line screen a b d e a′ b′ d′ e′ r r′ h
 
 pub one-add : (state slots text a b a′ b′ : List ℕ) (r r′ : ℕ) → AddCall state slots text r a b → AddCall state slots text r′ a′ b′ → (r ≡ r′) × (a ≡ a′) × (b ≡ b′)
 one-add state slots text a b a′ b′ r r′ h k = (h .answer ∙ sym (k .answer), h .kept ∙ sym (k .kept), h .held ∙ sym (k .held))
+
+pub one-tree : (image : List ℕ) (r r′ : ℕ) → TreeCall image r → TreeCall image r′ → r ≡ r′
+one-tree image r r′ h k = h .answer ∙ sym (k .answer)

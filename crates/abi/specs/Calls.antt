@@ -17,6 +17,8 @@ use Rattle.saved.specs.State.{savedOf, historyIn}
 use Rattle.saved.specs.Calls.{beginAnswer, isReady, turnIn, pressAnswer, savedAfter, savedAnswer, stateBy}
 use Rattle.saved.specs.declared.calls.Begun.{Begun}
 use Rattle.saved.specs.declared.calls.Begun.the-variants.{Ready, NoRoom as NoSpace}
+use Rattle.tree.specs.Rules.{checkTree}
+use Rattle.tree.specs.Answer.{number as treeNumber, value as treeValue}
 use Rattle.abi.specs.Packed.{answered, plain}
 
 pub record WordsCall (line out : List ℕ) (r : ℕ) (left : List ℕ) : Type 0 where
@@ -75,3 +77,6 @@ pub record AddCall (state slots text : List ℕ) (r : ℕ) (state′ slots′ : 
   pub answer : r ≡ plain (addNumber (savedAnswer state slots text)) (addValue (savedAnswer state slots text))
   pub kept : state′ ≡ stateBy (savedAnswer state slots text) state (length (entriesAfter (historyIn state) slots text))
   pub held : slots′ ≡ slotsBy (savedAnswer state slots text) slots (entriesAfter (historyIn state) slots text)
+
+pub record TreeCall (image : List ℕ) (r : ℕ) : Type 0 where
+  pub answer : r ≡ plain (treeNumber (checkTree image)) (treeValue (checkTree image))

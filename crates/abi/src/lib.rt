@@ -5,7 +5,7 @@
 // has one. rissemat.h and rissemat.rs beside this crate declare the calls for C and for Rust.
 mod pack;
 
-ghost use Rattle.abi.specs.Calls.{WordsCall, QuoteCall, FreshCall, KeyCall, AddCall};
+ghost use Rattle.abi.specs.Calls.{WordsCall, QuoteCall, FreshCall, KeyCall, AddCall, TreeCall};
 use editor::Pressed;
 use history::Added;
 use pack::packed;
@@ -15,6 +15,8 @@ use saved::Begun;
 use saved::add;
 use saved::begin;
 use saved::press;
+use tree::Checked;
+use tree::check_tree;
 use words::Tokens;
 use words::tokenize;
 
@@ -87,5 +89,16 @@ pub extern "C" fn rissemat_history_add(state: &mut [u8], slots: &mut [u8], text:
         Added::BadState => packed(12, 0, 0, 0),
         Added::TooLong(n) => packed(13, n, 0, 0),
         Added::IllFormed(n) => packed(3, n, 0, 0),
+    }
+}
+
+// The test of a tree image: refused with the number, from 0, of the first frame that breaks a rule.
+#[no_mangle]
+pub extern "C" fn rissemat_tree(image: &[u8]) -> u64
+    ensures { λ r. ⌜ TreeCall (now (image .entry)) r ⌝ }
+{
+    match check_tree(image) {
+        Checked::Good => packed(0, 0, 0, 0),
+        Checked::BadFrame(n) => packed(1, n, 0, 0),
     }
 }
