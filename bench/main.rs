@@ -1,8 +1,9 @@
-// Times the proved library against the original shell, both from this one driver, and prints two tables.
+// Times the proved library against the original shell, both from this one driver, and prints three tables.
 mod keys;
 mod lines;
 mod table;
 mod timing;
+mod tree;
 mod words;
 
 fn main() {
@@ -10,4 +11,6 @@ fn main() {
     words::rows();
     table::key_heading();
     keys::rows();
+    table::tree_heading();
+    tree::rows();
 }

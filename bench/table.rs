@@ -26,3 +26,15 @@ pub fn key_row(line: usize, history: &str, pass: f64, rust: f64, ours: f64) {
         "| {line:>4} | {history:<20} | {pass:>12.0} | {rust:>7.0} | {ours:>7.0} | {by_pass:>16.2} | {by_rust:>11.2} |"
     );
 }
+
+pub fn tree_heading() {
+    println!();
+    println!("| image of         | bytes | Rust ns | ours ns | ours / Rust | ours ns a byte |");
+    println!("|------------------|------:|--------:|--------:|------------:|---------------:|");
+}
+
+/// Prints the row of one image.
+pub fn tree_row(tree: &str, bytes: usize, rust: f64, ours: f64) {
+    let (by_rust, by_bytes) = (ours / rust, ours / bytes as f64);
+    println!("| {tree:<16} | {bytes:>5} | {rust:>7.0} | {ours:>7.0} | {by_rust:>11.2} | {by_bytes:>14.3} |");
+}

@@ -19,18 +19,21 @@ original() {
     name=$1
     shift
     rlib "$name" "$built/original/lib.rs" --cap-lints allow --extern "axstd=$built/libaxstd.rlib" \
-        --extern "lazy_static=$built/liblazy_static.rlib" --extern "log=$built/liblog.rlib" "$@"
+        --extern "forest=$built/libforest.rlib" --extern "lazy_static=$built/liblazy_static.rlib" \
+        --extern "log=$built/liblog.rlib" "$@"
 }
 
 rm -rf "$built/original"
-mkdir -p "$built/original/shell/command"
+mkdir -p "$built/original/shell/command/vm"
 for file in shell/mod.rs shell/command/mod.rs shell/command/history.rs shell/command/base.rs; do
     cp "docs/src/src/$file" "$built/original/$file"
     cmp "docs/src/src/$file" "$built/original/$file"
 done
 cp compare/original/lib.rs "$built/original/lib.rs"
 cp compare/original/vm.rs "$built/original/shell/command/vm.rs"
+cp compare/original/tree.rs "$built/original/shell/command/vm/tree.rs"
 
+rlib forest compare/forest/lib.rs
 rlib axstd compare/original/axstd/lib.rs
 rlib lazy_static compare/original/lazy_static.rs
 rlib log compare/original/log.rs

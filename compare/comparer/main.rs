@@ -1,5 +1,6 @@
 // Compares the proved library with the original shell and with the rules of the standard, part by part.
 mod buffers;
+mod damage;
 mod frames;
 mod history;
 mod keys;
@@ -16,6 +17,8 @@ mod session;
 mod shell;
 mod states;
 mod streams;
+mod tree;
+mod trees;
 mod watched;
 mod words;
 mod workers;
@@ -23,7 +26,7 @@ mod workers;
 use part::Part;
 use std::process::ExitCode;
 
-const PARTS: [(&str, fn(&mut Part)); 27] = [
+const PARTS: [(&str, fn(&mut Part)); 32] = [
     ("session: the original under keys", session::compare),
     ("marked: M1 to M8", marked::compare),
     ("words: every short line", words::short_lines),
@@ -51,6 +54,11 @@ const PARTS: [(&str, fn(&mut Part)); 27] = [
     ("states: every byte of the slots", states::slots),
     ("states: entries that are bad", states::entries),
     ("states: buffers of other lengths", states::lengths),
+    ("tree: the original's own trees", tree::original_trees),
+    ("tree: random trees", tree::random_trees),
+    ("tree: damaged images", tree::damaged_images),
+    ("tree: every byte changed", tree::every_byte),
+    ("tree: images about the limits", tree::limits),
 ];
 
 /// Runs the parts whose names begin with one of the words given, all if there are none.

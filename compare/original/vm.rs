@@ -1,4 +1,6 @@
 // Stands for the file vm.rs that the original wants and whose text was not supplied: it hands out the parser's inside.
+mod tree;
+
 use super::{CommandHistory, CommandNode, CommandParser, handle_builtin_commands, print_prompt, run_cmd_bytes};
 use crate::Original;
 use std::collections::BTreeMap;
