@@ -1,7 +1,7 @@
 // The test of a tree image, against the original building the same tree; and images of several lengths.
 use crate::table::tree_row;
 use crate::timing::{Task, medians};
-use forest::{BYTES, DEFINITIONS, Definition, Kind, Node, image};
+use forest::{BYTES, DEFINITIONS, Definition, Kind, Node, image, largest_tree};
 use original::Original;
 use original_fs::Original as OriginalFs;
 use std::hint::black_box;
@@ -12,10 +12,11 @@ const FRAME: usize = 128;
 pub fn rows() {
     let fs = OriginalFs::tree();
     row("fs tree", &fs, &mut || drop(black_box(OriginalFs::build_tree())));
-    for bytes in [BYTES / 8, BYTES / 4, BYTES / 2, BYTES] {
+    built_row("the largest tree", largest_tree());
+    for bytes in [BYTES / 16, BYTES / 8, BYTES / 4, BYTES / 2, BYTES] {
         built_row("even nodes", even(bytes / FRAME));
     }
-    for nodes in [1, 2, 4, 8] {
+    for nodes in [1, 8] {
         built_row("32 and 32 a node", defining(nodes));
     }
 }

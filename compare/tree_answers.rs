@@ -6,16 +6,16 @@ mod hex;
 #[path = "comparer/random.rs"]
 mod random;
 #[path = "comparer/trees.rs"]
-#[allow(dead_code)]
 mod trees;
 
 use damage::damaged;
-use forest::{BYTES, DEFINITIONS, DEPTHS, Definition, Kind, NAME, NODES, NOTE, Node, frames, image, read};
+use forest::{BYTES, DEFINITIONS, DEPTHS, Definition, Kind, NAME, NODES, NOTE, Node};
+use forest::{frames, image, plain_definition, plain_node, read};
 use hex::hex;
 use original::Original;
 use original_fs::Original as OriginalFs;
 use random::Random;
-use trees::{plain_definition, plain_node, random_tree};
+use trees::random_tree;
 
 /// The number of random trees, how often each is damaged, their most bytes, and the start of their numbers.
 const RANDOM: usize = 30;

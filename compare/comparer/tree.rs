@@ -2,8 +2,9 @@
 use crate::damage::damaged;
 use crate::part::{Part, say};
 use crate::random::Random;
-use crate::trees::{full_tree, plain_definition, plain_node, random_tree, stretch};
-use forest::{BYTES, DEPTHS, Kind, NAME, NOTE, Node, frames, image, read};
+use crate::trees::random_tree;
+use forest::{BYTES, DEPTHS, Kind, NAME, NOTE, Node};
+use forest::{frames, full_tree, image, largest_tree, plain_definition, plain_node, read};
 use original::Original;
 use original_fs::Original as OriginalFs;
 
@@ -118,8 +119,7 @@ fn small_tree() -> Vec<Node> {
 
 /// The largest image with as many nodes, options and flags as there may be, and one more of each.
 pub fn limits(part: &mut Part) {
-    let mut largest = full_tree();
-    stretch(&mut largest, BYTES);
+    let largest = largest_tree();
     check_good(part, &largest);
     assert_eq!(image(&largest).len(), BYTES);
     one_byte_more(part, &largest);

@@ -1,7 +1,9 @@
 // A command tree as plain data, written as an image and read from one by the text of the standard.
+mod large;
 mod read;
 mod write;
 
+pub use large::{full_tree, largest_tree, plain_definition, plain_node};
 pub use read::read;
 pub use write::{frames, image};
 
