@@ -1,0 +1,2 @@
+-- Definitions of the crate `reader`: the places between frames.
+pub mod Places
