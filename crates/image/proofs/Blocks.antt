@@ -5,8 +5,8 @@ use mathlib.Core.Bool.{Bool, true, false, cond}
 use mathlib.Core.List.{List, [], _∷_, _++_}
 use native.Mathlib.Omega.{arith}
 use lib.Dec.{eqb}
-use lib.ListN.{length, getD, take, drop, take-append-drop, length-drop}
-use lib.Seq.{drop-drop, length-take-le}
+use lib.ListN.{length, getD, take, drop, take-append-drop}
+use lib.Seq.{drop-drop}
 use borrow.Author.Tests.{le-leb, lt-leb, ne-eqb}
 use Rattle.buffer.proofs.Lists.{drop-step, drop-end}
 use Rattle.buffer.proofs.Lending.{rest-lent}
@@ -28,7 +28,7 @@ module _ (low b : ℕ) where
   strange-none h k = rw (le-leb low b, le-leb b 0x7e)
 
 module _ (low : ℕ) where
-  -- the pass over a block
+  -- the pass over a text or a block
   pub strangest-step : (s : List ℕ) (i w : ℕ) → i < length s → max (max w (strange low (getD s i 0))) (strangest low (drop (i + 1) s)) ≡ max w (strangest low (drop i s))
   unfolding strangest
   strangest-step s i w h = rw (drop-step s i 0) (omega arith)
@@ -95,7 +95,3 @@ module _ (low : ℕ) where
       let place : k + (at - k) ≡ at = omega arith in
       let suffix = both-second (allShown low (take (at - k) (drop k t))) _ (sym (front (drop k t) (at - k)) ∙ good) in
       rw (drop-drop (at - k) k t, place) at suffix
-
--- a part of 16 bytes that is lent has 16 bytes
-pub block-size : (t : List ℕ) (at n : ℕ) → n ≡ 16 → at + 16 ≤ length t → length (take n (drop at t)) ≡ 16
-block-size t at n e h = length-take-le n (drop at t) (rw (length-drop at t) (omega arith)) ∙ e

@@ -1,12 +1,11 @@
 -- Laws of the limits of a frame's fields, as the code tests them.
-use Prim.Native.Nat.{ℕ, _+_, _<_, _≤_}
+use Prim.Native.Nat.{ℕ, _<_, _≤_}
 use mathlib.Core.Path.{_≡_, refl}
 use mathlib.Core.Bool.{Bool, true, false}
 use mathlib.Core.List.{List}
 use lib.Dec.{leb}
-use lib.ListN.{length, getD, take, drop}
+use lib.ListN.{length, take}
 use borrow.Author.Tests.{le-leb, lt-leb, lt-ltb, ne-eqb}
-use Rattle.buffer.proofs.Lists.{drop-step, drop-end}
 use Rattle.image.specs.Limits.{both, allShown, isName, isNote, isShort, optionally, definable, fair}
 use Rattle.image.specs.Reading.{perhapsIn}
 use Rattle.image.specs.Frames.{Perhaps, node}
@@ -22,25 +21,6 @@ both-second false b e = cc
 
 pub both-true : (a b : Bool) → a ≡ true → b ≡ true → both a b ≡ true
 both-true a b p q = rw (p, q)
-
--- a pass over the bytes of a text
-module _ (low : ℕ) (t : List ℕ) (i : ℕ) where
-  pub shown-end : length t ≤ i → allShown low (drop i t) ≡ true
-  unfolding allShown
-  shown-end h = rw (drop-end t i)
-
-  module _ (h : i < length t) where
-    pub shown-low : getD t i 0 < low → allShown low (drop i t) ≡ false
-    unfolding allShown
-    shown-low k = rw (drop-step t i 0, lt-leb low (getD t i 0))
-
-    pub shown-high : low ≤ getD t i 0 → 0x7e < getD t i 0 → allShown low (drop i t) ≡ false
-    unfolding allShown
-    shown-high k l = rw (drop-step t i 0, le-leb low (getD t i 0), lt-leb (getD t i 0) 0x7e)
-
-    pub shown-on : low ≤ getD t i 0 → getD t i 0 ≤ 0x7e → allShown low (drop i t) ≡ allShown low (drop (i + 1) t)
-    unfolding allShown
-    shown-on k l = rw (drop-step t i 0, le-leb low (getD t i 0), le-leb (getD t i 0) 0x7e)
 
 -- names, notes and shorts
 module _ (t : List ℕ) where

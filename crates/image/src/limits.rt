@@ -31,58 +31,50 @@ fn worse(a: u8, b: u8) -> u8
     if a < b { b } else { a }
 }
 
-// Whether all of 16 bytes are from `low` to 7E: no early exit, so that the backend takes them at once.
-fn block_shown(low: u8, block: &[u8]) -> bool
-    requires { ⌜ length (now block) ≡ 16 ⌝ }
-    ensures { λ r. ⌜ r ≡ allShown low (now (block .entry)) ⌝ }
+// Whether all bytes of t are from `low` to 7E: no early exit, so that the backend takes many at once.
+fn each_shown(low: u8, t: &[u8]) -> bool
+    ensures { λ r. ⌜ r ≡ allShown low (now (t .entry)) ⌝ }
 {
     let mut worst = 0;
     let mut i = 0;
-    while i < 16 {
-        worst = worse(worst, outside(low, block[i]));
+    while i < t.len() {
+        worst = worse(worst, outside(low, t[i]));
         i += 1;
     }
     worst == 0
 }
 
-// The same for a text of any length, byte by byte.
-fn each_shown(low: u8, t: &[u8]) -> bool
+// The same in whole blocks of that size and the last block, of which some bytes may be seen twice.
+fn blocks_shown(low: u8, t: &[u8], size: usize) -> bool
+    requires { ⌜ (0 < size) × (size ≤ length (now t)) ⌝ }
     ensures { λ r. ⌜ r ≡ allShown low (now (t .entry)) ⌝ }
 {
-    let mut i = 0;
-    while i < t.len() {
-        if t[i] < low {
-            return false;
-        }
-        if LAST < t[i] {
-            return false;
-        }
-        i += 1;
-    }
-    true
-}
-
-// Whether all bytes of t are from `low` to 7E: whole blocks and the last 16 bytes, of which some may be seen twice.
-fn all_shown(low: u8, t: &[u8]) -> bool
-    ensures { λ r. ⌜ r ≡ allShown low (now (t .entry)) ⌝ }
-{
-    let n = t.len();
-    if n < 16 {
-        return each_shown(low, t);
-    }
-    let last = n - 16;
-    if !block_shown(low, &t[last..]) {
+    let last = t.len() - size;
+    if !each_shown(low, &t[last..]) {
         return false;
     }
     let mut at = 0;
     while at < last {
-        let end = at + 16;
-        if !block_shown(low, &t[at..end]) {
+        let end = at + size;
+        if !each_shown(low, &t[at..end]) {
             return false;
         }
         at = end;
     }
     true
+}
+
+// The same for every text: in blocks of 16 bytes or of 8, and byte by byte where it is shorter.
+fn all_shown(low: u8, t: &[u8]) -> bool
+    ensures { λ r. ⌜ r ≡ allShown low (now (t .entry)) ⌝ }
+{
+    if t.len() < 8 {
+        return each_shown(low, t);
+    }
+    if t.len() < 16 {
+        return blocks_shown(low, t, 8);
+    }
+    blocks_shown(low, t, 16)
 }
 
 // Names and longs: 1 to 32 bytes of 21-7E.
