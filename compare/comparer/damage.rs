@@ -1,5 +1,6 @@
 // Ways to damage an image: its frames, or its bytes.
 use crate::random::Random;
+use forest::{NODES, Node};
 
 /// Bytes that a rule names, and their neighbours.
 const EDGES: [u8; 16] = [0x00, 0x01, 0x02, 0x03, 0x04, 0x07, 0x08, 0x1F, 0x20, 0x21, 0x60, 0x61, 0x7E, 0x7F, 0x80, 0xFF];
@@ -22,6 +23,9 @@ fn damage_frames(random: &mut Random, frames: &mut Vec<Vec<u8>>) {
     if frames.is_empty() {
         return;
     }
+    if random.once_in(100) {
+        return crowd(random, frames);
+    }
     let place = random.below(frames.len());
     let other = random.below(frames.len());
     let next = (place + 1) % frames.len();
@@ -37,6 +41,15 @@ fn damage_frames(random: &mut Random, frames: &mut Vec<Vec<u8>>) {
         8 => lengthen(random, &mut frames[place]),
         _ => change_head(random, &mut frames[place]),
     }
+}
+
+/// Siblings that rise behind all others, until there are about as many nodes as there may be.
+fn crowd(random: &mut Random, frames: &mut Vec<Vec<u8>>) {
+    let nodes = frames.iter().filter(|frame| frame[0] == 0x01).count();
+    let most = NODES - 1 + random.below(3);
+    let named = |number| Node { name: format!("~~~{number:03}"), ..Node::default() };
+    let more: Vec<Node> = (nodes..most).map(named).collect();
+    frames.extend(forest::frames(&more));
 }
 
 /// So many frames more of the same, about the most definitions that a node may have.

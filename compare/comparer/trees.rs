@@ -7,27 +7,35 @@ use std::collections::BTreeSet;
 pub fn random_tree(random: &mut Random) -> Vec<Node> {
     loop {
         let most = if random.once_in(40) { NODES } else { 12 };
-        let mut left = random.below(most + 1);
-        let mut tree = Vec::new();
-        while left > 0 {
-            tree = siblings(random, 0, &mut left);
-        }
+        let mut shape = Shape { left: random.below(most + 1), deep: random.once_in(4) };
+        let tree = siblings(random, 0, &mut shape);
         if image(&tree).len() <= BYTES {
             return tree;
         }
     }
 }
 
-/// Siblings of a depth with all below them, taken from so many nodes that are left.
-fn siblings(random: &mut Random, depth: usize, left: &mut usize) -> Vec<Node> {
-    let most = if depth == 0 { *left } else { random.below(4).min(*left) };
-    let names: BTreeSet<String> = (0..most).map(|_| name(random)).collect();
-    *left -= names.len();
-    names.into_iter().map(|name| node(random, depth, name, left)).collect()
+/// How a tree grows: so many nodes are left, and they go down rather than side by side.
+struct Shape {
+    left: usize,
+    deep: bool,
 }
 
-fn node(random: &mut Random, depth: usize, name: String, left: &mut usize) -> Node {
-    let below = if depth + 1 < DEPTHS && random.once_in(2) { siblings(random, depth + 1, left) } else { Vec::new() };
+/// Siblings of a depth with all below them.
+fn siblings(random: &mut Random, depth: usize, shape: &mut Shape) -> Vec<Node> {
+    let most = match depth {
+        _ if shape.deep => 1 + random.below(2),
+        0 => shape.left,
+        _ => random.below(4),
+    };
+    let names: BTreeSet<String> = (0..most.min(shape.left)).map(|_| name(random)).collect();
+    shape.left -= names.len();
+    names.into_iter().map(|name| node(random, depth, name, shape)).collect()
+}
+
+fn node(random: &mut Random, depth: usize, name: String, shape: &mut Shape) -> Node {
+    let grows = depth + 1 < DEPTHS && (shape.deep || random.once_in(2));
+    let below = if grows { siblings(random, depth + 1, shape) } else { Vec::new() };
     Node {
         handler: random.pick(&[0, 1, 255, 256, 65_535]),
         name,
