@@ -1,0 +1,3 @@
+-- The laws of the crate `rows` that belong to no one function, and that later crates cite.
+pub mod Rowing
+pub mod Lists

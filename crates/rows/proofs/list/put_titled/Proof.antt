@@ -1,0 +1,36 @@
+-- `rows::list::put_titled` meets its contract: a list with no rows has no title.
+use borrow.Author.Needs.{needs}
+use native.Mathlib.Omega.{arith}
+use mathlib.Core.Path.{_≡_, sym, _∙_}
+use Rattle.rows.proofs.Lists.{titled-none, titled-some}
+use Rattle.ink.proofs.Inking.{inked-nothing, inked-both, inked-as}
+use Rattle.rows.proofs.list.put_titled.Statement.{statement}
+use Rattle.rows.proofs.list.put_titled.Tie as tie
+
+rows-size-requires : tie.Need-rows-size-requires
+rows-size-requires c κs = search needs
+
+returns : tie.Need-returns
+returns c =
+    let z : c .before .rows-size .result ≡ 0 = let h = c .if1 .taken in omega arith in
+    (inked-nothing _ _ _ (titled-none _ _ (sym (c .before .rows-size .ensures) ∙ z)), omega arith)
+
+put-requires : tie.Need-put-requires
+put-requires c κs = search needs
+
+put-rows-requires : tie.Need-put-rows-requires
+put-rows-requires c κs = search needs
+
+same-length : tie.Need-same-length
+same-length c = search needs
+
+returns-2 : tie.Need-returns-2
+returns-2 c =
+    let k = c .before .before .before .before .before .before .put .ensures .place in
+    let m = c .before .before .put-rows .ensures .most in
+    (inked-as _ _ _ _ _ _ (titled-some _ _ (λ z. c .before .before .before .before .before .before .before .before .if1 .left (c .before .before .before .before .before .before .before .before .before .rows-size .ensures ∙ z))) (inked-both _ _ _ _ _ _ _ _ (c .before .before .before .before .before .before .put .ensures) (c .before .before .put-rows .ensures .inked)), omega arith)
+
+pub put-titled-spec : {M : Type 1} → statement M
+put-titled-spec =
+    tie.close
+    (tie.spec rows-size-requires returns put-requires put-rows-requires same-length returns-2)

@@ -1,0 +1,33 @@
+-- `rows::row::put_note` meets its contract: three texts in a row.
+use Rattle.ink.proofs.Inking.{counts-1, counts-2, counts-3, inked-three}
+use Rattle.rows.specs.Rows.{blanks}
+use Rattle.ink.specs.Ascii.{ascii}
+use borrow.Author.Needs.{needs}
+use Rattle.rows.proofs.row.put_note.Statement.{statement}
+use Rattle.rows.proofs.row.put_note.Tie as tie
+
+pad-requires : tie.Need-pad-requires
+pad-requires c κs = (c .before .before .before .pre .0, counts-1 (blanks (c .before .before .before .args .width) (c .before .before .before .args .used)) (ascii " ") (c .before .before .before .args .note .now) _ (c .before .before .before .pre .1))
+
+slice-aggregate-put : tie.Need-slice-aggregate-put
+slice-aggregate-put c = search needs
+
+put-requires : tie.Need-put-requires
+unfolding ascii
+put-requires c κs = counts-2 (blanks (c .before .before .before .before .before .before .before .before .args .width) (c .before .before .before .before .before .before .before .before .args .used)) (ascii " ") (c .before .before .before .before .before .before .before .before .args .note .now) _ (c .before .before .before .before .before .before .before .before .pre .1) _ _ _ (c .before .before .before .before .pad .ensures)
+
+put-requires-2 : tie.Need-put-requires-2
+unfolding ascii
+put-requires-2 c κs = counts-3 (blanks (c .before .before .before .before .before .before .before .before .before .before .before .before .args .width) (c .before .before .before .before .before .before .before .before .before .before .before .before .args .used)) (ascii " ") (c .before .before .before .before .before .before .before .before .before .before .before .before .args .note .now) _ (c .before .before .before .before .before .before .before .before .before .before .before .before .pre .1) _ _ _ _ _ (c .before .before .before .before .before .before .before .before .pad .ensures) (c .before .before .before .put .ensures)
+
+same-length : tie.Need-same-length
+same-length c = search needs
+
+returns : tie.Need-returns
+unfolding ascii
+returns c = inked-three _ _ _ _ _ _ _ _ _ _ _ (c .before .before .before .before .before .before .before .before .before .before .before .pad .ensures) (c .before .before .before .before .before .before .put .ensures) (c .before .before .put2 .ensures)
+
+pub put-note-spec : {M : Type 1} → statement M
+put-note-spec =
+    tie.close
+    (tie.spec pad-requires slice-aggregate-put put-requires put-requires-2 same-length returns)

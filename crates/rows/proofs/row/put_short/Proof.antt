@@ -1,0 +1,50 @@
+-- `rows::row::put_short` meets its contract: nothing, or a dash, the short and what stands behind it.
+use Rattle.rows.proofs.Rowing.{short-none, short-some}
+use Rattle.ink.proofs.Inking.{inked-nothing, inked-as, counts-as, counts-1, counts-2, counts-3, inked-three}
+use Rattle.ink.specs.Ascii.{ascii}
+use borrow.Author.Needs.{needs}
+use mathlib.Core.Path.{sym}
+use mathlib.Core.List.{[], _∷_}
+use Rattle.rows.proofs.row.put_short.Statement.{statement}
+use Rattle.rows.proofs.row.put_short.Tie as tie
+
+returns : tie.Need-returns
+returns c = inked-nothing _ _ _ (short-none _ _ (c .if1 .taken))
+
+slice-aggregate-put : tie.Need-slice-aggregate-put
+slice-aggregate-put c = search needs
+
+put-requires : tie.Need-put-requires
+unfolding ascii
+put-requires c κs = counts-1 (ascii "-") (c .before .before .before .before .before .args .short ∷ []) (c .before .before .before .before .before .args .tail .now) _ (counts-as _ _ (c .before .before .before .before .before .args .at) (short-some _ _ (c .before .before .if1 .left)) (c .before .before .before .before .before .pre .1))
+
+cast-put-byte : tie.Need-cast-put-byte
+cast-put-byte c = search needs
+
+put-byte-requires : tie.Need-put-byte-requires
+unfolding ascii
+put-byte-requires c κs = counts-2 (ascii "-") (c .before .before .before .before .before .before .before .before .before .args .short ∷ []) (c .before .before .before .before .before .before .before .before .before .args .tail .now) _ (counts-as _ _ (c .before .before .before .before .before .before .before .before .before .args .at) (short-some _ _ (c .before .before .before .before .before .before .if1 .left)) (c .before .before .before .before .before .before .before .before .before .pre .1)) _ _ _ (c .before .before .before .put .ensures)
+
+put-requires-2 : tie.Need-put-requires-2
+unfolding ascii
+put-requires-2 c κs = counts-3 (ascii "-") (c .before .before .before .before .before .before .before .before .before .before .before .before .before .args .short ∷ []) (c .before .before .before .before .before .before .before .before .before .before .before .before .before .args .tail .now) _ (counts-as _ _ (c .before .before .before .before .before .before .before .before .before .before .before .before .before .args .at) (short-some _ _ (c .before .before .before .before .before .before .before .before .before .before .if1 .left)) (c .before .before .before .before .before .before .before .before .before .before .before .before .before .pre .1)) _ _ _ _ _ (c .before .before .before .before .before .before .before .put .ensures) (c .before .before .before .put-byte .ensures)
+
+same-length : tie.Need-same-length
+same-length c = search needs
+
+returns-2 : tie.Need-returns-2
+unfolding ascii
+returns-2 c = inked-as _ _ _ _ _ _ (sym (short-some _ _ (c .before .before .before .before .before .before .before .before .before .before .before .before .before .if1 .left))) (inked-three (ascii "-") _ _ _ _ _ _ _ _ _ _ (c .before .before .before .before .before .before .before .before .before .before .put .ensures) (c .before .before .before .before .before .before .put-byte .ensures) (c .before .before .put2 .ensures))
+
+pub put-short-spec : {M : Type 1} → statement M
+put-short-spec =
+    tie.close
+    (tie.spec
+    returns
+    slice-aggregate-put
+    put-requires
+    cast-put-byte
+    put-byte-requires
+    put-requires-2
+    same-length
+    returns-2)

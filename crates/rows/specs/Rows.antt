@@ -1,0 +1,104 @@
+-- The rows of the Rust's lists: options, flags and subcommands of a node, and the commands of a tree.
+use Prim.Native.Nat.{ℕ, _+_, _-_}
+use mathlib.Core.Path.{_≡_}
+use mathlib.Core.Bool.{Bool, true, false, cond}
+use mathlib.Core.List.{List, [], _∷_, _++_}
+use lib.Dec.{eqb}
+use lib.ListN.{length, replicate}
+use Rattle.image.specs.Frames.{Perhaps, absent, present, Frame, node, option, flag}
+use Rattle.image.specs.Reading.{Read, read, broken, ended, Small, span, nameIn, longIn}
+use Rattle.image.specs.declared.head.Lengths.{Lengths}
+use Rattle.ink.specs.Ascii.{ascii}
+use Rattle.rows.specs.declared.row.Listing.{Listing}
+use Rattle.rows.specs.declared.row.Listing.the-variants.{Options, Flags, Subcommands, Commands}
+
+-- `{:<n}`: spaces behind a text up to n characters, each of which is a byte in a tree
+unfoldable pub blanks : ℕ → ℕ → List ℕ
+blanks n used = replicate (n - used) 0x20
+
+unfoldable pub padded : ℕ → List ℕ → List ℕ
+padded n t = t ++ blanks n (length t)
+
+-- `-s` and what stands behind it; nothing if there is no short
+unfoldable pub shortThen : ℕ → List ℕ → List ℕ
+shortThen short tail = cond (eqb short 0) [] (ascii "-" ++ short ∷ tail)
+
+-- `-s`, `--long`, or both with a comma between them; the name if there is neither
+unfoldable pub shownAs : ℕ → List ℕ → Perhaps → List ℕ
+shownAs short name absent = cond (eqb short 0) name (shortThen short [])
+shownAs short name (present long) = shortThen short (ascii ", ") ++ ascii "--" ++ long
+
+-- the same for a definition as it is read
+unfoldable pub labelIn : List ℕ → ℕ → ℕ → Lengths → List ℕ
+labelIn s p short texts = shownAs short (nameIn s p texts) (longIn s p texts)
+
+unfoldable pub requiredMark : ℕ → List ℕ
+requiredMark required = cond (eqb required 1) (ascii " (required)") []
+
+-- lengths that were read from a definition whose first length byte stands at p
+pub record Measured (p : ℕ) (texts : Lengths) : Type 0 where
+  pub small : Small texts
+  pub size : texts .size ≡ p + 3 + texts .name + span (texts .other) + texts .description
+
+-- a label in its column, and the description
+unfoldable pub entry : List ℕ → ℕ → List ℕ → List ℕ → List ℕ
+entry indent width label description = indent ++ padded width label ++ ascii " " ++ description
+
+-- println!("  {:<20} {}{}", opt_str, option.description, required_str)
+unfoldable pub optionRow : ℕ → ℕ → List ℕ → Perhaps → List ℕ → List ℕ
+optionRow required short name long description =
+    entry (ascii "  ") 20 (shownAs short name long) description ++ requiredMark required ++ ascii "\n"
+
+-- println!("  {:<20} {}", flag_str, flag.description)
+unfoldable pub flagRow : ℕ → List ℕ → Perhaps → List ℕ → List ℕ
+flagRow short name long description = entry (ascii "  ") 20 (shownAs short name long) description ++ ascii "\n"
+
+-- println!("  {:<20} {}", name, node.description), and with other indents and widths in the list of commands
+unfoldable pub nodeRow : List ℕ → ℕ → List ℕ → List ℕ → List ℕ
+nodeRow indent width name description = entry indent width name description ++ ascii "\n"
+
+-- what a frame gives in each list; in the list of commands a node of depth 0 gives `  {:<15} {}`, one of depth 1 `    {:<13} {}`
+abbrev pub rowOf : Listing → Frame → List ℕ
+rowOf Options (node d h name description usage) = []
+rowOf Options (option r c name long description) = optionRow r c name long description
+rowOf Options (flag c name long description) = []
+rowOf Flags (node d h name description usage) = []
+rowOf Flags (option r c name long description) = []
+rowOf Flags (flag c name long description) = flagRow c name long description
+rowOf (Subcommands depth) (node d h name description usage) = cond (eqb d depth) (nodeRow (ascii "  ") 20 name description) []
+rowOf (Subcommands depth) (option r c name long description) = []
+rowOf (Subcommands depth) (flag c name long description) = []
+rowOf Commands (node d h name description usage) =
+    cond (eqb d 0) (nodeRow (ascii "  ") 15 name description) (cond (eqb d 1) (nodeRow (ascii "    ") 13 name description) [])
+rowOf Commands (option r c name long description) = []
+rowOf Commands (flag c name long description) = []
+
+-- a node's options and flags end at the next node of any depth
+abbrev pub endsList : Listing → Frame → Bool
+endsList Options (node d h name description usage) = true
+endsList Options (option r c name long description) = false
+endsList Options (flag c name long description) = false
+endsList Flags (node d h name description usage) = true
+endsList Flags (option r c name long description) = false
+endsList Flags (flag c name long description) = false
+endsList (Subcommands depth) f = false
+endsList Commands f = false
+
+unfoldable pub rows : Listing → List Frame → List ℕ
+rows listing [] = []
+rows listing (f ∷ l) = cond (endsList listing f) [] (rowOf listing f ++ rows listing l)
+
+-- a list stands behind its title; an empty one has none
+unfoldable pub titled : List ℕ → List ℕ → List ℕ
+titled title list = cond (eqb (length list) 0) [] (title ++ list)
+
+-- the same for what was read at a place: its row, and its size, which is 0 where the list ends
+abbrev pub rowBy : Listing → Read → List ℕ
+rowBy listing (read f n) = rowOf listing f
+rowBy listing broken = []
+rowBy listing ended = []
+
+abbrev pub sizeBy : Listing → Read → ℕ
+sizeBy listing (read f n) = cond (endsList listing f) 0 n
+sizeBy listing broken = 0
+sizeBy listing ended = 0
