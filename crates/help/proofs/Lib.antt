@@ -1,0 +1,5 @@
+-- The laws of the crate `help` that belong to no one function, and that later crates cite.
+pub mod Following
+pub mod Answers
+pub mod Commands
+pub mod Examples
