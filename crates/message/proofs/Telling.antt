@@ -1,0 +1,23 @@
+-- Laws of the messages that name a text: what stands round it is short, and known by what is told.
+use Prim.Native.Nat.{_≤_}
+use mathlib.Core.Path.{_≡_}
+use native.Mathlib.Omega.{arith}
+use lib.ListN.{length}
+use Rattle.ink.specs.Ascii.{ascii}
+use Rattle.message.specs.Messages.{before, behind}
+use Rattle.message.specs.declared.told.Told.{Told}
+use Rattle.message.specs.declared.told.Told.the-variants.{UnknownCommand, UnknownOption, MissingValue, MissingRequired, NoHandler}
+
+pub before-is : (told known : Told) → told ≡ known → before known ≡ before told
+before-is told known e = rw e
+
+pub behind-is : (told known : Told) → told ≡ known → behind known ≡ behind told
+behind-is told known e = rw e
+
+pub before-most : (told : Told) → length (before told) ≤ 40
+unfolding ascii
+before-most UnknownCommand = omega arith
+before-most UnknownOption = omega arith
+before-most MissingValue = omega arith
+before-most MissingRequired = omega arith
+before-most NoHandler = omega arith

@@ -1,0 +1,22 @@
+-- `message::fixed::show_clear` meets its contract: the text is that of the definition.
+use Rattle.message.specs.Messages.{clearScreen}
+use Rattle.ink.specs.Ascii.{ascii}
+use borrow.Author.Needs.{needs}
+use Rattle.message.proofs.fixed.show_clear.Statement.{statement}
+use Rattle.message.proofs.fixed.show_clear.Tie as tie
+
+slice-aggregate-show : tie.Need-slice-aggregate-show
+slice-aggregate-show c = search needs
+
+show-requires : tie.Need-show-requires
+show-requires c κs = search needs
+
+same-length : tie.Need-same-length
+same-length c = search needs
+
+returns : tie.Need-returns
+unfolding clearScreen ascii
+returns c = c .before .before .show .ensures
+
+pub show-clear-spec : {M : Type 1} → statement M
+show-clear-spec = tie.close (tie.spec slice-aggregate-show show-requires same-length returns)
