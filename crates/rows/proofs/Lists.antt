@@ -18,7 +18,8 @@ use Rattle.tree.proofs.Items.{bytes-drop}
 use Rattle.lookup.proofs.Seeks.{frames-read, frames-broken, frames-ended, frames-none}
 use Rattle.ink.specs.Ascii.{ascii}
 use Rattle.ink.specs.Inks.{Inked, InkedFrom, Countable}
-use Rattle.rows.specs.Rows.{blanks, padded, shortThen, shownAs, requiredMark, entry, optionRow, flagRow, nodeRow, rowOf, endsList, rows, rowBy, sizeBy, titled}
+use Rattle.rows.specs.Rows.{blanks, padded, shortThen, shownAs, requiredMark, entry, optionRow, flagRow, nodeRow, rowOf, endsList, rows, titled}
+use Rattle.rows.specs.Steps.{rowBy, sizeBy}
 use Rattle.rows.specs.declared.row.Listing.{Listing}
 use Rattle.rows.specs.declared.row.Listing.the-variants.{Options, Flags, Subcommands, Commands}
 use Rattle.ink.proofs.Inking.{inked-nothing, inked-both, inked-as}

@@ -18,7 +18,8 @@ use Rattle.image.proofs.head.Head.{the-type as head-type}
 use Rattle.image.proofs.Views.{view, definition-small}
 use Rattle.ink.specs.Ascii.{ascii}
 use Rattle.ink.specs.Inks.{Inked, Countable}
-use Rattle.rows.specs.Rows.{blanks, padded, shortThen, shownAs, labelIn, Measured, entry, requiredMark, optionRow, nodeRow, rowOf, endsList, rowBy, sizeBy}
+use Rattle.rows.specs.Rows.{blanks, padded, shortThen, shownAs, entry, requiredMark, optionRow, nodeRow, rowOf, endsList}
+use Rattle.rows.specs.Steps.{labelIn, Measured, rowBy, sizeBy}
 use Rattle.rows.specs.declared.row.Listing.{Listing}
 use Rattle.rows.specs.declared.row.Listing.the-variants.{Options, Flags, Subcommands, Commands}
 use Rattle.rows.proofs.row.Listing.{the-type}

@@ -1,13 +1,10 @@
 -- The rows of the Rust's lists: options, flags and subcommands of a node, and the commands of a tree.
-use Prim.Native.Nat.{ℕ, _+_, _-_}
-use mathlib.Core.Path.{_≡_}
+use Prim.Native.Nat.{ℕ, _-_}
 use mathlib.Core.Bool.{Bool, true, false, cond}
 use mathlib.Core.List.{List, [], _∷_, _++_}
 use lib.Dec.{eqb}
 use lib.ListN.{length, replicate}
 use Rattle.image.specs.Frames.{Perhaps, absent, present, Frame, node, option, flag}
-use Rattle.image.specs.Reading.{Read, read, broken, ended, Small, span, nameIn, longIn}
-use Rattle.image.specs.declared.head.Lengths.{Lengths}
 use Rattle.ink.specs.Ascii.{ascii}
 use Rattle.rows.specs.declared.row.Listing.{Listing}
 use Rattle.rows.specs.declared.row.Listing.the-variants.{Options, Flags, Subcommands, Commands}
@@ -28,17 +25,8 @@ unfoldable pub shownAs : ℕ → List ℕ → Perhaps → List ℕ
 shownAs short name absent = cond (eqb short 0) name (shortThen short [])
 shownAs short name (present long) = shortThen short (ascii ", ") ++ ascii "--" ++ long
 
--- the same for a definition as it is read
-unfoldable pub labelIn : List ℕ → ℕ → ℕ → Lengths → List ℕ
-labelIn s p short texts = shownAs short (nameIn s p texts) (longIn s p texts)
-
 unfoldable pub requiredMark : ℕ → List ℕ
 requiredMark required = cond (eqb required 1) (ascii " (required)") []
-
--- lengths that were read from a definition whose first length byte stands at p
-pub record Measured (p : ℕ) (texts : Lengths) : Type 0 where
-  pub small : Small texts
-  pub size : texts .size ≡ p + 3 + texts .name + span (texts .other) + texts .description
 
 -- a label in its column, and the description
 unfoldable pub entry : List ℕ → ℕ → List ℕ → List ℕ → List ℕ
@@ -91,14 +79,3 @@ rows listing (f ∷ l) = cond (endsList listing f) [] (rowOf listing f ++ rows l
 -- a list stands behind its title; an empty one has none
 unfoldable pub titled : List ℕ → List ℕ → List ℕ
 titled title list = cond (eqb (length list) 0) [] (title ++ list)
-
--- the same for what was read at a place: its row, and its size, which is 0 where the list ends
-abbrev pub rowBy : Listing → Read → List ℕ
-rowBy listing (read f n) = rowOf listing f
-rowBy listing broken = []
-rowBy listing ended = []
-
-abbrev pub sizeBy : Listing → Read → ℕ
-sizeBy listing (read f n) = cond (endsList listing f) 0 n
-sizeBy listing broken = 0
-sizeBy listing ended = 0

@@ -12,7 +12,8 @@ ghost use Rattle.image.specs.Frames.{Perhaps, node};
 ghost use Rattle.image.specs.Reading.{Small, noteIn, nodeIn, optionIn, flagIn, readFirst};
 ghost use Rattle.ink.specs.Ascii.{ascii};
 ghost use Rattle.ink.specs.Inks.{Inked, Countable};
-ghost use Rattle.rows.specs.Rows.{blanks, shortThen, labelIn, Measured, entry, nodeRow, rowOf, endsList, rowBy, sizeBy};
+ghost use Rattle.rows.specs.Rows.{blanks, shortThen, entry, nodeRow, rowOf, endsList};
+ghost use Rattle.rows.specs.Steps.{labelIn, Measured, rowBy, sizeBy};
 
 // What is listed.
 pub enum Listing {

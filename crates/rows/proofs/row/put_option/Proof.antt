@@ -6,7 +6,8 @@ use mathlib.Core.Path.{_≡_, sym}
 use mathlib.Core.List.{List, _++_}
 use Rattle.rows.proofs.Rowing.{option-marked, option-plain}
 use Rattle.ink.proofs.Inking.{counts-first, counts-then, counts-as, inked-both, inked-as}
-use Rattle.rows.specs.Rows.{entry, optionRow, requiredMark, labelIn}
+use Rattle.rows.specs.Rows.{entry, optionRow, requiredMark}
+use Rattle.rows.specs.Steps.{labelIn}
 use Rattle.ink.specs.Ascii.{ascii}
 use Rattle.image.specs.Reading.{optionIn, noteIn}
 use Rattle.rows.proofs.row.put_option.Statement.{statement}
