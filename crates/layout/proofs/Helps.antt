@@ -1,7 +1,7 @@
 -- Laws of the help of a node: its own lines, then its lists.
 use Prim.Native.Nat.{ℕ, _<_, _≤_}
 use mathlib.Core.Path.{_≡_, ap, _∙_}
-use mathlib.Core.List.{List, [], _∷_, _++_}
+use mathlib.Core.List.{List, [], _∷_, _++_, append-assoc, append-nil}
 use native.Mathlib.Omega.{arith}
 use lib.ListN.{length, take, drop, length-take, length-drop}
 use borrow.Author.Tests.{eq-eqb, ne-eqb}
@@ -19,7 +19,8 @@ use Rattle.tree.specs.Images.{framesOf}
 use Rattle.lookup.proofs.Seeks.{frames-read, frames-broken, frames-ended}
 use Rattle.ink.specs.Ascii.{ascii}
 use Rattle.ink.specs.Inks.{Inked}
-use Rattle.layout.specs.Texts.{spaced, usageLine, about, aboutIn, lists, helpText}
+use Rattle.layout.specs.Texts.{spaced, usageLine, about, lists, helpText}
+use Rattle.layout.specs.Steps.{aboutIn}
 use Rattle.ink.proofs.Inking.{inked-both, inked-three}
 
 pub take-most : (n : ℕ) (t l : List ℕ) → t ≡ take n l → length t ≤ n
@@ -36,6 +37,17 @@ usage-none n s e = rw (eq-eqb n 0xff e)
 pub usage-some : (n : ℕ) (s t : List ℕ) → (n ≡ 0xff → ⊥) → t ≡ take n s → ascii "Usage: " ++ t ++ ascii "\n" ≡ usageLine (perhapsIn n s)
 unfolding perhapsIn
 usage-some n s t k e = rw (ne-eqb n 0xff k, e)
+
+-- the Rust's `join(" ")`: words each behind a space are a space and the words joined
+abbrev pub joined : List ℕ → List (List ℕ) → List ℕ
+joined word [] = word
+joined word (next ∷ words) = word ++ (ascii " " ++ joined next words)
+
+pub spaced-joined : (word : List ℕ) (words : List (List ℕ)) → spaced (word ∷ words) ≡ ascii " " ++ joined word words
+unfolding spaced
+spaced-joined word [] = append-nil (ascii " " ++ word)
+spaced-joined word (next ∷ words) =
+    append-assoc (ascii " ") word (spaced (next ∷ words)) ∙ ap (λ (l : List ℕ). ascii " " ++ (word ++ l)) (spaced-joined next words)
 
 -- the lines on a node itself, written one part behind the other
 pub about-put : (words : List (List ℕ)) (description : List ℕ) (usage : Perhaps) (out o₁ o₂ o₃ o₄ o₅ left : List ℕ) (p₁ p₂ p₃ p₄ p₅ r : ℕ)

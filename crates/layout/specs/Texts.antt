@@ -1,10 +1,7 @@
 -- The two texts of the Rust, each line beside the `println!` that it stands for.
 use Prim.Native.Nat.{ℕ, _+_}
 use mathlib.Core.List.{List, [], _∷_, _++_}
-use lib.ListN.{take, drop}
 use Rattle.image.specs.Frames.{Perhaps, absent, present, Frame, node, option, flag}
-use Rattle.image.specs.Reading.{perhapsIn}
-use Rattle.image.specs.declared.head.Lengths.{Lengths}
 use Rattle.ink.specs.Ascii.{ascii}
 use Rattle.rows.specs.Rows.{rows, titled}
 use Rattle.rows.specs.declared.row.Listing.the-variants.{Options, Flags, Subcommands, Commands}
@@ -30,11 +27,6 @@ lists depth below =
 unfoldable pub about : List (List ℕ) → List ℕ → Perhaps → List ℕ
 about words description usage =
     ascii "Command:" ++ spaced words ++ ascii "\nDescription: " ++ description ++ ascii "\n" ++ usageLine usage
-
--- the same for a node as it is read
-unfoldable pub aboutIn : List (List ℕ) → List ℕ → Lengths → List ℕ
-aboutIn words s texts =
-    about words (take (texts .description) (drop (6 + texts .name) s)) (perhapsIn (texts .other) (drop (6 + texts .name + texts .description + 1) s))
 
 -- `show_help`: the help of the node that a subtree begins with, under the words that lead to it
 unfoldable pub helpText : List (List ℕ) → List Frame → List ℕ

@@ -17,7 +17,8 @@ ghost use Rattle.image.specs.Reading.{Small, perhapsIn};
 ghost use Rattle.text.specs.Apart.{wordsBetween};
 ghost use Rattle.tree.specs.Images.{framesOf};
 ghost use Rattle.ink.specs.Inks.{Inked};
-ghost use Rattle.layout.specs.Texts.{usageLine, aboutIn, lists, helpText, availableText};
+ghost use Rattle.layout.specs.Texts.{usageLine, lists, helpText, availableText};
+ghost use Rattle.layout.specs.Steps.{aboutIn};
 ghost use Rattle.ink.specs.Answer.{Showing};
 
 // The usage of a node on a line of its own, if it has one: n is its length byte, `from` the place behind that.

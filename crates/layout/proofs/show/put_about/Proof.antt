@@ -1,6 +1,6 @@
 -- `layout::show::put_about` meets its contract: six texts in a row, each within its bound.
 use Rattle.layout.proofs.Helps.{take-most, about-put}
-use Rattle.layout.specs.Texts.{aboutIn}
+use Rattle.layout.specs.Steps.{aboutIn}
 use Rattle.ink.specs.Ascii.{ascii}
 use borrow.Author.Needs.{needs}
 use native.Mathlib.Omega.{arith}
