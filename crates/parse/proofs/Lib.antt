@@ -4,3 +4,5 @@ pub mod Descents
 pub mod Judgements
 pub mod Tellings
 pub mod Lines
+pub mod Answers
+mod Examples

@@ -5,3 +5,4 @@ pub mod Meanings
 pub mod Steps
 pub mod Walks
 pub mod Room
+pub mod Losses

@@ -6,14 +6,16 @@ use mathlib.Core.List.{List, [], _∷_, _++_}
 use mathlib.Core.Option.{Option, none, some}
 use native.Mathlib.Omega.{arith}
 use lib.ListN.{length, length-append}
-use Rattle.buffer.specs.Compare.{sameBytes}
+use Rattle.buffer.specs.Compare.{order, sameBytes}
+use Rattle.buffer.specs.declared.order.Order.{Order}
+use Rattle.buffer.specs.declared.order.Order.the-variants.{Less, Equal, Greater}
 use Rattle.buffer.proofs.Choices.{then-is, true-is-not-false}
 use Rattle.buffer.proofs.Ordering.{same-is, is-same}
 use Rattle.image.specs.Frames.{Perhaps, absent, present, Frame, node, option, flag}
 use Rattle.tree.specs.Forest.{optionsIn, flagsIn}
 use Rattle.lookup.specs.Searches.{keyed, longIs}
 use Rattle.lookup.specs.Definitions.{hasKey, hasShort, flagWith, optionWith}
-use Rattle.table.specs.Map.{Map, put, among, putWithin}
+use Rattle.table.specs.Map.{Map, onOrder, put, among}
 use Rattle.table.specs.Held.{capacity}
 use Rattle.table.proofs.Room.{Bounded, bounded-empty, bounded-put, put-fits}
 use Rattle.text.specs.Unicode.{encode}
@@ -168,10 +170,27 @@ means-in has defs = by (firstName (flagWith has) defs) refl (firstName (optionWi
     by none p (some y) q = q
     by none p none q = tt
 
+-- a map whose keys are all among these
+abbrev pub KeysIn : List (List ℕ) → Map → Type 0
+KeysIn keys [] = Unit
+KeysIn keys (e ∷ m) = Among keys (e .0) × KeysIn keys m
+
+put-keys : (keys : List (List ℕ)) (k v : List ℕ) (m : Map) → Among keys k → KeysIn keys m → KeysIn keys (put k v m)
+unfolding put
+put-keys keys k v [] a x = (a, tt)
+put-keys keys k v (e ∷ m) a x = by (order k (e .0)) (put-keys keys k v m a (x .1))
+  where
+    by : (o : Order) → KeysIn keys (put k v m) → KeysIn keys (onOrder o ((k, v) ∷ e ∷ m) ((k, v) ∷ m) (e ∷ put k v m))
+    by Less more = (a, x)
+    by Equal more = (a, x .1)
+    by Greater more = (x .0, more)
+
 -- WHAT A LINE HAS FOUND is within the keys of the node
 pub record Roomy (defs : List Frame) (f : Found) : Type 0 where
   pub options : Bounded (optionKeys defs) (f .options)
   pub flags : Bounded (flagKeys defs) (f .flags)
+  pub option-keys : KeysIn (optionKeys defs) (f .options)
+  pub flag-keys : KeysIn (flagKeys defs) (f .flags)
 
 abbrev pub RoomyAt : List Frame → Stand → Type 0
 RoomyAt defs (go f) = Roomy defs f
@@ -190,7 +209,7 @@ module _ (defs : List Frame) (fo : length (optionKeys defs) ≤ 64) (ff : length
   option-same f k v r a =
       record {
         same = ap (λ (m : Map). go (record { options = m; flags = f .flags; positionals = f .positionals })) (sym (put-fits 64 (optionKeys defs) k v (f .options) fo a (r .options)));
-        roomy = record { options = bounded-put (optionKeys defs) k v (f .options) a (r .options); flags = r .flags };
+        roomy = record { options = bounded-put (optionKeys defs) k v (f .options) a (r .options); flags = r .flags; option-keys = put-keys (optionKeys defs) k v (f .options) a (r .option-keys); flag-keys = r .flag-keys };
       }
 
   flag-same : (f : Found) (k : List ℕ) → Roomy defs f → Among (flagKeys defs) k → SameStep defs (go (withFlag put f k)) (go (withFlag stored f k))
@@ -198,7 +217,7 @@ module _ (defs : List Frame) (fo : length (optionKeys defs) ≤ 64) (ff : length
   flag-same f k r a =
       record {
         same = ap (λ (m : Map). go (record { options = f .options; flags = m; positionals = f .positionals })) (sym (put-fits 64 (flagKeys defs) k [] (f .flags) ff a (r .flags)));
-        roomy = record { options = r .options; flags = bounded-put (flagKeys defs) k [] (f .flags) a (r .flags) };
+        roomy = record { options = r .options; flags = bounded-put (flagKeys defs) k [] (f .flags) a (r .flags); option-keys = r .option-keys; flag-keys = put-keys (flagKeys defs) k [] (f .flags) a (r .flag-keys) };
       }
 
   short-same : (a : Stand) (c : ℕ) → RoomyAt defs a → SameStep defs (shortStep put defs a c) (shortStep stored defs a c)
@@ -239,7 +258,7 @@ module _ (defs : List Frame) (fo : length (optionKeys defs) ≤ 64) (ff : length
       by (anOption x) m = record { same = refl; roomy = (r, option-key k defs x m) }
       by nothing m = record { same = refl; roomy = tt }
   form-same f w (shorts letters) r = shorts-same (codesIn letters) (go f) r
-  form-same f w positional r = record { same = refl; roomy = record { options = r .options; flags = r .flags } }
+  form-same f w positional r = record { same = refl; roomy = record { options = r .options; flags = r .flags; option-keys = r .option-keys; flag-keys = r .flag-keys } }
 
   word-same : (a : Stand) (w : List ℕ) → RoomyAt defs a → SameStep defs (wordStep put defs a w) (wordStep stored defs a w)
   word-same (go f) w r = form-same f w (formOf w) r
@@ -257,4 +276,4 @@ module _ (defs : List Frame) (fo : length (optionKeys defs) ≤ 64) (ff : length
 
   -- THE TABLE HOLDS WHAT THE MAP HOLDS
   pub args-same : (l : List (List ℕ)) → SameStep defs (args put defs (go noneFound) l) (args stored defs (go noneFound) l)
-  args-same l = words-same l (go noneFound) (record { options = bounded-empty (optionKeys defs); flags = bounded-empty (flagKeys defs) })
+  args-same l = words-same l (go noneFound) (record { options = bounded-empty (optionKeys defs); flags = bounded-empty (flagKeys defs); option-keys = tt; flag-keys = tt })
