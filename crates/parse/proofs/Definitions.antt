@@ -3,21 +3,21 @@ use Prim.Native.Nat.{ℕ, _+_, _<_, _≤_}
 use mathlib.Core.Path.{_≡_, refl, sym, ap, _∙_}
 use mathlib.Core.Bool.{Bool, true, false, cond}
 use mathlib.Core.List.{List, [], _∷_}
-use mathlib.Core.Option.{Option, none, some}
+use mathlib.Core.Option.{none, some}
 use native.Mathlib.Omega.{arith}
 use types.Run.{OneOf, hit, miss}
 use denote.Enum.Declared.{tagOf}
 use lib.ListN.{length, take, drop, length-drop}
 use lib.Seq.{drop-drop}
 use Rattle.buffer.proofs.Choices.{then-is, else-is}
-use Rattle.image.specs.Frames.{Frame, node, option, flag}
-use Rattle.image.specs.Reading.{Read, read, broken, ended, headFirst, readBy, readFirst, nodeIn, optionIn, flagIn}
+use Rattle.image.specs.Frames.{Frame, node}
+use Rattle.image.specs.Reading.{read, headFirst, readBy, readFirst, nodeIn, optionIn, flagIn}
 use Rattle.image.specs.declared.head.Lengths.{Lengths}
 use Rattle.image.specs.declared.head.Head.{Head}
 use Rattle.image.specs.declared.head.Head.the-variants.{Node as HeadNode, Option as HeadOption, Flag as HeadFlag, Bad, End}
 use Rattle.image.proofs.head.Head.{the-type}
 use Rattle.image.proofs.Encoding.{read-within, read-ended}
-use Rattle.tree.specs.Images.{Item, whole, torn, items, framesIn, framesOf}
+use Rattle.tree.specs.Images.{items, framesIn, framesOf}
 use Rattle.tree.proofs.Items.{items-read, items-broken, items-none, items-end}
 use Rattle.lookup.specs.Searches.{isNode}
 use Rattle.lookup.specs.Subtrees.{upTo}

@@ -1,13 +1,12 @@
 -- Laws of the descent: where the words have led, the part that is lent holds the subtree that they name.
-use Prim.Native.Nat.{ℕ, zero, suc, _+_, _-_, _^_, _<_, _≤_}
+use Prim.Native.Nat.{ℕ, suc, _+_, _-_, _^_, _<_, _≤_}
 use mathlib.Core.Path.{_≡_, refl, sym, ap, _∙_}
 use mathlib.Core.Bool.{Bool, true, false, cond}
 use mathlib.Core.List.{List, [], _∷_, _++_}
-use mathlib.Core.Option.{Option, none, some}
+use mathlib.Core.Option.{some}
 use native.Mathlib.Omega.{arith}
-use lib.ListN.{length, take, drop, length-take, length-drop}
+use lib.ListN.{length, take, drop, length-take}
 use lib.Seq.{drop-drop, take-take, take-add}
-use Rattle.buffer.proofs.Choices.{true-is-not-false}
 use Rattle.frame.specs.Text.{Bytes}
 use Rattle.frame.specs.Framed.{frameOf, frameFirst}
 use Rattle.frame.specs.declared.framed.Framed.the-variants.{Frame as Framed}
@@ -15,7 +14,7 @@ use Rattle.frame.specs.Series.{textsIn}
 use Rattle.frame.proofs.Texts.{bytes-take}
 use Rattle.frame.proofs.Series.{texts-more}
 use Rattle.image.specs.Frames.{Frame}
-use Rattle.image.specs.Limits.{both, fair}
+use Rattle.image.specs.Limits.{fair}
 use Rattle.image.proofs.Encoding.{fair-fits}
 use Rattle.image.proofs.Fields.{both-first, both-second, both-true}
 use Rattle.tree.specs.Images.{framesOf, flat}

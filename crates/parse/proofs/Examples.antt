@@ -11,7 +11,7 @@ use Rattle.lookup.specs.Subtrees.{upTo, onFrom, subtree}
 use Rattle.table.specs.Map.{put, has}
 use Rattle.scan.specs.Meanings.{definitionsOf, firstName, meaning, isOption}
 use Rattle.scan.specs.Forms.{beforeEquals, longForm, formOf}
-use Rattle.scan.specs.Arguments.{Found, withOption, withFlag, withPositional, shortSteps, args}
+use Rattle.scan.specs.Arguments.{withOption, withFlag, withPositional, shortSteps, args}
 use Rattle.parse.specs.Commands.{descend, isMissing, missingRequired, Outcome, parsed, fault, concluded, parseIn, parseWords}
 
 set-word : List ℕ

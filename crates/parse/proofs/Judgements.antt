@@ -1,9 +1,9 @@
 -- What a verdict rests on: the scan's stand, the command that was reached, and the limits of its node, within which a table holds what the map holds.
-use Prim.Native.Nat.{ℕ, suc, _+_, _-_, _*_, _≤_}
+use Prim.Native.Nat.{ℕ, suc, _+_, _-_, _≤_}
 use mathlib.Core.Path.{_≡_, refl, sym, ap, _∙_}
 use mathlib.Core.Bool.{Bool, true, false, cond}
 use mathlib.Core.List.{List, [], _∷_, _++_}
-use mathlib.Core.Option.{Option, none, some}
+use mathlib.Core.Option.{Option, some}
 use native.Mathlib.Omega.{arith}
 use borrow.Author.Tests.{leb-true}
 use lib.Dec.{leb}
@@ -21,7 +21,7 @@ use Rattle.tree.specs.Rules.{Seen, start, isLess, follows, obeys, after, obeyAl
 use Rattle.tree.specs.Forest.{Forest, bare, grown, flatten, optionsIn, flagsIn, definitionsOnly, modest, orderly}
 use Rattle.tree.specs.declared.check.Checked.the-variants.{Good}
 use Rattle.tree.proofs.Wholes.{frames-flat, WellFormed, good-well-formed}
-use Rattle.tree.proofs.Planting.{ForestOf, obeys-forest}
+use Rattle.tree.proofs.Planting.{obeys-forest}
 use Rattle.lookup.specs.Searches.{isNode}
 use Rattle.lookup.specs.Nodes.{findNode}
 use Rattle.lookup.specs.Subtrees.{upTo, subtree, treeNamed}
@@ -31,17 +31,16 @@ use Rattle.table.specs.Held.{partOf, mapOf}
 use Rattle.table.specs.Map.{put}
 use Rattle.scan.specs.Meanings.{definitionsOf, definitionsAt}
 use Rattle.scan.specs.Arguments.{Found, noneFound, Stand, go, args}
-use Rattle.scan.specs.Held.{stored, foundOf, standBy, standOf, toldOf, Whole, Scanned}
+use Rattle.scan.specs.Held.{stored, foundOf, standBy, standOf, Whole, Scanned}
 use Rattle.scan.specs.declared.standing.Progress.{Progress}
 use Rattle.scan.specs.declared.standing.Progress.the-variants.{Going}
 use Rattle.scan.specs.declared.standing.Scan.{Scan}
 use Rattle.scan.proofs.Steps.{stand-by}
-use Rattle.scan.proofs.Room.{optionKeys, flagKeys, options-few, flags-few, args-same}
+use Rattle.scan.proofs.Room.{options-few, flags-few, args-same}
 use Rattle.parse.specs.Commands.{Reached, onSubtree, descend, missingRequired, Outcome, parsed, fault, onMissing, outcomeOf, concluded, parseIn, parseWords, emptyCommand}
 use Rattle.parse.specs.Held.{partAt, outcomeBy, outcomeIn, Within, allFair, Sound, Descended, Judging}
 use Rattle.parse.specs.declared.command.Place.{Place}
 use Rattle.parse.specs.declared.judging.Verdict.{Verdict}
-use Rattle.parse.specs.declared.judging.Verdict.the-variants.{NoWords, UnknownCommand}
 use Rattle.parse.specs.declared.judging.Judged.{Judged}
 use Rattle.scan.proofs.Walks.{word-within}
 use Rattle.parse.proofs.Descents.{all-fit, fair-subtree, sound-flat, found-in, found-some, path-more, path-whole, words-more}

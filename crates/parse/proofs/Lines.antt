@@ -1,5 +1,5 @@
 -- What the split of a line into words tells the call: its refusals, and that the words which are judged are the line's.
-use Prim.Native.Nat.{ℕ, _+_, _*_, _^_, _<_, _≤_, min}
+use Prim.Native.Nat.{ℕ, _+_, _<_, _≤_, min}
 use mathlib.Core.Path.{_≡_, refl, sym, ap, _∙_}
 use mathlib.Core.Bool.{Bool, true, false, cond}
 use mathlib.Core.List.{List, [], _∷_, _++_}

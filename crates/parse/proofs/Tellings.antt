@@ -1,28 +1,26 @@
 -- What is told of an outcome: the fault of a verdict in its parts, and the answer and the bytes that a writer's answer stands for.
-use Prim.Native.Nat.{ℕ, _+_, _<_, _≤_, min}
+use Prim.Native.Nat.{ℕ, _≤_}
 use mathlib.Core.Path.{_≡_, refl, sym, ap, _∙_}
 use mathlib.Core.Bool.{Bool, true, false, cond}
-use mathlib.Core.List.{List, [], _∷_, _++_}
+use mathlib.Core.List.{List, [], _∷_}
 use native.Mathlib.Omega.{arith}
 use borrow.Author.Tests.{ne-eqb}
 use types.Run.{OneOf, miss}
 use denote.Enum.Declared.{tagOf}
-use lib.Dec.{ltb, eqb}
-use lib.ListN.{length, take, drop, length-take, length-drop}
+use lib.Dec.{ltb}
+use lib.ListN.{length, length-take, length-drop}
 use Rattle.buffer.specs.Write.{over}
-use Rattle.buffer.proofs.Choices.{then-is, else-is}
-use Rattle.frame.specs.Series.{textsIn}
+use Rattle.buffer.proofs.Choices.{else-is}
 use Rattle.report.specs.Report.{reportOf, faultOf, dashed, reportAnswer, leavesBy, reportLeaves, Reporting}
 use Rattle.report.specs.declared.answer.Reported.{Reported}
 use Rattle.report.specs.declared.answer.Reported.the-variants.{Report as Whole, NoRoom as TooShort}
-use Rattle.table.specs.Held.{partOf, mapOf}
+use Rattle.table.specs.Held.{partOf}
 use Rattle.scan.specs.Arguments.{Found}
-use Rattle.scan.specs.Held.{foundOf, toldOf}
 use Rattle.parse.specs.Commands.{Outcome, parsed, fault}
 use Rattle.parse.specs.Answer.{toldIn, faultAnswer, numbered, answeredBy, namedAs, outcomeAnswer, outcomeLeaves, Telling}
 use Rattle.parse.specs.Held.{outcomeBy, numberOf, dashesOf, textOf}
 use Rattle.parse.specs.declared.answer.Parsed.{Parsed}
-use Rattle.parse.specs.declared.answer.Parsed.the-variants.{Report, MissingRequired, NoRoom}
+use Rattle.parse.specs.declared.answer.Parsed.the-variants.{MissingRequired, NoRoom}
 use Rattle.parse.specs.declared.judging.Verdict.{Verdict}
 use Rattle.parse.specs.declared.judging.Verdict.the-variants.{Fine, NoWords, UnknownCommand, UnknownOption, MissingValue, MissingRequired as LacksOption}
 use Rattle.parse.proofs.judging.Verdict.{the-type}

@@ -13,7 +13,6 @@ use Rattle.tree.specs.declared.check.Checked.the-variants.{Good, BadFrame}
 use Rattle.report.specs.Report.{reportOf, faultOf}
 use Rattle.report.specs.declared.answer.Reported.{Reported}
 use Rattle.report.specs.declared.answer.Reported.the-variants.{Report as Whole, NoRoom as TooShort}
-use Rattle.scan.specs.Arguments.{Found}
 use Rattle.parse.specs.Commands.{Outcome, parsed, fault, parseLine}
 use Rattle.parse.specs.declared.answer.Parsed.{Parsed}
 use Rattle.parse.specs.declared.answer.Parsed.the-variants.{Report, BadTree, LineTooLong, IllFormed, UnknownCommand, UnknownOption, MissingValue, MissingRequired, NoRoom}

@@ -1,5 +1,5 @@
 -- How the code holds what a line says: a verdict, the command's place in the image and in the words, and the scan.
-use Prim.Native.Nat.{ℕ, _-_, _≤_, _<_}
+use Prim.Native.Nat.{ℕ, _-_, _≤_}
 use mathlib.Core.Path.{_≡_}
 use mathlib.Core.Bool.{Bool, true}
 use mathlib.Core.List.{List, [], _∷_}
@@ -11,8 +11,8 @@ use Rattle.image.specs.Limits.{both, fair}
 use Rattle.tree.specs.Images.{framesOf, flat}
 use Rattle.table.specs.Held.{partOf}
 use Rattle.scan.specs.Arguments.{Found}
-use Rattle.scan.specs.Held.{toldOf, foundOf, Whole}
-use Rattle.parse.specs.Commands.{Reached, Outcome, parsed, fault, emptyCommand, descend}
+use Rattle.scan.specs.Held.{toldOf, foundOf}
+use Rattle.parse.specs.Commands.{Reached, Outcome, parsed, fault, emptyCommand}
 use Rattle.parse.specs.declared.required.Required.{Required}
 use Rattle.parse.specs.declared.required.Required.the-variants.{Fine as AllThere, Missing}
 use Rattle.parse.specs.declared.command.Place.{Place}

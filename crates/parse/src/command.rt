@@ -3,7 +3,6 @@ use frame::Framed;
 use frame::read_frame;
 use lookup::Part;
 use lookup::find_node;
-ghost use mathlib.Core.Path.{_≡_};
 ghost use Prim.Native.Nat.{_+_, _-_, _≤_};
 ghost use lib.ListN.{length, take, drop};
 ghost use Rattle.frame.specs.Series.{textsIn};

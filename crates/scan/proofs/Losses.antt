@@ -3,7 +3,6 @@ use Prim.Native.Nat.{ℕ}
 use mathlib.Core.Path.{_≡_, refl, sym, ap, _∙_}
 use mathlib.Core.Bool.{Bool, true, false, cond}
 use mathlib.Core.List.{List, [], _∷_, _++_, append-assoc, append-nil}
-use native.Mathlib.Omega.{arith}
 use Rattle.buffer.specs.Compare.{sameBytes}
 use Rattle.image.specs.Frames.{Frame}
 use Rattle.lookup.specs.Definitions.{hasKey, hasShort}

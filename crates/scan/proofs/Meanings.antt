@@ -26,9 +26,8 @@ use Rattle.lookup.specs.Definitions.{hasKey, flagWith, optionWith, flagOr, defi
 use Rattle.lookup.specs.declared.seek.Spot.{Spot}
 use Rattle.lookup.specs.declared.seek.Spot.the-variants.{At, Nothing}
 use Rattle.lookup.specs.declared.look.Sought.the-variants.{OptionKeyed}
-use Rattle.lookup.specs.declared.definition.Defined.{Defined}
 use Rattle.lookup.specs.declared.definition.Defined.the-variants.{Flag, Option as Opt, Unknown}
-use Rattle.lookup.proofs.Finds.{FrameAt, SpotTold, SpotFirst, spot-first, spot-none}
+use Rattle.lookup.proofs.Finds.{FrameAt, spot-first, spot-none}
 use Rattle.table.specs.Held.{partOf}
 use Rattle.scan.specs.Meanings.{definitionsAt, nameOf, firstName, Means, aFlag, anOption, nothing, flagElse, meaning, isSome, isOption}
 

@@ -1,7 +1,7 @@
 -- Laws of where a scan stands: what each of its moves makes of it.
 use Prim.Native.Nat.{ℕ, _+_, _<_, _≤_}
 use mathlib.Core.Path.{_≡_, refl, sym, ap, _∙_}
-use mathlib.Core.List.{List, [], _∷_, _++_, append-assoc}
+use mathlib.Core.List.{List, [], _++_, append-assoc}
 use native.Mathlib.Omega.{arith}
 use lib.ListN.{length, take, drop, length-append}
 use lib.Seq.{take-append-seam, length-take-le}
@@ -13,7 +13,7 @@ use Rattle.table.specs.Held.{partOf, bitOf, sourceOf, packed, keyOf, valueOf, m
 use Rattle.table.specs.declared.packing.Source.{Source}
 use Rattle.table.specs.declared.sorted.Table.{Table}
 use Rattle.table.proofs.Parts.{entry-key, entry-value}
-use Rattle.scan.specs.Arguments.{Found, noneFound, Stand, go, withOption, withFlag}
+use Rattle.scan.specs.Arguments.{noneFound, go, withOption, withFlag}
 use Rattle.scan.specs.Held.{stored, foundOf, standBy, standOf, KeySmall, Whole, Apt, Moved, Kept}
 use Rattle.scan.specs.declared.standing.Progress.{Progress}
 use Rattle.scan.specs.declared.standing.Progress.the-variants.{Going}

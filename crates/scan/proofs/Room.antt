@@ -1,11 +1,11 @@
 -- Within the limits of a node a table's insert is BTreeMap's: each key that is stored is a name or a long of a definition, and there is room for those.
-use Prim.Native.Nat.{ℕ, suc, _+_, _*_, _≤_}
+use Prim.Native.Nat.{ℕ, _+_, _*_, _≤_}
 use mathlib.Core.Path.{_≡_, refl, sym, ap, _∙_}
 use mathlib.Core.Bool.{Bool, true, false, cond}
 use mathlib.Core.List.{List, [], _∷_, _++_}
 use mathlib.Core.Option.{Option, none, some}
 use native.Mathlib.Omega.{arith}
-use lib.ListN.{length, length-append}
+use lib.ListN.{length}
 use Rattle.buffer.specs.Compare.{order, sameBytes}
 use Rattle.buffer.specs.declared.order.Order.{Order}
 use Rattle.buffer.specs.declared.order.Order.the-variants.{Less, Equal, Greater}
@@ -13,14 +13,13 @@ use Rattle.buffer.proofs.Choices.{then-is, true-is-not-false}
 use Rattle.buffer.proofs.Ordering.{same-is, is-same}
 use Rattle.image.specs.Frames.{Perhaps, absent, present, Frame, node, option, flag}
 use Rattle.tree.specs.Forest.{optionsIn, flagsIn}
-use Rattle.lookup.specs.Searches.{keyed, longIs}
+use Rattle.lookup.specs.Searches.{keyed}
 use Rattle.lookup.specs.Definitions.{hasKey, hasShort, flagWith, optionWith}
 use Rattle.table.specs.Map.{Map, onOrder, put, among}
-use Rattle.table.specs.Held.{capacity}
 use Rattle.table.proofs.Room.{Bounded, bounded-empty, bounded-put, put-fits}
 use Rattle.text.specs.Unicode.{encode}
 use Rattle.text.specs.Decoding.{codesIn}
-use Rattle.scan.specs.Meanings.{nameOf, firstName, Means, aFlag, anOption, nothing, flagElse, meaning, onMeans, isSome, isOption}
+use Rattle.scan.specs.Meanings.{firstName, Means, aFlag, anOption, nothing, flagElse, meaning, onMeans, isSome, isOption}
 use Rattle.scan.specs.Forms.{Form, valued, long as longOnly, shorts, positional, formOf, dash}
 use Rattle.scan.specs.Arguments.{Found, noneFound, Stand, go, wait, unknownOption, missingValue, withOption, withFlag, withPositional, shortStep, shortSteps, formStep, wordStep, args}
 use Rattle.scan.specs.Held.{stored}

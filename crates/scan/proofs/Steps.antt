@@ -1,26 +1,25 @@
 -- Laws of one step: a character of a word of shorts, a long form, a word.
 use Prim.Native.Nat.{ℕ, zero, suc, _+_, _-_, _<_, _≤_}
 use mathlib.Core.Path.{_≡_, refl, sym, ap, _∙_}
-use mathlib.Core.Bool.{Bool, true, false, cond}
-use mathlib.Core.List.{List, [], _∷_, _++_}
+use mathlib.Core.Bool.{true, false}
+use mathlib.Core.List.{List, [], _∷_}
 use native.Mathlib.Omega.{arith}
 use types.Run.{OneOf, miss}
 use denote.Enum.Declared.{tagOf}
-use lib.Dec.{eqb, ltb}
-use lib.ListN.{length, take, drop, getD, length-take, length-drop}
+use lib.ListN.{length, take, drop, length-take, length-drop}
 use lib.Seq.{drop-drop, take-take, take-nil}
-use borrow.Author.Tests.{lt-ltb, le-ltb, eq-eqb, ne-eqb}
+use borrow.Author.Tests.{lt-ltb, le-ltb}
 use Rattle.buffer.proofs.Choices.{then-is, else-is}
 use Rattle.text.specs.Unicode.{encode}
 use Rattle.image.specs.Frames.{Frame}
 use Rattle.lookup.specs.Definitions.{hasKey, hasShort}
-use Rattle.table.specs.Held.{partOf, sourceOf}
+use Rattle.table.specs.Held.{partOf}
 use Rattle.table.specs.declared.packing.Part.{Part}
 use Rattle.table.specs.declared.packing.Source.{Source}
-use Rattle.table.specs.declared.packing.Source.the-variants.{Words, Image}
+use Rattle.table.specs.declared.packing.Source.the-variants.{Image}
 use Rattle.scan.specs.Meanings.{Means, aFlag, anOption, nothing, meaning, onMeans, isOption}
-use Rattle.scan.specs.Forms.{Form, valued, long, shorts, positional, beforeEquals, longForm, formOf, dash}
-use Rattle.scan.specs.Arguments.{Found, Stand, go, wait, unknownOption, missingValue, withOption, withFlag, withPositional, shortStep, shortSteps, formStep, wordStep, args}
+use Rattle.scan.specs.Forms.{Form, valued, long, beforeEquals, longForm, dash}
+use Rattle.scan.specs.Arguments.{Stand, go, wait, unknownOption, missingValue, withOption, withFlag, shortStep, formStep}
 use Rattle.scan.specs.Held.{stored, toldOf, foundOf, standBy, standOf, meansOf, KeySmall, NameSmall, Moved}
 use Rattle.scan.specs.declared.standing.Told.{Told}
 use Rattle.scan.specs.declared.standing.Progress.{Progress}

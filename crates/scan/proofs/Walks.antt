@@ -1,7 +1,7 @@
 -- Laws of the two walks, over the characters of a word and over the words: one turn, and the end.
-use Prim.Native.Nat.{ℕ, suc, _+_, _-_, _^_, _<_, _≤_}
+use Prim.Native.Nat.{ℕ, _+_, _-_, _^_, _<_, _≤_}
 use mathlib.Core.Path.{_≡_, refl, sym, ap, _∙_}
-use mathlib.Core.Bool.{Bool, true, false, cond}
+use mathlib.Core.Bool.{false}
 use mathlib.Core.List.{List, [], _∷_, _++_, append-assoc, append-nil}
 use native.Mathlib.Omega.{arith}
 use lib.Dec.{eqb, ltb}
@@ -22,11 +22,10 @@ use Rattle.frame.proofs.Frames.{frame-within, frame-back, length-frameOf}
 use Rattle.frame.proofs.Series.{texts-more, texts-written}
 use Rattle.tree.proofs.Items.{bytes-drop}
 use Rattle.image.specs.Frames.{Frame}
-use Rattle.table.specs.Held.{partOf, mapOf}
-use Rattle.scan.specs.Forms.{Form, positional, shorts, longForm, formOf, dash}
-use Rattle.scan.specs.Arguments.{Found, noneFound, Stand, go, withPositional, shortStep, shortSteps, formStep, wordStep, args}
-use Rattle.scan.specs.Held.{stored, foundOf, standBy, standOf, KeySmall, Whole, Apt, Sizes, Moved, Kept, Stepped, Scanned}
-use Rattle.scan.specs.declared.standing.Progress.{Progress}
+use Rattle.table.specs.Held.{partOf}
+use Rattle.scan.specs.Forms.{positional, shorts, longForm, formOf, dash}
+use Rattle.scan.specs.Arguments.{noneFound, Stand, go, withPositional, shortStep, shortSteps, wordStep, args}
+use Rattle.scan.specs.Held.{stored, foundOf, standOf, KeySmall, Whole, Apt, Moved, Kept, Stepped, Scanned}
 use Rattle.scan.specs.declared.standing.Progress.the-variants.{Going}
 use Rattle.scan.specs.declared.standing.Scan.{Scan}
 use Rattle.scan.proofs.Steps.{stand-by, drop-take}

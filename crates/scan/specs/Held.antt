@@ -5,12 +5,11 @@ use mathlib.Core.Path.{_≡_}
 use mathlib.Core.List.{List, _++_}
 use lib.ListN.{length, take, replicate}
 use Rattle.frame.specs.Series.{textsIn}
-use Rattle.image.specs.Frames.{Frame}
 use Rattle.table.specs.Map.{putWithin}
 use Rattle.table.specs.Held.{partOf, sourceOf, mapOf, capacity}
 use Rattle.scan.specs.Meanings.{Means, aFlag, anOption, nothing}
 use Rattle.scan.specs.Forms.{dash}
-use Rattle.scan.specs.Arguments.{Found, Insert, Stand, go, wait, unknownOption, missingValue, wordStep}
+use Rattle.scan.specs.Arguments.{Found, Insert, Stand, go, wait, unknownOption, missingValue}
 use Rattle.scan.specs.declared.standing.Told.{Told}
 use Rattle.scan.specs.declared.standing.Progress.{Progress}
 use Rattle.scan.specs.declared.standing.Progress.the-variants.{Going, Waiting, UnknownOption, MissingValue}

@@ -1,7 +1,7 @@
 -- `parse::command::find_command` meets its contract: the words still to come, from the command reached, lead where all of them lead.
 use Rattle.table.specs.Held.{partOf}
-use Prim.Native.Nat.{_+_, _-_, _<_, _≤_}
-use mathlib.Core.Path.{_≡_, refl, sym, ap, _∙_}
+use Prim.Native.Nat.{_+_, _-_, _≤_}
+use mathlib.Core.Path.{sym, _∙_}
 use native.Mathlib.Omega.{arith}
 use borrow.Author.Needs.{needs}
 use lib.ListN.{length, take, drop}

@@ -1,6 +1,6 @@
 -- `parse::judging::judge` meets its contract: the first word names the command, and what its part says is what the image says.
-use Prim.Native.Nat.{_+_, _-_, _≤_}
-use mathlib.Core.Path.{refl, sym, _∙_}
+use Prim.Native.Nat.{_-_}
+use mathlib.Core.Path.{sym, _∙_}
 use native.Mathlib.Omega.{arith}
 use lib.ListN.{length}
 use Rattle.frame.specs.Text.{Bytes}

@@ -1,10 +1,8 @@
 -- `parse::parser::parse_line` meets its contract: the words that are judged are the line's, and they always find room.
-use Prim.Native.Nat.{_≤_}
-use mathlib.Core.Path.{_≡_, refl, sym, ap, _∙_}
+use mathlib.Core.Path.{refl, sym, ap}
 use native.Mathlib.Omega.{arith}
-use lib.ListN.{length, take}
+use lib.ListN.{length}
 use lib.Seq.{length-take-le}
-use Rattle.words.specs.Answer.{written}
 use Rattle.parse.proofs.Lines.{line-by, line-words, line-long, line-ill, line-parsed, left-length}
 use borrow.Author.Needs.{needs}
 use Rattle.parse.proofs.parser.parse_line.Statement.{statement}

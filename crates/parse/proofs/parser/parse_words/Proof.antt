@@ -1,9 +1,7 @@
 -- `parse::parser::parse_words` meets its contract: what is told is what was judged.
 use Prim.Native.Nat.{_≤_}
 use lib.ListN.{length}
-use mathlib.Core.Path.{refl}
 use Rattle.frame.specs.Text.{Bytes}
-use native.Mathlib.Omega.{arith}
 use Rattle.parse.proofs.Judgements.{good-short}
 use Rattle.parse.proofs.Lines.{told-same}
 use borrow.Author.Needs.{needs}

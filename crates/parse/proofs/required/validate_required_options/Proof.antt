@@ -1,10 +1,9 @@
 -- `parse::required::validate_required_options` meets its contract: what is missing from the place reached is what is missing from the beginning.
-use Prim.Native.Nat.{_+_, _-_, _<_, _≤_}
+use Prim.Native.Nat.{_-_}
 use mathlib.Core.Path.{_≡_, refl, sym, ap, _∙_}
 use native.Mathlib.Omega.{arith}
 use borrow.Author.Needs.{needs}
 use lib.ListN.{length}
-use Rattle.table.specs.Map.{Map}
 use Rattle.table.specs.Held.{mapOf}
 use Rattle.scan.specs.Meanings.{definitionsAt}
 use Rattle.parse.specs.Commands.{lacking, missingRequired}

@@ -1,9 +1,9 @@
 -- `scan::arguments::parse_args` meets its contract: the words still to come, from where the scan stands, lead where all of them lead.
-use Prim.Native.Nat.{_+_, _-_, _<_, _≤_}
-use mathlib.Core.Path.{_≡_, sym, _∙_}
+use Prim.Native.Nat.{_+_, _-_, _≤_}
+use mathlib.Core.Path.{sym, _∙_}
 use native.Mathlib.Omega.{arith}
 use borrow.Author.Needs.{needs}
-use lib.ListN.{length, drop}
+use lib.ListN.{length}
 use Rattle.frame.proofs.Series.{texts-stop, texts-end}
 use Rattle.scan.specs.Meanings.{definitionsAt}
 use Rattle.scan.proofs.Walks.{ArgsAt, args-start, args-turn, args-end, word-within}

@@ -1,7 +1,6 @@
 -- `scan::standing::Scan::long` meets its contract: the key and the value are parts of the words, and the lookup tells what the key means.
 use Prim.Native.Nat.{_+_, _-_, _≤_}
 use mathlib.Core.Path.{refl, sym, _∙_}
-use native.Mathlib.Omega.{arith}
 use lib.ListN.{length, take, drop}
 use lib.Seq.{length-take-le}
 use Rattle.frame.specs.Text.{Bytes}

@@ -1,5 +1,5 @@
 -- `scan::standing::Scan::short` meets its contract: a flag, an option that waits, or a fault, by what the character means.
-use mathlib.Core.Path.{refl, sym, ap, _∙_}
+use mathlib.Core.Path.{refl, ap}
 use Rattle.scan.specs.Held.{meansOf, stored}
 use Rattle.scan.specs.Arguments.{shortStep}
 use Rattle.scan.specs.Meanings.{definitionsAt}

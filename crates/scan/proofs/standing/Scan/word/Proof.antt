@@ -1,13 +1,12 @@
 -- `scan::standing::Scan::word` meets its contract: a value where one is waited for, else an argument; a fault stays.
-use Prim.Native.Nat.{_+_, _<_, _≤_}
-use mathlib.Core.Path.{_≡_, refl, sym, ap, _∙_}
+use Prim.Native.Nat.{_+_}
+use mathlib.Core.Path.{refl, sym, ap}
 use native.Mathlib.Omega.{arith}
 use Rattle.table.specs.Held.{partOf}
 use Rattle.scan.specs.Meanings.{definitionsAt}
 use Rattle.scan.specs.Arguments.{Stand, wordStep}
-use Rattle.scan.specs.Held.{stored, KeySmall}
-use Rattle.scan.specs.declared.standing.Progress.{Progress}
-use Rattle.scan.specs.declared.standing.Progress.the-variants.{Going, Waiting}
+use Rattle.scan.specs.Held.{stored}
+use Rattle.scan.specs.declared.standing.Progress.the-variants.{Going}
 use Rattle.scan.proofs.Steps.{stand-by, key-small, fault-stays}
 use Rattle.scan.proofs.Walks.{word-within, stepped-as, moved-stepped}
 use borrow.Author.Needs.{needs}
