@@ -6,7 +6,7 @@
  *   bits 32-39  the refusal's number, 0 for none
  *   bits 40-47  the kind of answer, where a call has several
  *   bits 48-63  a second value, where a call has one
- * A refusal writes nothing. Success writes the first bytes of an out, line or screen only, as many as the value (the second value for line)
+ * A refusal writes nothing, but for 4 to 7, each of which is told by a frame. Success writes the first bytes of an out, line or screen only, as many as the value (the second value for line)
  * says.
  */
 #ifndef RISSEMAT_H
@@ -50,5 +50,18 @@ uint64_t rissemat_history_add(uint8_t *state, size_t state_len, uint8_t *slots, 
 /* The test of a tree image: frames 01, 02 and 03 one behind the other. The value is 0.
  * Refusal: 1 (a bad tree: the number, from 0, of the first frame that breaks a rule; an image over 32,768 bytes is bad at frame 0). */
 uint64_t rissemat_tree(const uint8_t *image, size_t image_len);
+
+/* A line parsed under a tree: the report of its command as frames of kinds 11 (path word), 12 (option: key, value), 13 (flag) and 14
+ * (positional), in that order, each text behind its length in two bytes, high first.
+ * Refusals, in this order: 1 (a bad tree, as above), 2 (line over 1,024 bytes: its length, 65,535 if more), 3 (ill-formed UTF-8: length of the
+ * longest well-formed prefix), then 4 (unknown command), 5 (unknown option), 6 (missing value) or 7 (missing required option), whose text
+ * stands at the front of out in one frame of kind 1E, and whose value is that frame's length; 9 instead of any answer from 4 on, or of the
+ * report (out too short: length needed). */
+uint64_t rissemat_parse(const uint8_t *image, size_t image_len, const uint8_t *line, size_t line_len, uint8_t *out, size_t out_len);
+
+/* The help for the words of a line, split on white space only, under a tree.
+ * Refusals, in this order: 1, 2 and 3 as for rissemat_parse, 14 (no words: 0), 4 (a word that names no node, told as above), 9 (out too short
+ * for the help or for that frame: length needed). */
+uint64_t rissemat_help(const uint8_t *image, size_t image_len, const uint8_t *line, size_t line_len, uint8_t *out, size_t out_len);
 
 #endif

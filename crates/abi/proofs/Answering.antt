@@ -21,8 +21,12 @@ use Rattle.saved.specs.declared.calls.Begun.{Begun}
 use Rattle.tree.specs.declared.check.Checked.{Checked}
 use Rattle.tree.specs.Rules.{checkTree}
 use Rattle.tree.specs.Answer.{number as treeNumber, value as treeValue}
+use Rattle.parse.specs.declared.answer.Parsed.{Parsed}
+use Rattle.parse.specs.Answer.{Parsing, number as parseNumber, value as parseValue}
+use Rattle.help.specs.declared.call.Helped.{Helped}
+use Rattle.help.specs.Answer.{Helping, number as helpNumber, value as helpValue}
 use Rattle.abi.specs.Packed.{plain}
-use Rattle.abi.specs.Calls.{WordsCall, QuoteCall, FreshCall, freshNumber, freshValue, KeyCall, keyTold, AddCall, TreeCall}
+use Rattle.abi.specs.Calls.{WordsCall, QuoteCall, FreshCall, freshNumber, freshValue, KeyCall, keyTold, AddCall, TreeCall, ParseCall, HelpCall}
 
 pub words-call : (line out left : List ℕ) (r q : Tokens) (p : ℕ) → Tokenized line out r left → r ≡ q → p ≡ plain (number q) (value q) → WordsCall line out p left
 words-call line out left r q p h e f =
@@ -65,6 +69,14 @@ add-call state slots text state′ slots′ r q p h e f =
 pub tree-call : (image : List ℕ) (r q : Checked) (p : ℕ) → r ≡ checkTree image → r ≡ q → p ≡ plain (treeNumber q) (treeValue q) → TreeCall image p
 tree-call image r q p h e f = record { answer = f ∙ ap (λ (x : Checked). plain (treeNumber x) (treeValue x)) (sym e ∙ h) }
 
+pub parse-call : (image line out left : List ℕ) (r q : Parsed) (p : ℕ) → Parsing image line out r left → r ≡ q → p ≡ plain (parseNumber q) (parseValue q) → ParseCall image line out p left
+parse-call image line out left r q p h e f =
+    record { answer = f ∙ ap (λ (x : Parsed). plain (parseNumber x) (parseValue x)) (sym e ∙ h .answer); bytes = h .bytes }
+
+pub help-call : (image line out left : List ℕ) (r q : Helped) (p : ℕ) → Helping image line out r left → r ≡ q → p ≡ plain (helpNumber q) (helpValue q) → HelpCall image line out p left
+help-call image line out left r q p h e f =
+    record { answer = f ∙ ap (λ (x : Helped). plain (helpNumber x) (helpValue x)) (sym e ∙ h .answer); bytes = h .bytes }
+
 -- no second answer and no other bytes
 pub one-fresh : (state slots a b a′ b′ : List ℕ) (r r′ : ℕ) → FreshCall state slots r a b → FreshCall state slots r′ a′ b′ → (r ≡ r′) × (a ≡ a′) × (b ≡ b′)
 one-fresh state slots a b a′ b′ r r′ h k = (h .answer ∙ sym (k .answer), h .kept ∙ sym (k .kept), h .held ∙ sym (k .held))
@@ -79,3 +91,9 @@ one-add state slots text a b a′ b′ r r′ h k = (h .answer ∙ sym (k .answe
 
 pub one-tree : (image : List ℕ) (r r′ : ℕ) → TreeCall image r → TreeCall image r′ → r ≡ r′
 one-tree image r r′ h k = h .answer ∙ sym (k .answer)
+
+pub one-parse : (image line out a a′ : List ℕ) (r r′ : ℕ) → ParseCall image line out r a → ParseCall image line out r′ a′ → (r ≡ r′) × (a ≡ a′)
+one-parse image line out a a′ r r′ h k = (h .answer ∙ sym (k .answer), h .bytes ∙ sym (k .bytes))
+
+pub one-help : (image line out a a′ : List ℕ) (r r′ : ℕ) → HelpCall image line out r a → HelpCall image line out r′ a′ → (r ≡ r′) × (a ≡ a′)
+one-help image line out a a′ r r′ h k = (h .answer ∙ sym (k .answer), h .bytes ∙ sym (k .bytes))

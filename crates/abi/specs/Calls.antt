@@ -19,6 +19,8 @@ use Rattle.saved.specs.declared.calls.Begun.{Begun}
 use Rattle.saved.specs.declared.calls.Begun.the-variants.{Ready, NoRoom as NoSpace}
 use Rattle.tree.specs.Rules.{checkTree}
 use Rattle.tree.specs.Answer.{number as treeNumber, value as treeValue}
+use Rattle.parse.specs.Answer.{parseAnswer, parseLeaves, number as parseNumber, value as parseValue}
+use Rattle.help.specs.Answer.{answerFor as helpAnswer, leavesFor as helpLeaves, number as helpNumber, value as helpValue}
 use Rattle.abi.specs.Packed.{answered, plain}
 
 pub record WordsCall (line out : List ℕ) (r : ℕ) (left : List ℕ) : Type 0 where
@@ -80,3 +82,12 @@ pub record AddCall (state slots text : List ℕ) (r : ℕ) (state′ slots′ : 
 
 pub record TreeCall (image : List ℕ) (r : ℕ) : Type 0 where
   pub answer : r ≡ plain (treeNumber (checkTree image)) (treeValue (checkTree image))
+
+-- a fault, 4 to 7, is told by a frame in the buffer, whose length is the value
+pub record ParseCall (image line out : List ℕ) (r : ℕ) (left : List ℕ) : Type 0 where
+  pub answer : r ≡ plain (parseNumber (parseAnswer image line (length out))) (parseValue (parseAnswer image line (length out)))
+  pub bytes : left ≡ parseLeaves image line out
+
+pub record HelpCall (image line out : List ℕ) (r : ℕ) (left : List ℕ) : Type 0 where
+  pub answer : r ≡ plain (helpNumber (helpAnswer image line (length out))) (helpValue (helpAnswer image line (length out)))
+  pub bytes : left ≡ helpLeaves image line out

@@ -5,10 +5,14 @@
 // has one. rissemat.h and rissemat.rs beside this crate declare the calls for C and for Rust.
 mod pack;
 
-ghost use Rattle.abi.specs.Calls.{WordsCall, QuoteCall, FreshCall, KeyCall, AddCall, TreeCall};
+ghost use Rattle.abi.specs.Calls.{WordsCall, QuoteCall, FreshCall, KeyCall, AddCall, TreeCall, ParseCall, HelpCall};
 use editor::Pressed;
+use help::Helped;
+use help::help;
 use history::Added;
 use pack::packed;
+use parse::Parsed;
+use parse::parse;
 use quote::Quoted;
 use quote::quote;
 use saved::Begun;
@@ -100,5 +104,39 @@ pub extern "C" fn rissemat_tree(image: &[u8]) -> u64
     match check_tree(image) {
         Checked::Good => packed(0, 0, 0, 0),
         Checked::BadFrame(n) => packed(1, n, 0, 0),
+    }
+}
+
+// The report of a line under a tree, at the front of out, as frames of kinds 11 to 14; or the fault of the line, 4 to 7, as one frame of kind 1E.
+#[no_mangle]
+pub extern "C" fn rissemat_parse(image: &[u8], line: &[u8], out: &mut [u8]) -> u64
+    ensures { λ r. ⌜ ParseCall (now (image .entry)) (now (line .entry)) (now (out .entry)) r (now (out .exit)) ⌝ }
+{
+    match parse(image, line, out) {
+        Parsed::Report(n) => packed(0, n, 0, 0),
+        Parsed::BadTree(n) => packed(1, n, 0, 0),
+        Parsed::LineTooLong(n) => packed(2, n, 0, 0),
+        Parsed::IllFormed(n) => packed(3, n, 0, 0),
+        Parsed::UnknownCommand(n) => packed(4, n, 0, 0),
+        Parsed::UnknownOption(n) => packed(5, n, 0, 0),
+        Parsed::MissingValue(n) => packed(6, n, 0, 0),
+        Parsed::MissingRequired(n) => packed(7, n, 0, 0),
+        Parsed::NoRoom(n) => packed(9, n, 0, 0),
+    }
+}
+
+// The help for the words of a line, at the front of out; or the word that is unknown, 4, as one frame of kind 1E.
+#[no_mangle]
+pub extern "C" fn rissemat_help(image: &[u8], line: &[u8], out: &mut [u8]) -> u64
+    ensures { λ r. ⌜ HelpCall (now (image .entry)) (now (line .entry)) (now (out .entry)) r (now (out .exit)) ⌝ }
+{
+    match help(image, line, out) {
+        Helped::Text(n) => packed(0, n, 0, 0),
+        Helped::BadTree(n) => packed(1, n, 0, 0),
+        Helped::LineTooLong(n) => packed(2, n, 0, 0),
+        Helped::IllFormed(n) => packed(3, n, 0, 0),
+        Helped::NoWords => packed(14, 0, 0, 0),
+        Helped::UnknownCommand(n) => packed(4, n, 0, 0),
+        Helped::NoRoom(n) => packed(9, n, 0, 0),
     }
 }
