@@ -1,18 +1,36 @@
 // Stands for the file vm.rs that the original wants and whose text was not supplied: it hands out the parser's inside.
+mod planted;
 mod tree;
 
-use super::{CommandHistory, CommandNode, CommandParser, handle_builtin_commands, print_prompt, run_cmd_bytes};
+use super::{CommandHistory, CommandNode, CommandParser, ParseError, ParsedCommand};
+use super::{handle_builtin_commands, print_prompt, run_cmd_bytes};
 use crate::Original;
 use std::collections::BTreeMap;
 use std::string::String;
 use std::vec::Vec;
 
-/// Adds no command: the vm commands are not among the four files.
-pub fn build_vm_cmd(_tree: &mut BTreeMap<String, CommandNode>) {}
+/// Adds no command: the vm commands are not among the four files. It is the last to build the tree, so a tree that was planted
+/// takes the place of all that is there.
+pub fn build_vm_cmd(tree: &mut BTreeMap<String, CommandNode>) {
+    if let Some(planted) = planted::take() {
+        *tree = planted;
+    }
+}
 
 impl Original {
     pub fn tokenize(line: &str) -> Vec<String> {
         CommandParser::tokenize(line)
+    }
+
+    /// A line parsed, or the fault's number in the standard and its text.
+    pub fn parse(line: &str) -> Result<ParsedCommand, (u64, String)> {
+        CommandParser::parse(line).map_err(|error| match error {
+            ParseError::UnknownCommand(text) => (4, text),
+            ParseError::UnknownOption(text) => (5, text),
+            ParseError::MissingValue(text) => (6, text),
+            ParseError::MissingRequiredOption(text) => (7, text),
+            ParseError::NoHandler(text) => (8, text),
+        })
     }
 
     /// A history as the loop makes it.
