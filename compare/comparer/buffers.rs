@@ -6,13 +6,23 @@ use std::hint::black_box;
 /// What a call has to do if the buffer has room enough. A refusal writes nothing, whatever room there is.
 pub enum Expected {
     Bytes(Vec<u8>),
-    Refusal { number: u64, value: u64 },
+    Refusal {
+        number: u64,
+        value: u64,
+    },
+    /// A fault of the line: refused under this number, and told by these bytes.
+    Fault {
+        number: u64,
+        told: Vec<u8>,
+    },
 }
 
 /// How much longer than needed the larger buffer is.
 const MORE: usize = 37;
 /// More than the words of any line need, 2,048 bytes, and more than any quoted line.
 const ROOM: usize = 2_400;
+/// More than any report needs: the words of a line, and a name of 32 bytes for each of 64 options and 64 flags.
+const MOST: usize = 8_192;
 /// The refusal of a buffer that is too short. Its value is the length needed.
 const TOO_SHORT: u64 = 9;
 
@@ -23,7 +33,7 @@ pub struct Buffers {
 
 impl Buffers {
     pub fn new() -> Self {
-        Buffers { out: Watched::new(ROOM), calls: 0 }
+        Buffers { out: Watched::new(MOST), calls: 0 }
     }
 
     /// The first difference between what is expected and what the call does with the buffers.
@@ -33,15 +43,19 @@ impl Buffers {
                 let refusal = answer(*number, *value);
                 self.one(0, &call, refusal, &[]).or_else(|| self.one(ROOM, &call, refusal, &[]))
             }
-            Expected::Bytes(bytes) => {
-                let length = bytes.len();
-                let written = answer(0, length as u64);
-                let too_short = answer(TOO_SHORT, length as u64);
-                self.one(length, &call, written, bytes)
-                    .or_else(|| self.one(length.checked_sub(1)?, &call, too_short, &[]))
-                    .or_else(|| self.one(length + MORE, &call, written, bytes))
-            }
+            Expected::Bytes(bytes) => self.written(&call, 0, bytes),
+            Expected::Fault { number, told } => self.written(&call, *number, told),
         }
+    }
+
+    // The call has to write these bytes if there is room, under this number.
+    fn written(&mut self, call: impl Fn(&mut [u8]) -> u64, number: u64, bytes: &[u8]) -> Option<String> {
+        let length = bytes.len();
+        let written = answer(number, length as u64);
+        let too_short = answer(TOO_SHORT, length as u64);
+        self.one(length, &call, written, bytes)
+            .or_else(|| self.one(length.checked_sub(1)?, &call, too_short, &[]))
+            .or_else(|| self.one(length + MORE, &call, written, bytes))
     }
 
     // One call with a buffer of this length, which must give this answer, write these bytes and change no other.
@@ -73,7 +87,7 @@ fn answer(number: u64, value: u64) -> u64 {
     number << 32 | value
 }
 
-/// How many bytes an answer says that were written.
+/// How many bytes an answer says that were written: a fault of the line, 4 to 7, is told by a frame.
 fn bytes_of(answer: u64) -> usize {
-    if answer >> 32 == 0 { answer as usize } else { 0 }
+    if matches!(answer >> 32, 0 | 4..=7) { answer as u32 as usize } else { 0 }
 }
