@@ -1,6 +1,7 @@
-// Times the proved library against the original shell, both from this one driver, and prints three tables.
+// Times the proved library against the original shell, both from this one driver, and prints four tables.
 mod keys;
 mod lines;
+mod parse;
 mod table;
 mod timing;
 mod tree;
@@ -13,4 +14,6 @@ fn main() {
     keys::rows();
     table::tree_heading();
     tree::rows();
+    table::parse_heading();
+    parse::rows();
 }

@@ -38,3 +38,18 @@ pub fn tree_row(tree: &str, bytes: usize, rust: f64, ours: f64) {
     let (by_rust, by_bytes) = (ours / rust, ours / bytes as f64);
     println!("| {tree:<16} | {bytes:>5} | {rust:>7.0} | {ours:>7.0} | {by_rust:>11.2} | {by_bytes:>14.3} |");
 }
+
+pub fn parse_heading() {
+    println!();
+    println!("| tree      | words | Rust ns | test ns | whole ns | whole / Rust | after the test ns | after / Rust |");
+    println!("|-----------|------:|--------:|--------:|---------:|-------------:|------------------:|-------------:|");
+}
+
+/// Prints the row of one line parsed: the whole call, the test of the image alone, and what is left of the call without it.
+pub fn parse_row(tree: &str, words: usize, rust: f64, whole: f64, test: f64) {
+    let after = whole - test;
+    let (by_whole, by_after) = (whole / rust, after / rust);
+    println!(
+        "| {tree:<9} | {words:>5} | {rust:>7.0} | {test:>7.0} | {whole:>8.0} | {by_whole:>12.2} | {after:>17.0} | {by_after:>12.2} |"
+    );
+}

@@ -2,7 +2,8 @@
 #[path = "../crates/abi/rissemat.rs"]
 mod rissemat;
 
-use rissemat::{rissemat_fresh, rissemat_history_add, rissemat_key, rissemat_quote, rissemat_tree, rissemat_words};
+use rissemat::{rissemat_fresh, rissemat_help, rissemat_history_add, rissemat_key, rissemat_parse};
+use rissemat::{rissemat_quote, rissemat_tree, rissemat_words};
 
 /// Writes the words of a line as frames of kind 14.
 pub fn words(line: &[u8], out: &mut [u8]) -> u64 {
@@ -55,4 +56,14 @@ pub fn history_add(state: &mut [u8], slots: &mut [u8], text: &[u8]) -> u64 {
 /// Tests a tree image.
 pub fn tree(image: &[u8]) -> u64 {
     unsafe { rissemat_tree(image.as_ptr(), image.len()) }
+}
+
+/// Parses a line under a tree; writes the report, or the frame of a fault.
+pub fn parse(image: &[u8], line: &[u8], out: &mut [u8]) -> u64 {
+    unsafe { rissemat_parse(image.as_ptr(), image.len(), line.as_ptr(), line.len(), out.as_mut_ptr(), out.len()) }
+}
+
+/// Writes the help for the words of a line, or the frame with a word that is unknown.
+pub fn help(image: &[u8], line: &[u8], out: &mut [u8]) -> u64 {
+    unsafe { rissemat_help(image.as_ptr(), image.len(), line.as_ptr(), line.len(), out.as_mut_ptr(), out.len()) }
 }

@@ -1,12 +1,19 @@
-// Frames of kind 14: the kind, the length in 16 bits with the high byte first, and the bytes of a word.
+// Frames: a kind, and texts, each behind its length in 16 bits with the high byte first. A word is a frame of kind 14.
 pub const WORD: u8 = 0x14;
 
-/// Adds one word. A word of more than 65,535 bytes has no frame.
+/// Adds a frame of this kind. A text of more than 65,535 bytes has no frame.
+pub fn add(list: &mut Vec<u8>, kind: u8, texts: &[&[u8]]) {
+    list.push(kind);
+    for text in texts {
+        let length = u16::try_from(text.len()).expect("a text fits in a frame");
+        list.extend(length.to_be_bytes());
+        list.extend(*text);
+    }
+}
+
+/// Adds one word.
 pub fn push(list: &mut Vec<u8>, word: &[u8]) {
-    let length = u16::try_from(word.len()).expect("a word fits in a frame");
-    list.push(WORD);
-    list.extend(length.to_be_bytes());
-    list.extend(word);
+    add(list, WORD, &[word]);
 }
 
 pub fn of(words: &[impl AsRef<[u8]>]) -> Vec<u8> {

@@ -9,10 +9,13 @@ mod lines;
 mod marked;
 mod model;
 mod named;
+mod parse;
 mod part;
+mod planting;
 mod prompts;
 mod quote;
 mod random;
+mod reports;
 mod session;
 mod shell;
 mod states;
@@ -26,7 +29,7 @@ mod workers;
 use part::Part;
 use std::process::ExitCode;
 
-const PARTS: [(&str, fn(&mut Part)); 32] = [
+const PARTS: [(&str, fn(&mut Part)); 37] = [
     ("session: the original under keys", session::compare),
     ("marked: M1 to M8", marked::compare),
     ("words: every short line", words::short_lines),
@@ -59,6 +62,11 @@ const PARTS: [(&str, fn(&mut Part)); 32] = [
     ("tree: damaged images", tree::damaged_images),
     ("tree: every byte changed", tree::every_byte),
     ("tree: images about the limits", tree::limits),
+    ("parse: M9 to M14", parse::marked_lines),
+    ("parse: named trees", parse::named_trees),
+    ("parse: random trees", parse::random_trees),
+    ("parse: long lines", parse::long_lines),
+    ("parse: refusals in their order", parse::refusals),
 ];
 
 /// Runs the parts whose names begin with one of the words given, all if there are none.

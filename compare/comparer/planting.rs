@@ -1,56 +1,51 @@
-// The trees that lines are parsed under, as images: a builder, trees that are there for a reason, and random ones.
+// The trees that lines are parsed under, and such lines: a builder, trees that are there for a reason, random ones.
 use crate::random::Random;
+use forest::{DEFINITIONS, DEPTHS, Definition, Kind, Node, plain_node};
 
 /// No short form.
-pub const NONE: u8 = 0;
-/// The depths of nodes are below this.
-const DEPTHS: u8 = 8;
+const NONE: u8 = 0;
 
-/// A tree image in the making: nodes, and the options and flags of the last node.
-pub struct Tree(pub Vec<u8>);
+/// A tree in the making: nodes in the order of their frames, and the options and flags of the last node.
+pub struct Tree(pub Vec<Node>);
 
 impl Tree {
     pub fn new() -> Self {
         Tree(Vec::new())
     }
 
-    fn text(&mut self, text: Option<&str>) {
-        match text {
-            None => self.0.push(0xFF),
-            Some(text) => {
-                self.0.push(text.len() as u8);
-                self.0.extend(text.as_bytes());
-            }
+    pub fn node(mut self, depth: usize, name: &str) -> Self {
+        let mut siblings = &mut self.0;
+        for _ in 0..depth {
+            siblings = &mut siblings.last_mut().expect("a node above").below;
         }
-    }
-
-    pub fn node(mut self, depth: u8, name: &str) -> Self {
-        self.0.extend([1, depth, 0, 1]);
-        self.text(Some(name));
-        self.text(Some(""));
-        self.text(None);
+        siblings.push(Node { handler: 1, ..plain_node(name.to_string()) });
         self
     }
 
-    fn define(mut self, head: &[u8], name: &str, long: Option<&str>) -> Self {
-        self.0.extend(head);
-        self.text(Some(name));
-        self.text(long);
-        self.text(Some(""));
+    fn define(mut self, kind: Kind, short: u8, name: &str, long: Option<&str>) -> Self {
+        let (name, long) = (name.to_string(), long.map(str::to_string));
+        let short = (short != NONE).then_some(short);
+        last(&mut self.0).definitions.push(Definition { kind, short, name, long, description: String::new() });
         self
     }
 
     pub fn option(self, short: u8, name: &str, long: Option<&str>) -> Self {
-        self.define(&[2, 0, short], name, long)
+        self.define(Kind::Option { required: false }, short, name, long)
     }
 
     pub fn required(self, short: u8, name: &str, long: Option<&str>) -> Self {
-        self.define(&[2, 1, short], name, long)
+        self.define(Kind::Option { required: true }, short, name, long)
     }
 
     pub fn flag(self, short: u8, name: &str, long: Option<&str>) -> Self {
-        self.define(&[3, short], name, long)
+        self.define(Kind::Flag, short, name, long)
     }
+}
+
+/// The node whose frame is the last.
+fn last(siblings: &mut [Node]) -> &mut Node {
+    let node = siblings.last_mut().expect("a node");
+    if node.below.is_empty() { node } else { last(&mut node.below) }
 }
 
 /// The node of the standard's marked examples.
@@ -108,21 +103,41 @@ pub fn named() -> Vec<Tree> {
 /// A node at each depth, all of one name, each with a flag of its own.
 fn eight_levels() -> Tree {
     (0..DEPTHS).fold(Tree::new(), |tree, depth| {
-        tree.node(depth, "a").flag(b'a' + depth % 3, ["a", "b", "c"][usize::from(depth % 3)], None)
+        let name = ["a", "b", "c"][depth % 3];
+        tree.node(depth, "a").flag(name.as_bytes()[0], name, None)
     })
 }
 
+/// A text of 32 bytes.
+fn text(letter: char, number: u8) -> String {
+    format!("{letter}{number:031}")
+}
+
 /// A node with 32 options and 32 flags, all with names and longs of 32 bytes.
-fn full() -> Tree {
-    let long = |letter: &str, number: u8| format!("{letter}{number:031}");
-    let options = (0..32).fold(Tree::new().node(0, "a"), |tree, number| {
-        tree.option(b'a' + number % 3, &long("n", number), Some(&long("l", number)))
+pub fn full() -> Tree {
+    let numbers = 0..DEFINITIONS as u8;
+    let options = numbers.clone().fold(Tree::new().node(0, "a"), |tree, number| {
+        tree.option(b'a' + number % 3, &text('n', number), Some(&text('l', number)))
     });
-    (0..32).fold(options, |tree, number| tree.flag(b'A' + number % 26, &long("f", number), Some(&long("g", number))))
+    numbers.fold(options, |tree, number| tree.flag(b'A' + number % 26, &text('f', number), Some(&text('g', number))))
+}
+
+/// A word or two behind a space that the node of `full` takes.
+pub fn full_arguments(random: &mut Random) -> String {
+    let number = random.below(DEFINITIONS) as u8;
+    let flags: String = (0..random.below(8)).map(|_| char::from(b'A' + random.below(26) as u8)).collect();
+    match random.below(6) {
+        0 => format!(" --{}", text(random.pick(&['f', 'g']), number)),
+        1 => format!(" --{}={flags}", text(random.pick(&['n', 'l']), number)),
+        2 => format!(" --{} -{flags}", text(random.pick(&['n', 'l']), number)),
+        3 => format!(" -{flags}"),
+        4 => format!(" -{flags}{} \u{20ac}{number}", random.pick(&['a', 'b', 'c'])),
+        _ => format!(" {flags}{number}"),
+    }
 }
 
 /// What the names and longs of random trees are taken from.
-pub const NAMES: [&str; 8] = ["a", "b", "ab", "-", "-a", "a=b", "\"", "x\\"];
+const NAMES: [&str; 8] = ["a", "b", "ab", "-", "-a", "a=b", "\"", "x\\"];
 const SHORTS: [u8; 8] = [NONE, b'a', b'a', b'b', b'b', b'-', b'=', b'"'];
 
 /// A tree of at most 12 nodes.
@@ -132,7 +147,7 @@ pub fn random(random: &mut Random) -> Tree {
 }
 
 // Some siblings of this depth, each with what is below it; their names rise by bytes.
-fn siblings(mut tree: Tree, depth: u8, left: &mut usize, random: &mut Random) -> Tree {
+fn siblings(mut tree: Tree, depth: usize, left: &mut usize, random: &mut Random) -> Tree {
     let mut names: Vec<&str> = (0..1 + random.below(4)).map(|_| random.pick(&NAMES)).collect();
     names.sort_unstable();
     names.dedup();
@@ -160,4 +175,30 @@ fn definitions(mut tree: Tree, random: &mut Random) -> Tree {
         };
     }
     tree
+}
+
+/// A line of words that random trees know, and of words made of them. Most begin with the name of a node: behind any other word
+/// nothing counts.
+pub fn random_line(numbers: &mut Random, name: &str) -> String {
+    let first = if numbers.once_in(8) { random_word(numbers) } else { name.to_string() };
+    let rest = (0..numbers.below(6)).map(|_| random_word(numbers));
+    let words: Vec<String> = std::iter::once(first).chain(rest).map(|word| typed(&word)).collect();
+    words.join(" ")
+}
+
+fn random_word(numbers: &mut Random) -> String {
+    let (name, other) = (numbers.pick(&NAMES), numbers.pick(&NAMES));
+    match numbers.below(14) {
+        0..4 => name.to_string(),
+        4..8 => format!("--{name}"),
+        8 | 9 => format!("--{name}={other}"),
+        10 | 11 => format!("-{name}"),
+        12 => format!("-{name}{other}"),
+        _ => format!("{name}\u{e9}{other}\u{20ac}"),
+    }
+}
+
+// A word as it is typed: its quotes and backslashes are escaped.
+fn typed(word: &str) -> String {
+    word.replace('\\', "\\\\").replace('"', "\\\"")
 }

@@ -16,16 +16,22 @@ pub fn run(parts: &[(&'static str, fn(&mut Part))]) -> Option<String> {
             let tell = tell.clone();
             scope.spawn(move || {
                 let take = || next.fetch_add(1, Ordering::Relaxed);
-                while let Some((number, (name, compare))) = Some(take()).and_then(|n| Some((n, parts.get(n)?))) {
-                    let mut part = Part::new(name);
-                    compare(&mut part);
-                    tell.send((number, part.end())).expect("rows are printed as long as there are parts");
+                while let Some((number, &(name, compare))) = Some(take()).and_then(|n| Some((n, parts.get(n)?))) {
+                    // in a thread of its own the original begins with its own tree
+                    let row = thread::spawn(move || compared(name, compare)).join().expect("a part comes to its end");
+                    tell.send((number, row)).expect("rows are printed as long as there are parts");
                 }
             });
         }
         drop(tell);
         print(told)
     })
+}
+
+fn compared(name: &'static str, compare: fn(&mut Part)) -> Row {
+    let mut part = Part::new(name);
+    compare(&mut part);
+    part.end()
 }
 
 fn print(told: Receiver<(usize, Row)>) -> Option<String> {
