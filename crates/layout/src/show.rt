@@ -34,7 +34,8 @@ fn put_usage(s: &[u8], from: usize, n: usize, out: &mut [u8], at: usize) -> usiz
     put(b"\n", out, end)
 }
 
-// The lines on the node at the front of s itself, under the words of a line.
+// The lines on the node at the front of s itself, under the words of a line: at most 64 bytes for each byte of that line, and two texts
+// of fewer than 256 bytes.
 fn put_about(s: &[u8], texts: Lengths, line: &[u8], out: &mut [u8]) -> usize
     requires { ⌜ Small texts × (length (now line) ≤ 1024) ⌝ }
     ensures { λ r. ⌜ Inked (aboutIn (wordsBetween (now (line .entry))) (now (s .entry)) texts) (now (out .entry)) 0 r (now (out .exit)) × (r ≤ 67000) ⌝ }
