@@ -1,4 +1,4 @@
--- Laws of one row: how the code puts it together, and how long it can be.
+-- Laws of one row: how the code puts it together, and what each frame gives in each list.
 use Prim.Native.Nat.{ℕ, zero, suc, _+_, _-_, _<_, _≤_}
 use mathlib.Core.Path.{_≡_, refl, sym, ap, _∙_}
 use mathlib.Core.Bool.{Bool, true, false, cond}

@@ -5,7 +5,7 @@ use super::row::put_row;
 use image::rest;
 use ink::put;
 ghost use mathlib.Core.Path.{_≡_};
-ghost use Prim.Native.Nat.{ℕ, _+_, _*_, _<_, _≤_};
+ghost use Prim.Native.Nat.{_+_, _*_, _<_, _≤_};
 ghost use lib.ListN.{length};
 ghost use Rattle.tree.specs.Images.{framesOf};
 ghost use Rattle.ink.specs.Inks.{Inked, InkedFrom};
