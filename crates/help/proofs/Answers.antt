@@ -1,4 +1,4 @@
--- Each answer of `help`, with what it leaves; that there is no second one; and that no command but the named one matters.
+-- Each answer of `help`, with what it leaves; and that there is no second one.
 use Prim.Native.Nat.{ℕ, _-_, _<_, _≤_, min}
 use mathlib.Core.Path.{_≡_, refl, sym, ap, _∙_}
 use mathlib.Core.Bool.{Bool, true, false}

@@ -6,8 +6,6 @@ use lookup::find_node;
 use text::Word;
 use text::next_word;
 ghost use mathlib.Core.Path.{_≡_};
-ghost use Prim.Native.Nat.{_≤_};
-ghost use lib.ListN.{length};
 ghost use Rattle.tree.specs.Rules.{checkTree};
 ghost use Rattle.tree.specs.declared.check.Checked.the-variants.{Good};
 ghost use Rattle.help.specs.Paths.{Follows};
