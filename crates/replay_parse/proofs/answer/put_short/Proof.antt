@@ -1,0 +1,67 @@
+-- `answer::put_short` is safe: it lends a part that the buffer has.
+use lib.ListN.{length-take}
+use native.Mathlib.Omega.{arith}
+use borrow.Author.Needs.{needs}
+use Rattle.replay_parse.proofs.answer.put_short.Statement.{statement}
+use Rattle.replay_parse.proofs.answer.put_short.Tie as tie
+
+returns : tie.Need-returns
+returns c = search needs
+
+slice-aggregate-put-all : tie.Need-slice-aggregate-put-all
+slice-aggregate-put-all c = search needs
+
+put-all-requires : tie.Need-put-all-requires
+put-all-requires c κs = search needs
+
+same-length : tie.Need-same-length
+same-length c = search needs
+
+returns-2 : tie.Need-returns-2
+returns-2 c = search needs
+
+sub-room : tie.Need-sub-room
+sub-room c = search needs
+
+array-borrow-prefix-out : tie.Need-array-borrow-prefix-out
+array-borrow-prefix-out c = search needs
+
+slice-aggregate-parse : tie.Need-slice-aggregate-parse
+slice-aggregate-parse c = simp length-take (omega arith)
+
+parse-requires : tie.Need-parse-requires
+parse-requires c κs = search needs
+
+slice-aggregate-put-all-2 : tie.Need-slice-aggregate-put-all-2
+slice-aggregate-put-all-2 c = search needs
+
+put-all-requires-2 : tie.Need-put-all-requires-2
+put-all-requires-2 c κs = search needs
+
+put-numbers-requires : tie.Need-put-numbers-requires
+put-numbers-requires c κs = search needs
+
+same-length-2 : tie.Need-same-length-2
+same-length-2 c = search needs
+
+returns-3 : tie.Need-returns-3
+returns-3 c = search needs
+
+pub put-short-spec : {M : Type 1} → statement M
+put-short-spec =
+    tie.close
+    (tie.spec
+    returns
+    slice-aggregate-put-all
+    put-all-requires
+    same-length
+    returns-2
+    sub-room
+    array-borrow-prefix-out
+    slice-aggregate-parse
+    parse-requires
+    slice-aggregate-put-all-2
+    put-all-requires-2
+    put-numbers-requires
+    same-length-2
+    returns-3)
