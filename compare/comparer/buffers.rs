@@ -21,8 +21,9 @@ pub enum Expected {
 const MORE: usize = 37;
 /// More than the words of any line need, 2,048 bytes, and more than any quoted line.
 const ROOM: usize = 2_400;
-/// More than any report needs: the words of a line, and a name of 32 bytes for each of 64 options and 64 flags.
-const MOST: usize = 8_192;
+/// More than any report needs: the words of a line, and a name of 32 bytes for each of 64 options and 64 flags; and more than the help of a
+/// node of the random trees.
+const MOST: usize = 16_384;
 /// The refusal of a buffer that is too short. Its value is the length needed.
 const TOO_SHORT: u64 = 9;
 

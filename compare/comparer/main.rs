@@ -2,6 +2,7 @@
 mod buffers;
 mod damage;
 mod frames;
+mod help;
 mod history;
 mod keys;
 mod lent;
@@ -29,7 +30,7 @@ mod workers;
 use part::Part;
 use std::process::ExitCode;
 
-const PARTS: [(&str, fn(&mut Part)); 37] = [
+const PARTS: [(&str, fn(&mut Part)); 40] = [
     ("session: the original under keys", session::compare),
     ("marked: M1 to M8", marked::compare),
     ("words: every short line", words::short_lines),
@@ -67,6 +68,9 @@ const PARTS: [(&str, fn(&mut Part)); 37] = [
     ("parse: random trees", parse::random_trees),
     ("parse: long lines", parse::long_lines),
     ("parse: refusals in their order", parse::refusals),
+    ("help: the original's own trees", help::original_trees),
+    ("help: random trees", help::random_trees),
+    ("help: refusals in their order", help::refusals),
 ];
 
 /// Runs the parts whose names begin with one of the words given, all if there are none.

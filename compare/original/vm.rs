@@ -3,7 +3,7 @@ mod planted;
 mod tree;
 
 use super::{CommandHistory, CommandNode, CommandParser, ParseError, ParsedCommand};
-use super::{handle_builtin_commands, print_prompt, run_cmd_bytes};
+use super::{handle_builtin_commands, print_prompt, run_cmd_bytes, show_help};
 use crate::Original;
 use std::collections::BTreeMap;
 use std::string::String;
@@ -30,6 +30,14 @@ impl Original {
             ParseError::MissingValue(text) => (6, text),
             ParseError::MissingRequiredOption(text) => (7, text),
             ParseError::NoHandler(text) => (8, text),
+        })
+    }
+
+    /// Shows the help for words, of which there has to be one, or gives back the word that is unknown.
+    pub fn show_help(words: &[String]) -> Result<(), String> {
+        show_help(words).map_err(|error| match error {
+            ParseError::UnknownCommand(word) => word,
+            _ => panic!("a help has no other fault"),
         })
     }
 

@@ -6,8 +6,8 @@
  *   bits 32-39  the refusal's number, 0 for none
  *   bits 40-47  the kind of answer, where a call has several
  *   bits 48-63  a second value, where a call has one
- * A refusal writes nothing, but for 4 to 7, each of which is told by a frame. Success writes the first bytes of an out, line or screen only, as many as the value (the second value for line)
- * says.
+ * A refusal writes nothing, but for 4 to 7, each of which is told by a frame, as long as the value says. Success writes the first bytes of
+ * an out, line or screen only, as many as the value (the second value for line) says.
  */
 #ifndef RISSEMAT_H
 #define RISSEMAT_H
