@@ -13,52 +13,59 @@ use Rattle.buffer.proofs.Choices.{then-is, true-is-not-false}
 use Rattle.buffer.proofs.Ordering.{same-is, is-same}
 use Rattle.image.specs.Frames.{Perhaps, absent, present, Frame, node, option, flag}
 use Rattle.tree.specs.Forest.{optionsIn, flagsIn}
-use Rattle.lookup.specs.Searches.{keyed}
+use Rattle.lookup.specs.Searches.{keyed, isNode}
 use Rattle.lookup.specs.Definitions.{hasKey, hasShort, flagWith, optionWith}
 use Rattle.table.specs.Map.{Map, onOrder, put, among}
 use Rattle.table.proofs.Room.{Bounded, bounded-empty, bounded-put, put-fits}
 use Rattle.text.specs.Unicode.{encode}
 use Rattle.text.specs.Decoding.{codesIn}
-use Rattle.scan.specs.Meanings.{firstName, Means, aFlag, anOption, nothing, flagElse, meaning, onMeans, isSome, isOption}
+use Rattle.scan.specs.Meanings.{nameOf, firstName, Means, aFlag, anOption, nothing, flagElse, meaning, onMeans, isSome, isOption}
 use Rattle.scan.specs.Forms.{Form, valued, long as longOnly, shorts, positional, formOf, dash}
 use Rattle.scan.specs.Arguments.{Found, noneFound, Stand, go, wait, unknownOption, missingValue, withOption, withFlag, withPositional, shortStep, shortSteps, formStep, wordStep, args}
 use Rattle.scan.specs.Held.{stored}
 
 -- the name and the long of a definition
-abbrev namesOf : List ℕ → Perhaps → List (List ℕ)
+abbrev pub namesOf : List ℕ → Perhaps → List (List ℕ)
 namesOf name absent = name ∷ []
-namesOf name (present long) = name ∷ long ∷ []
+namesOf name (present t) = name ∷ t ∷ []
 
--- all names and longs of a node's options, and of its flags: the keys that a line can store
-unfoldable pub optionKeys : List Frame → List (List ℕ)
-optionKeys [] = []
-optionKeys (node d h name ds u ∷ l) = optionKeys l
-optionKeys (option r c name long ds ∷ l) = namesOf name long ++ optionKeys l
-optionKeys (flag c name long ds ∷ l) = optionKeys l
+abbrev pub namesIn : Frame → List (List ℕ)
+namesIn (node d h name ds u) = []
+namesIn (option r c name x ds) = namesOf name x
+namesIn (flag c name x ds) = namesOf name x
 
-unfoldable pub flagKeys : List Frame → List (List ℕ)
-flagKeys [] = []
-flagKeys (node d h name ds u ∷ l) = flagKeys l
-flagKeys (option r c name long ds ∷ l) = flagKeys l
-flagKeys (flag c name long ds ∷ l) = namesOf name long ++ flagKeys l
+-- all names and longs of the definitions that pass a test
+unfoldable pub keysWith : (Frame → Bool) → List Frame → List (List ℕ)
+keysWith is [] = []
+keysWith is (f ∷ l) = cond (is f) (namesIn f ++ keysWith is l) (keysWith is l)
 
-names-few : (name : List ℕ) (long : Perhaps) (l : List (List ℕ)) → length (namesOf name long ++ l) ≤ 2 + length l
+-- of a node's options, and of its flags: the keys that a line can store
+abbrev pub any : Frame → Bool
+any f = true
+
+abbrev pub optionKeys : List Frame → List (List ℕ)
+optionKeys defs = keysWith (optionWith any) defs
+
+abbrev pub flagKeys : List Frame → List (List ℕ)
+flagKeys defs = keysWith (flagWith any) defs
+
+names-few : (name : List ℕ) (x : Perhaps) (l : List (List ℕ)) → length (namesOf name x ++ l) ≤ 2 + length l
 names-few name absent l = omega arith
 names-few name (present t) l = omega arith
 
 pub options-few : (defs : List Frame) → length (optionKeys defs) ≤ 2 * optionsIn defs
-unfolding optionKeys optionsIn
+unfolding keysWith optionsIn
 options-few [] = omega arith
 options-few (node d h name ds u ∷ l) = options-few l
-options-few (option r c name long ds ∷ l) = let a = names-few name long (optionKeys l) in let b = options-few l in omega arith
-options-few (flag c name long ds ∷ l) = options-few l
+options-few (option r c name x ds ∷ l) = let a = names-few name x (optionKeys l) in let b = options-few l in omega arith
+options-few (flag c name x ds ∷ l) = options-few l
 
 pub flags-few : (defs : List Frame) → length (flagKeys defs) ≤ 2 * flagsIn defs
-unfolding flagKeys flagsIn
+unfolding keysWith flagsIn
 flags-few [] = omega arith
 flags-few (node d h name ds u ∷ l) = flags-few l
-flags-few (option r c name long ds ∷ l) = flags-few l
-flags-few (flag c name long ds ∷ l) = let a = names-few name long (flagKeys l) in let b = flags-few l in omega arith
+flags-few (option r c name x ds ∷ l) = flags-few l
+flags-few (flag c name x ds ∷ l) = let a = names-few name x (flagKeys l) in let b = flags-few l in omega arith
 
 -- a key among these or behind them
 among-front : (k : List ℕ) (a b : List (List ℕ)) → among k a ≡ true → among k (a ++ b) ≡ true
@@ -107,52 +114,79 @@ name-among name (present t) = then-is _ _ _ (is-same name name refl)
 abbrev Among : List (List ℕ) → List ℕ → Type 0
 Among keys k = among k keys ≡ true
 
-option-key : (k : List ℕ) (defs : List Frame) (x : List ℕ) → firstName (optionWith (hasKey k)) defs ≡ some x → Among (optionKeys defs) k
-unfolding firstName optionKeys
-option-key k [] x e = absurd (let z : _≡_ {A = ℕ} 0 1 = cc in omega arith)
-option-key k (node d h name ds u ∷ l) x e = option-key k l x e
-option-key k (option r c name long ds ∷ l) x e = by (keyed k name long) refl e (option-key k l x)
+-- the definition that was found first: its names are among the keys of all that pass a wider test
+record FirstIn (test : Frame → Bool) (keys : List (List ℕ)) (x : List ℕ) : Type 0 where
+  frame : Frame
+  passes : test frame ≡ true
+  named : x ≡ nameOf frame
+  within : (k : List ℕ) → Among (namesIn frame) k → Among keys k
+
+first-in : (test is : Frame → Bool) → ((f : Frame) → test f ≡ true → is f ≡ true) → (defs : List Frame) (x : List ℕ) → firstName test defs ≡ some x → FirstIn test (keysWith is defs) x
+unfolding firstName keysWith
+first-in test is wide [] x e = absurd (let z : _≡_ {A = ℕ} 0 1 = cc in omega arith)
+first-in test is wide (f ∷ l) x e = by (test f) refl (is f) refl e (first-in test is wide l x)
   where
-    by : (t : Bool) → keyed k name long ≡ t → cond t (some name) (firstName (optionWith (hasKey k)) l) ≡ some x → (firstName (optionWith (hasKey k)) l ≡ some x → Among (optionKeys l) k)
-        → Among (namesOf name long ++ optionKeys l) k
-    by true q s more = among-front k (namesOf name long) (optionKeys l) (keyed-among k name long q)
-    by false q s more = among-behind k (namesOf name long) (optionKeys l) (more s)
-option-key k (flag c name long ds ∷ l) x e = option-key k l x e
+    by : (t : Bool) → test f ≡ t → (u : Bool) → is f ≡ u → cond t (some (nameOf f)) (firstName test l) ≡ some x → (firstName test l ≡ some x → FirstIn test (keysWith is l) x)
+        → FirstIn test (cond u (namesIn f ++ keysWith is l) (keysWith is l)) x
+    by true p true q s more = record { frame = f; passes = p; named = cc; within = λ k a. among-front k (namesIn f) (keysWith is l) a }
+    by true p false q s more = absurd (true-is-not-false (sym (wide f p) ∙ q))
+    by false p true q s more =
+        let m = more s in
+        record { frame = m .frame; passes = m .passes; named = m .named; within = λ k a. among-behind k (namesIn f) (keysWith is l) (m .within k a) }
+    by false p false q s more = more s
+
+-- what the two kinds ask of a frame
+option-wide : (has : Frame → Bool) (f : Frame) → optionWith has f ≡ true → optionWith any f ≡ true
+option-wide has (node d h name ds u) e = e
+option-wide has (option r c name x ds) e = refl
+option-wide has (flag c name x ds) e = e
+
+flag-wide : (has : Frame → Bool) (f : Frame) → flagWith has f ≡ true → flagWith any f ≡ true
+flag-wide has (node d h name ds u) e = e
+flag-wide has (option r c name x ds) e = e
+flag-wide has (flag c name x ds) e = refl
+
+-- a definition with a key has it among its names, and so has it its own name
+option-among : (k : List ℕ) (f : Frame) → optionWith (hasKey k) f ≡ true → Among (namesIn f) k
+option-among k (node d h name ds u) e = absurd (true-is-not-false (sym e))
+option-among k (option r c name x ds) e = keyed-among k name x e
+option-among k (flag c name x ds) e = absurd (true-is-not-false (sym e))
+
+flag-among : (k : List ℕ) (f : Frame) → flagWith (hasKey k) f ≡ true → Among (namesIn f) k
+flag-among k (node d h name ds u) e = absurd (true-is-not-false (sym e))
+flag-among k (option r c name x ds) e = absurd (true-is-not-false (sym e))
+flag-among k (flag c name x ds) e = keyed-among k name x e
+
+own-name : (f : Frame) → isNode f ≡ false → Among (namesIn f) (nameOf f)
+own-name (node d h name ds u) e = absurd (true-is-not-false e)
+own-name (option r c name x ds) e = name-among name x
+own-name (flag c name x ds) e = name-among name x
+
+option-node : (has : Frame → Bool) (f : Frame) → optionWith has f ≡ true → isNode f ≡ false
+option-node has (node d h name ds u) e = absurd (true-is-not-false (sym e))
+option-node has (option r c name x ds) e = refl
+option-node has (flag c name x ds) e = refl
+
+flag-node : (has : Frame → Bool) (f : Frame) → flagWith has f ≡ true → isNode f ≡ false
+flag-node has (node d h name ds u) e = absurd (true-is-not-false (sym e))
+flag-node has (option r c name x ds) e = refl
+flag-node has (flag c name x ds) e = refl
+
+option-key : (k : List ℕ) (defs : List Frame) (x : List ℕ) → firstName (optionWith (hasKey k)) defs ≡ some x → Among (optionKeys defs) k
+option-key k defs x e = let f = first-in (optionWith (hasKey k)) (optionWith any) (option-wide (hasKey k)) defs x e in f .within k (option-among k (f .frame) (f .passes))
 
 flag-key : (k : List ℕ) (defs : List Frame) (x : List ℕ) → firstName (flagWith (hasKey k)) defs ≡ some x → Among (flagKeys defs) k
-unfolding firstName flagKeys
-flag-key k [] x e = absurd (let z : _≡_ {A = ℕ} 0 1 = cc in omega arith)
-flag-key k (node d h name ds u ∷ l) x e = flag-key k l x e
-flag-key k (option r c name long ds ∷ l) x e = flag-key k l x e
-flag-key k (flag c name long ds ∷ l) x e = by (keyed k name long) refl e (flag-key k l x)
-  where
-    by : (t : Bool) → keyed k name long ≡ t → cond t (some name) (firstName (flagWith (hasKey k)) l) ≡ some x → (firstName (flagWith (hasKey k)) l ≡ some x → Among (flagKeys l) k)
-        → Among (namesOf name long ++ flagKeys l) k
-    by true q s more = among-front k (namesOf name long) (flagKeys l) (keyed-among k name long q)
-    by false q s more = among-behind k (namesOf name long) (flagKeys l) (more s)
+flag-key k defs x e = let f = first-in (flagWith (hasKey k)) (flagWith any) (flag-wide (hasKey k)) defs x e in f .within k (flag-among k (f .frame) (f .passes))
 
--- the name of whatever definition was found
 option-name : (has : Frame → Bool) (defs : List Frame) (x : List ℕ) → firstName (optionWith has) defs ≡ some x → Among (optionKeys defs) x
-unfolding firstName optionKeys
-option-name has [] x e = absurd (let z : _≡_ {A = ℕ} 0 1 = cc in omega arith)
-option-name has (node d h name ds u ∷ l) x e = option-name has l x e
-option-name has (option r c name long ds ∷ l) x e = by (has (option r c name long ds)) e (option-name has l x)
-  where
-    by : (t : Bool) → cond t (some name) (firstName (optionWith has) l) ≡ some x → (firstName (optionWith has) l ≡ some x → Among (optionKeys l) x) → Among (namesOf name long ++ optionKeys l) x
-    by true s more = let z : name ≡ x = cc in rw (← z) (among-front name (namesOf name long) (optionKeys l) (name-among name long))
-    by false s more = among-behind x (namesOf name long) (optionKeys l) (more s)
-option-name has (flag c name long ds ∷ l) x e = option-name has l x e
+option-name has defs x e =
+    let f = first-in (optionWith has) (optionWith any) (option-wide has) defs x e in
+    rw (f .named) (f .within (nameOf (f .frame)) (own-name (f .frame) (option-node has (f .frame) (f .passes))))
 
 flag-name : (has : Frame → Bool) (defs : List Frame) (x : List ℕ) → firstName (flagWith has) defs ≡ some x → Among (flagKeys defs) x
-unfolding firstName flagKeys
-flag-name has [] x e = absurd (let z : _≡_ {A = ℕ} 0 1 = cc in omega arith)
-flag-name has (node d h name ds u ∷ l) x e = flag-name has l x e
-flag-name has (option r c name long ds ∷ l) x e = flag-name has l x e
-flag-name has (flag c name long ds ∷ l) x e = by (has (flag c name long ds)) e (flag-name has l x)
-  where
-    by : (t : Bool) → cond t (some name) (firstName (flagWith has) l) ≡ some x → (firstName (flagWith has) l ≡ some x → Among (flagKeys l) x) → Among (namesOf name long ++ flagKeys l) x
-    by true s more = let z : name ≡ x = cc in rw (← z) (among-front name (namesOf name long) (flagKeys l) (name-among name long))
-    by false s more = among-behind x (namesOf name long) (flagKeys l) (more s)
+flag-name has defs x e =
+    let f = first-in (flagWith has) (flagWith any) (flag-wide has) defs x e in
+    rw (f .named) (f .within (nameOf (f .frame)) (own-name (f .frame) (flag-node has (f .frame) (f .passes))))
 
 -- what a meaning tells of the searches behind it
 abbrev MeansIn : (Frame → Bool) → List Frame → Means → Type 0
