@@ -1,0 +1,86 @@
+-- Laws of the node that words lead to: the descent from the top of a tree, and the handler of the node.
+use Prim.Native.Nat.{ℕ, _-_}
+use mathlib.Core.Path.{_≡_, refl, sym, ap, _∙_}
+use mathlib.Core.List.{List, [], _∷_}
+use native.Mathlib.Omega.{arith}
+use types.Run.{OneOf, miss, hit}
+use denote.Enum.Declared.{tagOf}
+use lib.ListN.{length}
+use lib.Seq.{take-all}
+use Rattle.frame.specs.Text.{Bytes}
+use Rattle.frame.specs.Series.{textsFrom, textsIn}
+use Rattle.image.specs.Frames.{Frame}
+use Rattle.image.specs.Reading.{readBy, readFirst, headFirst, nodeIn, optionIn, flagIn}
+use Rattle.image.specs.declared.head.Lengths.{Lengths}
+use Rattle.image.specs.declared.head.Head.{Head}
+use Rattle.image.specs.declared.head.Head.the-variants.{Node, Option, Flag, Bad, End}
+use Rattle.image.proofs.head.Head.{the-type}
+use Rattle.tree.specs.Images.{framesOf}
+use Rattle.tree.specs.Rules.{checkTree}
+use Rattle.tree.specs.declared.check.Checked.the-variants.{Good}
+use Rattle.lookup.specs.Subtrees.{subtree}
+use Rattle.scan.specs.Held.{Whole}
+use Rattle.parse.specs.Commands.{onSubtree, Reached, descend, fault, parseIn, parseWords}
+use Rattle.parse.specs.Held.{partAt}
+use Rattle.parse.specs.declared.command.Place.{Place}
+use Rattle.parse.proofs.Definitions.{frames-read, frames-none}
+use Rattle.parse.proofs.Descents.{DescentAt}
+use Rattle.parse.proofs.Judgements.{good-sound}
+use Rattle.shell.specs.Lines.{handlerOf, carried, executeIn, execute}
+
+-- THE TOP OF A TREE
+no-texts : textsIn [] ≡ []
+unfolding textsIn textsFrom
+no-texts = refl
+
+whole-nothing : Whole []
+unfolding Whole textsIn textsFrom
+whole-nothing more = refl
+
+module _ (words image : List ℕ) (b : Bytes image) (good : checkTree image ≡ Good) where
+  abbrev top : Place
+  top = record { start = 0; end = length image; at = 0 }
+
+  all-there : partAt image top ≡ image
+  all-there = take-all (length image - 0) image (omega arith)
+
+  pub from-top : DescentAt words image (descend 0 (framesOf image) [] (textsIn words)) top 0
+  from-top =
+      record {
+        within = record { order = omega arith; inside = omega arith; passed = omega arith };
+        sound = rw all-there (good-sound image b good);
+        whole = whole-nothing;
+        steps = ap (λ (s : List ℕ). descend 0 (framesOf s) (textsIn []) (textsIn words)) all-there ∙ ap (λ (l : List (List ℕ)). descend 0 (framesOf image) l (textsIn words)) no-texts;
+        deep = omega arith;
+      }
+
+-- THE HANDLER of the node that bytes begin with
+module _ (s : List ℕ) where
+  pub handler-there : (d h : ℕ) (t : Lengths) → headFirst s ≡ Node d h t → h ≡ handlerOf (framesOf s)
+  unfolding handlerOf readFirst nodeIn
+  handler-there d h t e = sym (ap handlerOf (frames-read s (nodeIn s d h t) (t .size) (ap (readBy s) e)))
+
+  pub handler-none : (head : Head) → headFirst s ≡ head → OneOf (1 ∷ 2 ∷ 3 ∷ 4 ∷ []) (tagOf the-type head) → 0 ≡ handlerOf (framesOf s)
+  unfolding handlerOf readFirst optionIn flagIn
+  handler-none (Node d h t) e k = absurd (miss (1 ∷ 2 ∷ 3 ∷ 4 ∷ []) 0 tt k)
+  handler-none (Option r c t) e k = sym (ap handlerOf (frames-read s (optionIn s r c t) (t .size) (ap (readBy s) e)))
+  handler-none (Flag c t) e k = sym (ap handlerOf (frames-read s (flagIn s c t) (t .size) (ap (readBy s) e)))
+  handler-none Bad e k = sym (ap handlerOf (frames-none s Bad e (hit (3 ∷ 4 ∷ []) 3 tt)))
+  handler-none End e k = sym (ap handlerOf (frames-none s End e (hit (3 ∷ 4 ∷ []) 4 tt)))
+
+-- WHAT IS CARRIED OUT: the descent from the top leads where that from the subtree of the first word leads, and a fault asks for no handler
+carried-fault : (h k number : ℕ) (told : List ℕ) → carried h (fault number told) ≡ carried k (fault number told)
+unfolding carried
+carried-fault h k number told = refl
+
+pub execute-top : (frames : List Frame) (words : List (List ℕ)) → carried (handlerOf (descend 0 frames [] words .frames)) (parseWords frames words) ≡ execute frames words
+unfolding execute executeIn parseWords parseIn descend
+execute-top frames [] = carried-fault _ _ _ _
+execute-top frames (w ∷ words) = by (subtree 0 w frames)
+  where
+    stay : Reached
+    stay = record { path = []; words = w ∷ words; frames = frames }
+
+    by : (sub : List Frame) → carried (handlerOf (onSubtree sub stay (λ child. descend 1 child (w ∷ []) words) .frames)) (parseIn sub w words) ≡ carried (handlerOf (descend 1 sub (w ∷ []) words .frames)) (parseIn sub w words)
+    by [] = carried-fault _ _ _ _
+    by (f ∷ l) = refl

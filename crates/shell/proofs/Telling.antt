@@ -1,0 +1,76 @@
+-- What is carried out of what was judged: a fault by its parts, and a command with its handler or without.
+use Prim.Native.Nat.{ℕ, _≤_}
+use mathlib.Core.Path.{_≡_, refl, sym, ap, _∙_}
+use mathlib.Core.List.{List, []}
+use native.Mathlib.Omega.{arith}
+use borrow.Author.Tests.{eq-eqb, ne-eqb}
+use lib.ListN.{length, take, length-take, length-drop}
+use Rattle.buffer.proofs.Choices.{then-is, else-is}
+use Rattle.frame.specs.Series.{textsIn}
+use Rattle.tree.specs.Images.{framesOf}
+use Rattle.scan.specs.Arguments.{Found}
+use Rattle.scan.specs.Held.{foundOf}
+use Rattle.report.specs.Report.{dashed, reportOf}
+use Rattle.parse.specs.Commands.{descend, parseWords}
+use Rattle.parse.specs.Answer.{toldIn}
+use Rattle.parse.specs.Held.{partAt, outcomeIn, numberOf, dashesOf, textOf}
+use Rattle.parse.specs.declared.judging.Verdict.{Verdict}
+use Rattle.parse.specs.declared.judging.Verdict.the-variants.{Fine, NoWords, UnknownCommand, UnknownOption, MissingValue, MissingRequired}
+use Rattle.parse.specs.declared.judging.Judged.{Judged}
+use Rattle.parse.proofs.Tellings.{fault-told, report-told}
+use Rattle.message.specs.Messages.{message}
+use Rattle.message.specs.declared.told.Told.{Told}
+use Rattle.message.specs.declared.told.Told.the-variants.{NoHandler}
+use Rattle.shell.specs.Lines.{text, handed, faultMessage, joined, handlerOf, carried, execute}
+use Rattle.shell.proofs.Reaching.{execute-top}
+
+-- behind dashes stands a part of the words
+pub dashed-short : (words part : List ℕ) (v : Verdict) → (dashesOf v ≡ 0 → ⊥) → length (textOf words part v) ≤ length words
+dashed-short words part Fine k = absurd (k refl)
+dashed-short words part NoWords k = absurd (k refl)
+dashed-short words part (UnknownCommand word) k = absurd (k refl)
+dashed-short words part (UnknownOption told) k = rw (length-take, length-drop) (omega arith)
+dashed-short words part (MissingValue told) k = rw (length-take, length-drop) (omega arith)
+dashed-short words part (MissingRequired name) k = absurd (k refl)
+
+module _ (words image rest : List ℕ) (j : Judged) (handler : ℕ) where
+  abbrev part : List ℕ
+  part = partAt image (j .place)
+
+  abbrev path : List (List ℕ)
+  path = textsIn (take (j .place .at) words)
+
+  abbrev found : Found
+  found = foundOf words part rest (j .scan)
+
+  -- A FAULT
+  module _ (number dashes : ℕ) (told : Told) (t : List ℕ) (n : number ≡ numberOf (j .verdict)) (some : numberOf (j .verdict) ≡ 0 → ⊥)
+      (d : dashes ≡ dashesOf (j .verdict)) (e : t ≡ textOf words part (j .verdict)) (m : told ≡ faultMessage number) where
+    pub fault-carried : text number (message told (dashed dashes t)) ≡ carried handler (outcomeIn words image rest j)
+    unfolding outcomeIn carried
+    fault-carried =
+        ap (λ (x : Told). text number (message x (dashed dashes t))) m
+        ∙ ap (λ (x : ℕ). text x (message (faultMessage x) (dashed dashes t))) n
+        ∙ ap (λ (x : ℕ). text (numberOf (j .verdict)) (message (faultMessage (numberOf (j .verdict))) (dashed x t))) d
+        ∙ ap (λ (x : List ℕ). text (numberOf (j .verdict)) (message (faultMessage (numberOf (j .verdict))) (dashed (dashesOf (j .verdict)) x))) e
+        ∙ sym (ap (carried handler) (fault-told words part path found (j .verdict) some))
+
+    -- without dashes
+    pub plain-carried : dashes ≡ 0 → text number (message told t) ≡ carried handler (outcomeIn words image rest j)
+    unfolding dashed
+    plain-carried z = ap (λ (x : ℕ). text number (message told (dashed x t))) (sym z) ∙ fault-carried
+
+  -- A COMMAND
+  module _ (fine : numberOf (j .verdict) ≡ 0) where
+    pub lacking-carried : handler ≡ 0 → text 8 (message NoHandler (joined path)) ≡ carried handler (outcomeIn words image rest j)
+    unfolding outcomeIn carried
+    lacking-carried z = sym (ap (carried handler) (report-told words part path found (j .verdict) fine) ∙ then-is _ _ _ (eq-eqb handler 0 z))
+
+    pub handed-carried : (handler ≡ 0 → ⊥) → handed handler (reportOf path (found .options) (found .flags) (found .positionals)) ≡ carried handler (outcomeIn words image rest j)
+    unfolding outcomeIn carried toldIn
+    handed-carried z = sym (ap (carried handler) (report-told words part path found (j .verdict) fine) ∙ else-is _ _ _ (ne-eqb handler 0 z))
+
+  -- THE WORDS of a line
+  pub words-carried : outcomeIn words image rest j ≡ parseWords (framesOf image) (textsIn words) → handler ≡ handlerOf (descend 0 (framesOf image) [] (textsIn words) .frames)
+      → carried handler (outcomeIn words image rest j) ≡ execute (framesOf image) (textsIn words)
+  words-carried o h = ap (carried handler) o ∙ ap (λ (k : ℕ). carried k (parseWords (framesOf image) (textsIn words))) h ∙ execute-top (framesOf image) (textsIn words)

@@ -1,0 +1,97 @@
+-- `shell::fault::put_path` meets its contract: whoever writes the words that are left has written them all.
+use Prim.Native.Nat.{_-_}
+use mathlib.Core.Path.{sym, _∙_}
+use native.Mathlib.Omega.{arith}
+use borrow.Author.Needs.{needs}
+use lib.ListN.{length}
+use Rattle.frame.proofs.Series.{texts-stop}
+use Rattle.frame.specs.Text.{Bytes}
+use Rattle.scan.proofs.Walks.{word-within}
+use Rattle.ink.specs.Ascii.{ascii}
+use Rattle.shell.proofs.Faults.{word-counts, OnPath, sets-out, stops, arrives, goes-on}
+use Rattle.shell.proofs.fault.put_path.Statement.{statement}
+use Rattle.shell.proofs.fault.put_path.Tie as tie
+
+abbrev Inv-loop : tie.InvT-loop
+Inv-loop path out₀ at₀ end₀ t9 out at end = OnPath path out₀ out at end
+
+abbrev μ-loop : tie.MeasureT-loop
+μ-loop path out₀ at₀ end₀ t9 out at end = length path - at
+
+loop-holds : tie.Need-loop-holds Inv-loop μ-loop
+loop-holds c = sets-out _ _
+
+read-frame-requires : tie.Need-read-frame-requires Inv-loop μ-loop
+read-frame-requires c κs = search needs
+
+enum-known-length : tie.Need-enum-known-length Inv-loop μ-loop
+enum-known-length c = search needs
+
+same-length : tie.Need-same-length Inv-loop μ-loop
+same-length c = c .before .before .before .loop .inv .size
+
+returns : tie.Need-returns Inv-loop μ-loop
+returns c = stops (c .before .before .before .before .before .before .args .path .now) _ _ _ _ (c .before .before .before .loop .inv) (texts-stop _ _ (sym (c .before .read-frame .ensures)) (c .match .keys2))
+
+add-start : tie.Need-add-start Inv-loop μ-loop
+add-start c = let w = word-within (c .before .before .before .before .before .before .before .before .args .path .now) (c .before .before .before .before .before .loop .at) _ _ (sym (c .before .before .before .read-frame .ensures) ∙ c .before .length .given .1) in let z = c .before .before .before .before .before .before .before .before .pre in omega arith
+
+add-stop : tie.Need-add-stop Inv-loop μ-loop
+add-stop c = let w = word-within (c .before .before .before .before .before .before .before .before .args .path .now) (c .before .before .before .before .before .loop .at) _ _ (sym (c .before .before .before .read-frame .ensures) ∙ c .before .length .given .1) in let z = c .before .before .before .before .before .before .before .before .pre in omega arith
+
+slice-aggregate-put : tie.Need-slice-aggregate-put Inv-loop μ-loop
+slice-aggregate-put c = search needs
+
+put-requires : tie.Need-put-requires Inv-loop μ-loop
+unfolding ascii
+put-requires c κs = let m = c .before .before .before .before .before .before .before .loop .inv .most in let w = c .before .before .before .before .before .before .before .loop .inv .within in let z = c .before .before .before .before .before .before .before .before .before .before .pre in omega arith
+
+sub-put : tie.Need-sub-put Inv-loop μ-loop
+sub-put c = search needs
+
+part-put-start : tie.Need-part-put-start Inv-loop μ-loop
+part-put-start c = search needs
+
+part-put-end : tie.Need-part-put-end Inv-loop μ-loop
+part-put-end c = let w = word-within (c .before .before .before .before .before .before .before .before .before .before .before .before .before .args .path .now) (c .before .before .before .before .before .before .before .before .before .before .loop .at) _ _ (sym (c .before .before .before .before .before .before .before .before .read-frame .ensures) ∙ c .before .before .before .before .before .before .length .given .1) in omega arith
+
+put-requires-2 : tie.Need-put-requires-2 Inv-loop μ-loop
+unfolding ascii
+put-requires-2 c κs = word-counts (c .before .before .before .before .before .before .before .before .before .before .before .before .before .before .before .args .path .now) _ _ (c .before .before .before .before .before .before .before .before .before .before .before .before .loop .at) _ (c .before .before .before .before .before .before .before .before .before .before .before .before .loop .inv) (c .before .before .before .before .before .before .before .before .length .given .0 .1 .0) _ _ (c .before .before .before .before .before .before .before .before .before .before .before .before .before .before .before .pre) (c .before .before .before .before .put .ensures)
+
+loop-less : tie.Need-loop-less Inv-loop μ-loop
+loop-less c = let w = word-within (c .before .before .before .before .before .before .before .before .before .before .before .before .before .before .before .before .before .before .args .path .now) (c .before .before .before .before .before .before .before .before .before .before .before .before .before .before .before .loop .at) _ _ (sym (c .before .before .before .before .before .before .before .before .before .before .before .before .before .read-frame .ensures) ∙ c .before .before .before .before .before .before .before .before .before .before .before .length .given .1) in omega arith
+
+loop-again : tie.Need-loop-again Inv-loop μ-loop
+unfolding Bytes ascii
+loop-again c = goes-on (c .before .before .before .before .before .before .before .before .before .before .before .before .before .before .before .before .before .before .args .path .now) _ _ (c .before .before .before .before .before .before .before .before .before .before .before .before .before .before .before .loop .at) _ (c .before .before .before .before .before .before .before .before .before .before .before .before .before .before .before .loop .inv) _ (c .before .before .before .before .before .before .before .before .before .before .before .length .given .0 .1 .0) (λ i. c .before .before .before .before .before .before .before .before .before .before .before .before .before .before .before .before .before .shared-slice-known .given i .fits) (c .before .before .before .before .before .before .before .before .before .before .before .before .before .before .before .before .before .before .pre) (sym (c .before .before .before .before .before .before .before .before .before .before .before .before .before .read-frame .ensures) ∙ c .before .before .before .before .before .before .before .before .before .before .before .length .given .1) _ _ _ _ (c .before .before .before .before .before .before .before .put .ensures) (c .before .before .put2 .ensures)
+
+same-length-2 : tie.Need-same-length-2 Inv-loop μ-loop
+same-length-2 c = c .before .loop .inv .size
+
+returns-2 : tie.Need-returns-2 Inv-loop μ-loop
+returns-2 c = arrives (c .before .before .before .before .args .path .now) _ _ _ _ (c .before .loop .inv) (c .loop-test .left)
+
+pub put-path-spec : {M : Type 1} → statement M
+put-path-spec =
+    tie.close
+    (tie.spec
+    Inv-loop
+    μ-loop
+    loop-holds
+    read-frame-requires
+    enum-known-length
+    same-length
+    returns
+    add-start
+    add-stop
+    slice-aggregate-put
+    put-requires
+    sub-put
+    part-put-start
+    part-put-end
+    put-requires-2
+    loop-less
+    loop-again
+    same-length-2
+    returns-2)

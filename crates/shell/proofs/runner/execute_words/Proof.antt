@@ -1,0 +1,64 @@
+-- `shell::runner::execute_words` meets its contract: what is told is what was judged, with the handler of the node reached.
+use Prim.Native.Nat.{_≤_}
+use mathlib.Core.Path.{refl, sym, _∙_}
+use borrow.Author.Needs.{needs}
+use lib.ListN.{length}
+use Rattle.frame.specs.Text.{Bytes}
+use Rattle.parse.proofs.Judgements.{good-short}
+use Rattle.shell.proofs.Answering.{said-same}
+use Rattle.shell.proofs.Telling.{words-carried}
+use Rattle.shell.proofs.runner.execute_words.Statement.{statement}
+use Rattle.shell.proofs.runner.execute_words.Tie as tie
+
+slice-aggregate-judge : tie.Need-slice-aggregate-judge
+slice-aggregate-judge c = search needs
+
+judge-requires : tie.Need-judge-requires
+judge-requires c κs = search needs
+
+number-of-requires : tie.Need-number-of-requires
+number-of-requires c κs = search needs
+
+tell-fault-requires : tie.Need-tell-fault-requires
+unfolding Bytes
+tell-fault-requires c κs = (c .before .before .before .before .judge .ensures .within, c .before .before .before .before .before .before .before .before .before .pre .0, good-short (c .before .before .before .before .before .before .before .before .before .args .image .now) (λ i. c .before .before .before .before .before .before .before .shared-slice-known2 .given i .fits) (c .before .before .before .before .before .before .before .before .before .pre .1), λ q. c .before .if1 .taken (c .before .before .number-of .ensures ∙ q))
+
+same-length : tie.Need-same-length
+same-length c = search needs
+
+returns : tie.Need-returns
+returns c = said-same _ _ _ _ _ (words-carried (c .before .before .before .before .before .before .before .before .before .before .before .before .args .words .now) (c .before .before .before .before .before .before .before .before .before .before .before .before .args .image .now) _ _ _ (c .before .before .before .before .before .before .before .judge .ensures .outcome) refl) (c .before .before .tell-fault .ensures _ _)
+
+find-handler-requires : tie.Need-find-handler-requires
+find-handler-requires c κs = c .before .before .before .before .before .before .before .before .pre
+
+slice-aggregate-tell-command : tie.Need-slice-aggregate-tell-command
+slice-aggregate-tell-command c = search needs
+
+tell-command-requires : tie.Need-tell-command-requires
+tell-command-requires c κs =
+    let j = c .before .before .before .before .before .before .judge .ensures in
+    let l : length (c .before .before .before .before .before .before .judge .last .1 .1 .0) ≤ 4096 = search needs in
+    (j .within, j .kept, l, c .before .before .before .before .before .before .before .before .before .before .before .pre .0, sym (c .before .before .before .before .number-of .ensures) ∙ c .before .before .before .if1 .left)
+
+same-length-2 : tie.Need-same-length-2
+same-length-2 c = search needs
+
+returns-2 : tie.Need-returns-2
+returns-2 c = said-same _ _ _ _ _ (words-carried (c .before .before .before .before .before .before .before .before .before .before .before .before .before .before .args .words .now) (c .before .before .before .before .before .before .before .before .before .before .before .before .before .before .args .image .now) _ _ _ (c .before .before .before .before .before .before .before .before .before .judge .ensures .outcome) (c .before .before .before .before .before .find-handler .ensures)) (c .before .before .tell-command .ensures)
+
+pub execute-words-spec : {M : Type 1} → statement M
+execute-words-spec =
+    tie.close
+    (tie.spec
+    slice-aggregate-judge
+    judge-requires
+    number-of-requires
+    tell-fault-requires
+    same-length
+    returns
+    find-handler-requires
+    slice-aggregate-tell-command
+    tell-command-requires
+    same-length-2
+    returns-2)

@@ -1,0 +1,98 @@
+-- `shell::runner::tell_fault` meets its contract: what is shown is the message of the fault that was judged.
+use Prim.Native.Nat.{_≤_}
+use mathlib.Core.Path.{ap, _∙_}
+use native.Mathlib.Omega.{arith}
+use borrow.Author.Needs.{needs}
+use lib.ListN.{length}
+use Rattle.parse.proofs.Tellings.{text-short}
+use Rattle.parse.proofs.Descents.{part-most}
+use Rattle.parse.specs.Held.{partAt, textOf}
+use Rattle.shell.proofs.Answering.{said-same}
+use Rattle.shell.proofs.Telling.{dashed-short, fault-carried, plain-carried}
+use Rattle.shell.proofs.runner.tell_fault.Statement.{statement}
+use Rattle.shell.proofs.runner.tell_fault.Tie as tie
+
+number-of-requires : tie.Need-number-of-requires
+number-of-requires c κs = search needs
+
+dashes-of-requires : tie.Need-dashes-of-requires
+dashes-of-requires c κs = search needs
+
+sub-text-of : tie.Need-sub-text-of
+sub-text-of c = search needs
+
+part-text-of-start : tie.Need-part-text-of-start
+part-text-of-start c = search needs
+
+part-text-of-end : tie.Need-part-text-of-end
+part-text-of-end c = search needs
+
+slice-aggregate-text-of : tie.Need-slice-aggregate-text-of
+slice-aggregate-text-of c = search needs
+
+text-of-requires : tie.Need-text-of-requires
+text-of-requires c κs = search needs
+
+told-of-requires : tie.Need-told-of-requires
+told-of-requires c κs = search needs
+
+show-message-requires : tie.Need-show-message-requires
+show-message-requires c κs =
+    let z = c .before .before .before .before .before .before .before .before .before .before .before .before .pre .1 in
+    let y = c .before .before .before .before .before .before .before .before .before .before .before .before .pre .2 in
+    let w = c .before .before .before .before .before .before .before .before .before .before .before .before .pre .0 .inside in
+    let m = part-most (c .before .before .before .before .before .before .before .before .before .before .before .before .args .image .now) (c .before .before .before .before .before .before .before .before .before .before .before .before .args .judged .place) in
+    let t : length (textOf (c .before .before .before .before .before .before .before .before .before .before .before .before .args .words .now) (partAt (c .before .before .before .before .before .before .before .before .before .before .before .before .args .image .now) (c .before .before .before .before .before .before .before .before .before .before .before .before .args .judged .place)) (c .before .before .before .before .before .before .before .before .before .before .before .before .args .judged .verdict)) ≤ 32768 = text-short (c .before .before .before .before .before .before .before .before .before .before .before .before .args .words .now) (partAt (c .before .before .before .before .before .before .before .before .before .before .before .before .args .image .now) (c .before .before .before .before .before .before .before .before .before .before .before .before .args .judged .place)) (c .before .before .before .before .before .before .before .before .before .before .before .before .args .judged .verdict) (omega arith) (omega arith) in
+    let e = ap length (c .before .before .before .text-of .ensures) in
+    omega arith
+
+shown-requires : tie.Need-shown-requires
+shown-requires c κs = search needs
+
+same-length : tie.Need-same-length
+same-length c = search needs
+
+returns : tie.Need-returns
+returns c = λ handler rest. said-same _ _ _ _ _ (plain-carried (c .before .before .before .before .before .before .before .before .before .before .before .before .before .before .before .before .args .words .now) (c .before .before .before .before .before .before .before .before .before .before .before .before .before .before .before .before .args .image .now) rest (c .before .before .before .before .before .before .before .before .before .before .before .before .before .before .before .before .args .judged) handler _ _ _ _ (c .before .before .before .before .before .before .before .before .before .before .before .number-of .ensures) (c .before .before .before .before .before .before .before .before .before .before .before .before .before .before .before .before .pre .3) (c .before .before .before .before .before .before .before .before .before .before .dashes-of .ensures .0) (c .before .before .before .before .before .before .before .text-of .ensures) (c .before .before .before .before .before .told-of .ensures) (c .before .before .before .before .before .before .if1 .taken)) (c .shown .ensures _ _ _ (c .before .before .before .show-message .ensures))
+
+told-of-requires-2 : tie.Need-told-of-requires-2
+told-of-requires-2 c κs = search needs
+
+show-dashed-requires : tie.Need-show-dashed-requires
+show-dashed-requires c κs =
+    let d = c .before .before .before .before .before .before .dashes-of .ensures in
+    let z = c .before .before .before .before .before .before .before .before .before .before .before .before .pre .1 in
+    let k = dashed-short (c .before .before .before .before .before .before .before .before .before .before .before .before .args .words .now) (partAt (c .before .before .before .before .before .before .before .before .before .before .before .before .args .image .now) (c .before .before .before .before .before .before .before .before .before .before .before .before .args .judged .place)) (c .before .before .before .before .before .before .before .before .before .before .before .before .args .judged .verdict) (λ q. c .before .before .if1 .left (d .0 ∙ q)) in
+    let e = ap length (c .before .before .before .text-of .ensures) in
+    (d .1, omega arith)
+
+shown-requires-2 : tie.Need-shown-requires-2
+shown-requires-2 c κs = search needs
+
+same-length-2 : tie.Need-same-length-2
+same-length-2 c = search needs
+
+returns-2 : tie.Need-returns-2
+returns-2 c = λ handler rest. said-same _ _ _ _ _ (fault-carried (c .before .before .before .before .before .before .before .before .before .before .before .before .before .before .before .before .args .words .now) (c .before .before .before .before .before .before .before .before .before .before .before .before .before .before .before .before .args .image .now) rest (c .before .before .before .before .before .before .before .before .before .before .before .before .before .before .before .before .args .judged) handler _ _ _ _ (c .before .before .before .before .before .before .before .before .before .before .before .number-of .ensures) (c .before .before .before .before .before .before .before .before .before .before .before .before .before .before .before .before .pre .3) (c .before .before .before .before .before .before .before .before .before .before .dashes-of .ensures .0) (c .before .before .before .before .before .before .before .text-of .ensures) (c .before .before .before .before .before .told-of2 .ensures)) (c .shown2 .ensures _ _ _ (c .before .before .before .show-dashed .ensures))
+
+pub tell-fault-spec : {M : Type 1} → statement M
+tell-fault-spec =
+    tie.close
+    (tie.spec
+    number-of-requires
+    dashes-of-requires
+    sub-text-of
+    part-text-of-start
+    part-text-of-end
+    slice-aggregate-text-of
+    text-of-requires
+    told-of-requires
+    show-message-requires
+    shown-requires
+    same-length
+    returns
+    told-of-requires-2
+    show-dashed-requires
+    shown-requires-2
+    same-length-2
+    returns-2)

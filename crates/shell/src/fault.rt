@@ -1,0 +1,73 @@
+// The messages of what is wrong with a line: of a fault, and of a command without a handler.
+use frame::Framed;
+use frame::read_frame;
+use image::rest;
+use ink::Shown;
+use ink::put;
+use message::Told;
+use message::show_message;
+use report::write_fault;
+ghost use mathlib.Core.Path.{_≡_};
+ghost use Prim.Native.Nat.{_≤_, _<_};
+ghost use lib.ListN.{length};
+ghost use Rattle.frame.specs.Series.{textsIn};
+ghost use Rattle.report.specs.Report.{dashed};
+ghost use Rattle.ink.specs.Inks.{Inked};
+ghost use Rattle.ink.specs.Answer.{Showing};
+ghost use Rattle.message.specs.Messages.{message};
+ghost use Rattle.message.specs.declared.told.Told.the-variants.{NoHandler};
+ghost use Rattle.layout.specs.Texts.{spaced};
+ghost use Rattle.shell.specs.Lines.{faultMessage, joined};
+
+// The message of a fault by its number.
+pub fn told_of(number: usize) -> Told
+    ensures { λ r. ⌜ r ≡ faultMessage number ⌝ }
+{
+    match number {
+        4 => Told::UnknownCommand,
+        5 => Told::UnknownOption,
+        6 => Told::MissingValue,
+        _ => Told::MissingRequired,
+    }
+}
+
+// The message that names some dashes and a text: put together as the frame of a fault, and lent from behind its head.
+pub fn show_dashed(told: Told, dashes: usize, text: &[u8], out: &mut [u8]) -> Shown
+    requires { ⌜ (dashes < 256) × (length (now text) ≤ 4096) ⌝ }
+    ensures { λ r. ⌜ Showing (message told (dashed dashes (now (text .entry)))) (now (out .entry)) r (now (out .exit)) ⌝ }
+{
+    let mut frame = [0u8; 4608];
+    write_fault(dashes, text, &mut frame);
+    let end = 3 + dashes + text.len();
+    show_message(told, &frame[3..end], out)
+}
+
+// Writes the words of a path, which come as frames, each behind a space, and returns the place behind them.
+fn put_path(path: &[u8], out: &mut [u8]) -> usize
+    requires { ⌜ length (now path) ≤ 4096 ⌝ }
+    ensures { λ r. ⌜ Inked (spaced (textsIn (now (path .entry)))) (now (out .entry)) 0 r (now (out .exit)) × (r ≤ length (now (path .entry))) ⌝ }
+{
+    let mut at = 0;
+    let mut end = 0;
+    while at < path.len() {
+        let Framed::Frame { kind: _, length } = read_frame(path, at) else {
+            return end;
+        };
+        let start = at + 3;
+        let stop = start + length;
+        let word = put(b" ", out, end);
+        end = put(&path[start..stop], out, word);
+        at = stop;
+    }
+    end
+}
+
+// The message of a command without a handler, which names its path joined by spaces.
+pub fn show_no_handler(path: &[u8], out: &mut [u8]) -> Shown
+    requires { ⌜ length (now path) ≤ 4096 ⌝ }
+    ensures { λ r. ⌜ Showing (message NoHandler (joined (textsIn (now (path .entry))))) (now (out .entry)) r (now (out .exit)) ⌝ }
+{
+    let mut words = [0u8; 4096];
+    let end = put_path(path, &mut words);
+    show_message(Told::NoHandler, rest(&words[..end], 1), out)
+}

@@ -1,0 +1,203 @@
+// `run`: a line under a tree, in the order of the Rust's `handle_builtin_commands`, `run_cmd_bytes` and `execute_command`.
+use super::answer::Ran;
+use super::answer::called;
+use super::answer::ended;
+use super::answer::shown;
+use super::builtin::Builtin;
+use super::builtin::builtin_of;
+use super::fault::show_dashed;
+use super::fault::show_no_handler;
+use super::fault::told_of;
+use super::reached::find_handler;
+use buffer::same;
+use help::Followed;
+use help::follow;
+use image::part;
+use image::rest;
+use layout::show_available_commands;
+use layout::show_help;
+use message::show_clear;
+use message::show_goodbye;
+use message::show_ill_formed;
+use message::show_message;
+use message::show_unknown_help;
+use parse::Judged;
+use parse::dashes_of;
+use parse::judge;
+use parse::number_of;
+use parse::text_of;
+use report::write_report;
+use text::Word;
+use text::is_blank;
+use text::next_word;
+use text::trim;
+use text::well_formed_prefix;
+use tree::Checked;
+use tree::check_tree;
+use words::Tokens;
+use words::tokenize;
+ghost use mathlib.Core.Path.{_≡_};
+ghost use mathlib.Core.List.{List};
+ghost use Prim.Native.Nat.{ℕ, _≤_, min};
+ghost use lib.ListN.{length};
+ghost use Rattle.frame.specs.Series.{textsIn};
+ghost use Rattle.text.specs.Decoding.{wellFormedLength};
+ghost use Rattle.text.specs.Apart.{wordsBetween};
+ghost use Rattle.tree.specs.Images.{framesOf};
+ghost use Rattle.tree.specs.Rules.{checkTree};
+ghost use Rattle.tree.specs.declared.check.Checked.the-variants.{Good};
+ghost use Rattle.words.specs.Tokens.{wordsOf};
+ghost use Rattle.parse.specs.Held.{numberOf, outcomeIn, Within};
+ghost use Rattle.help.specs.Answer.{helpOf};
+ghost use Rattle.shell.specs.Lines.{helpSaid, carried, execute, otherSaid, lineSaid};
+ghost use Rattle.shell.specs.Answer.{Answered, Running};
+
+// The length of a line that is too long, 65,535 if more.
+fn told_length(n: usize) -> usize
+    ensures { λ r. ⌜ r ≡ min n 65535 ⌝ }
+{
+    if n < 65535 { n } else { 65535 }
+}
+
+// The message of a fault that was judged.
+fn tell_fault<'a>(words: &'a [u8], image: &'a [u8], judged: Judged, out: &mut [u8]) -> Ran
+    requires { ⌜ Within (now words) (now image) (judged .place) × (length (now words) ≤ 4096) × (length (now image) ≤ 32768) × (numberOf (judged .verdict) ≡ 0 → ⊥) ⌝ }
+    ensures { λ r. ⌜ ((handler : ℕ) (rest : List ℕ) → Answered (carried handler (outcomeIn (now (words .entry)) (now (image .entry)) rest judged)) (now (out .entry)) r (now (out .exit))) ⌝ }
+{
+    let place = judged.place;
+    let start = place.start;
+    let end = place.end;
+    let verdict = judged.verdict;
+    let number = number_of(verdict);
+    let dashes = dashes_of(verdict);
+    let text = text_of(words, &image[start..end], b"empty command", verdict);
+    if dashes == 0 {
+        return shown(number, show_message(told_of(number), text, out));
+    }
+    shown(number, show_dashed(told_of(number), dashes, text, out))
+}
+
+// The report for a handler of a command that was judged, or that it has none.
+fn tell_command<'a>(
+    words: &'a [u8],
+    image: &'a [u8],
+    judged: Judged,
+    rest: &[u8],
+    handler: usize,
+    out: &mut [u8],
+) -> Ran
+    requires { ⌜ Within (now words) (now image) (judged .place) × (judged .scan .kept ≤ length (now rest)) × (length (now rest) ≤ 4096) × (length (now words) ≤ 4096) × (numberOf (judged .verdict) ≡ 0) ⌝ }
+    ensures { λ r. ⌜ Answered (carried handler (outcomeIn (now (words .entry)) (now (image .entry)) (now (rest .entry)) judged)) (now (out .entry)) r (now (out .exit)) ⌝ }
+{
+    let place = judged.place;
+    let at = place.at;
+    if handler == 0 {
+        return shown(8, show_no_handler(&words[..at], out));
+    }
+    let start = place.start;
+    let end = place.end;
+    let scan = judged.scan;
+    let kept = scan.kept;
+    let options = scan.options;
+    let flags = scan.flags;
+    called(
+        handler,
+        write_report(
+            words,
+            &image[start..end],
+            &words[..at],
+            options,
+            flags,
+            &rest[..kept],
+            out,
+        ),
+    )
+}
+
+// The words of a line under a well-formed tree.
+fn execute_words<'a>(words: &'a [u8], image: &'a [u8], out: &mut [u8]) -> Ran
+    requires { ⌜ (length (now words) ≤ 4096) × (checkTree (now image) ≡ Good) ⌝ }
+    ensures { λ r. ⌜ Answered (execute (framesOf (now (image .entry))) (textsIn (now (words .entry)))) (now (out .entry)) r (now (out .exit)) ⌝ }
+{
+    let mut rest = [0u8; 4096];
+    let judged = judge(words, image, &mut rest);
+    let verdict = judged.verdict;
+    if number_of(verdict) != 0 {
+        return tell_fault(words, image, judged, out);
+    }
+    let handler = find_handler(words, image);
+    tell_command(words, image, judged, &rest, handler, out)
+}
+
+// A trimmed line. Its words always find room: four bytes for each byte of a line.
+fn execute_command(image: &[u8], line: &[u8], out: &mut [u8]) -> Ran
+    requires { ⌜ (checkTree (now image) ≡ Good) × (length (now line) ≤ 1024) × (wellFormedLength (now line) ≡ length (now line)) ⌝ }
+    ensures { λ r. ⌜ Answered (execute (framesOf (now (image .entry))) (wordsOf (now (line .entry)))) (now (out .entry)) r (now (out .exit)) ⌝ }
+{
+    let mut words = [0u8; 4096];
+    let Tokens::Words(n) = tokenize(line, &mut words) else {
+        return Ran::Nothing;
+    };
+    execute_words(&words[..n], image, out)
+}
+
+// The help for words split on white space only.
+fn help_for(image: &[u8], words: &[u8], out: &mut [u8]) -> Ran
+    requires { ⌜ (checkTree (now image) ≡ Good) × (length (now words) ≤ 1024) ⌝ }
+    ensures { λ r. ⌜ Answered (helpSaid (helpOf (framesOf (now (image .entry))) (wordsBetween (now (words .entry))))) (now (out .entry)) r (now (out .exit)) ⌝ }
+{
+    let Word::At { start: _, end: _ } = next_word(words, 0) else {
+        return Ran::Nothing;
+    };
+    match follow(image, words) {
+        Followed::Found { start, end } => {
+            shown(0, show_help(part(image, start, end - start), words, out))
+        }
+        Followed::Lost { start, end } => {
+            shown(4, show_unknown_help(part(words, start, end - start), out))
+        }
+    }
+}
+
+// A line that is no builtin: the word `help` with a space behind it asks for help, and all else is a command.
+fn run_other(image: &[u8], line: &[u8], out: &mut [u8]) -> Ran
+    requires { ⌜ (checkTree (now image) ≡ Good) × (length (now line) ≤ 1024) × (wellFormedLength (now line) ≡ length (now line)) ⌝ }
+    ensures { λ r. ⌜ Answered (otherSaid (framesOf (now (image .entry))) (now (line .entry))) (now (out .entry)) r (now (out .exit)) ⌝ }
+{
+    if same(part(line, 0, 5), b"help ") {
+        return help_for(image, rest(line, 5), out);
+    }
+    if is_blank(line) {
+        return Ran::Nothing;
+    }
+    execute_command(image, trim(line), out)
+}
+
+// A well-formed line; the builtins come first.
+fn handle_builtin_commands(image: &[u8], line: &[u8], out: &mut [u8]) -> Ran
+    requires { ⌜ (checkTree (now image) ≡ Good) × (length (now line) ≤ 1024) × (wellFormedLength (now line) ≡ length (now line)) ⌝ }
+    ensures { λ r. ⌜ Answered (lineSaid (framesOf (now (image .entry))) (now (line .entry))) (now (out .entry)) r (now (out .exit)) ⌝ }
+{
+    match builtin_of(trim(line)) {
+        Builtin::Help => shown(0, show_available_commands(image, out)),
+        Builtin::Exit => ended(show_goodbye(out)),
+        Builtin::Clear => shown(0, show_clear(out)),
+        Builtin::None => run_other(image, line, out),
+    }
+}
+
+// Runs a line under a tree: its text, or the report for its handler, at the front of out.
+pub fn run(image: &[u8], line: &[u8], out: &mut [u8]) -> Ran
+    ensures { λ r. ⌜ Running (now (image .entry)) (now (line .entry)) (now (out .entry)) r (now (out .exit)) ⌝ }
+{
+    if let Checked::BadFrame(n) = check_tree(image) {
+        return Ran::BadTree(n);
+    }
+    if 1024 < line.len() {
+        return Ran::LineTooLong(told_length(line.len()));
+    }
+    if well_formed_prefix(line) < line.len() {
+        return shown(3, show_ill_formed(out));
+    }
+    handle_builtin_commands(image, line, out)
+}
