@@ -4,5 +4,6 @@ pub mod Faults
 pub mod Reaching
 pub mod Telling
 pub mod Lines
+pub mod Bare
 pub mod Answers
 mod Examples

@@ -178,7 +178,8 @@ fn handle_builtin_commands(image: &[u8], line: &[u8], out: &mut [u8]) -> Ran
     requires { ⌜ (checkTree (now image) ≡ Good) × (length (now line) ≤ 1024) × (wellFormedLength (now line) ≡ length (now line)) ⌝ }
     ensures { λ r. ⌜ Answered (lineSaid (framesOf (now (image .entry))) (now (line .entry))) (now (out .entry)) r (now (out .exit)) ⌝ }
 {
-    match builtin_of(trim(line)) {
+    let trimmed = trim(line);
+    match builtin_of(trimmed) {
         Builtin::Help => shown(0, show_available_commands(image, out)),
         Builtin::Exit => ended(show_goodbye(out)),
         Builtin::Clear => shown(0, show_clear(out)),

@@ -24,7 +24,7 @@ same-length : tie.Need-same-length
 same-length c = search needs
 
 returns : tie.Need-returns
-returns c = said-same _ _ _ _ _ (lacking-carried (c .before .before .before .before .before .before .before .before .before .before .before .before .args .words .now) (c .before .before .before .before .before .before .before .before .before .before .before .before .args .image .now) (c .before .before .before .before .before .before .before .before .before .before .before .before .args .rest .now) (c .before .before .before .before .before .before .before .before .before .before .before .before .args .judged) (c .before .before .before .before .before .before .before .before .before .before .before .before .args .handler) (c .before .before .before .before .before .before .before .before .before .before .before .before .pre .4) (c .before .before .before .before .before .before .if1 .taken)) (c .shown .ensures _ _ _ (c .before .before .before .show-no-handler .ensures))
+returns c = said-same _ _ _ _ _ (lacking-carried (c .before .before .before .before .before .before .before .before .before .before .before .before .args .words .now) (c .before .before .before .before .before .before .before .before .before .before .before .before .args .image .now) (c .before .before .before .before .before .before .before .before .before .before .before .before .args .rest .now) (c .before .before .before .before .before .before .before .before .before .before .before .before .args .judged) (c .before .before .before .before .before .before .before .before .before .before .before .before .args .handler) (c .before .before .before .before .before .before .before .before .before .before .before .before .pre .4) (let h = c .before .before .before .before .before .before .if1 .taken in omega arith)) (c .shown .ensures _ _ _ (c .before .before .before .show-no-handler .ensures))
 
 sub-write-report : tie.Need-sub-write-report
 sub-write-report c = let w = c .before .before .before .before .before .before .before .before .before .pre .0 in let a = w .order in let b = w .inside in omega arith
@@ -56,7 +56,7 @@ same-length-2 c = search needs
 
 returns-2 : tie.Need-returns-2
 unfolding foundOf
-returns-2 c = said-same _ _ _ _ _ (handed-carried (c .before .before .before .before .before .before .before .before .before .before .before .before .before .before .before .before .before .args .words .now) (c .before .before .before .before .before .before .before .before .before .before .before .before .before .before .before .before .before .args .image .now) (c .before .before .before .before .before .before .before .before .before .before .before .before .before .before .before .before .before .args .rest .now) (c .before .before .before .before .before .before .before .before .before .before .before .before .before .before .before .before .before .args .judged) (c .before .before .before .before .before .before .before .before .before .before .before .before .before .before .before .before .before .args .handler) (c .before .before .before .before .before .before .before .before .before .before .before .before .before .before .before .before .before .pre .4) (c .before .before .before .before .before .before .before .before .before .before .before .if1 .left)) (c .called .ensures _ _ _ (c .before .before .before .write-report .ensures))
+returns-2 c = said-same _ _ _ _ _ (handed-carried (c .before .before .before .before .before .before .before .before .before .before .before .before .before .before .before .before .before .args .words .now) (c .before .before .before .before .before .before .before .before .before .before .before .before .before .before .before .before .before .args .image .now) (c .before .before .before .before .before .before .before .before .before .before .before .before .before .before .before .before .before .args .rest .now) (c .before .before .before .before .before .before .before .before .before .before .before .before .before .before .before .before .before .args .judged) (c .before .before .before .before .before .before .before .before .before .before .before .before .before .before .before .before .before .args .handler) (c .before .before .before .before .before .before .before .before .before .before .before .before .before .before .before .before .before .pre .4) (λ z. let h = c .before .before .before .before .before .before .before .before .before .before .before .if1 .left in absurd (h (omega arith)))) (c .called .ensures _ _ _ (c .before .before .before .write-report .ensures))
 
 pub tell-command-spec : {M : Type 1} → statement M
 tell-command-spec =
