@@ -38,7 +38,7 @@ use Rattle.scan.specs.declared.standing.Scan.{Scan}
 use Rattle.scan.proofs.Steps.{stand-by}
 use Rattle.scan.proofs.Room.{options-few, flags-few, args-same}
 use Rattle.parse.specs.Commands.{Reached, onSubtree, descend, missingRequired, Outcome, parsed, fault, onMissing, outcomeOf, concluded, parseIn, parseWords, emptyCommand}
-use Rattle.parse.specs.Held.{partAt, outcomeBy, outcomeIn, Within, allFair, Sound, Descended, Judging}
+use Rattle.parse.specs.Held.{partAt, outcomeBy, outcomeIn, numberOf, Within, allFair, Sound, Descended, Judging}
 use Rattle.parse.specs.declared.command.Place.{Place}
 use Rattle.parse.specs.declared.judging.Verdict.{Verdict}
 use Rattle.parse.specs.declared.judging.Judged.{Judged}
@@ -65,7 +65,7 @@ pub arguments-judged : (words image rest left : List ℕ) (place : Place) (to : 
     → Scanned words (partAt image place) rest left (j .scan) (args stored (definitionsAt (partAt image place) «from») (go noneFound) (textsIn (drop (place .at) words)))
     → ((path : List (List ℕ)) (rest : List ℕ) → outcomeBy words (partAt image place) path (foundOf words (partAt image place) rest (j .scan)) (j .verdict) ≡ outcomeOf path (definitionsAt (partAt image place) «from») (standOf words (partAt image place) rest (j .scan)))
     → length words ≤ length rest
-    → Judging words image rest left j (concluded stored to)
+    → Judging words image rest left j (concluded stored to) (to .frames)
 unfolding outcomeIn concluded
 arguments-judged words image rest left place to j «from» d at defs s v h =
     record {
@@ -79,6 +79,7 @@ arguments-judged words image rest left place to j «from» d at defs s v h =
       within = rw at (d .within);
       kept = let k = s .kept in let l = s .room in omega arith;
       room = s .room;
+      command = λ k. ap (λ (p : Place). framesOf (partAt image p)) at ∙ d .frames;
     }
 
 -- THE LIMITS of a node
@@ -287,20 +288,34 @@ module _ (words image : List ℕ) (kind n : ℕ) (b : Bytes words) (s : length w
         ∙ says (some .0) (some .1 .0) (some .1 .1)
         ∙ sym (ap (parseWords (framesOf image)) texts-first)
 
+    -- and the descent from the top of the tree leads to the same command
+    from-top : (g : Frame) (m : List Frame) → command ≡ g ∷ m → descend 1 command (first ∷ []) later ≡ descend 0 (framesOf image) [] (first ∷ later)
+    unfolding descend
+    from-top g m q =
+        let onto : List Frame → Reached = λ c. descend 1 c (first ∷ []) later in
+        ap onto q ∙ sym (ap (λ (fs : List Frame). onSubtree fs (record { path = []; words = first ∷ later; frames = framesOf image }) onto) q)
+
+    pub first-frames : reached .frames ≡ descend 0 (framesOf image) [] (textsIn words) .frames
+    first-frames =
+        let some = found-some image 0 first top bottom bi f in
+        ap (λ (r : Reached). r .frames) (reached-is ∙ from-top (some .0) (some .1 .0) (some .1 .1))
+        ∙ sym (ap (λ (l : List (List ℕ)). descend 0 (framesOf image) [] l .frames) texts-first)
+
 -- a judgement told in other words
-pub judged-as : (words image rest left : List ℕ) (j : Judged) (a b : Outcome) → a ≡ b → Judging words image rest left j a → Judging words image rest left j b
-judged-as words image rest left j a b e x = record { outcome = x .outcome ∙ e; within = x .within; kept = x .kept; room = x .room }
+pub judged-as : (words image rest left : List ℕ) (j : Judged) (a b : Outcome) (f g : List Frame) → a ≡ b → f ≡ g → Judging words image rest left j a f → Judging words image rest left j b g
+judged-as words image rest left j a b f g e q x = record { outcome = x .outcome ∙ e; within = x .within; kept = x .kept; room = x .room; command = λ k. x .command k ∙ q }
 
 -- a verdict where there is no command
-pub judged-without : (words image rest : List ℕ) (j : Judged) (v : Verdict) (o : Outcome) → j .verdict ≡ v → j .scan .kept ≡ 0 → ((words image : List ℕ) → Within words image (j .place))
-    → ((part : List ℕ) (path : List (List ℕ)) (found : Found) → outcomeBy words part path found v ≡ o) → Judging words image rest rest j o
+pub judged-without : (words image rest : List ℕ) (j : Judged) (v : Verdict) (o : Outcome) (frames : List Frame) → j .verdict ≡ v → j .scan .kept ≡ 0 → ((words image : List ℕ) → Within words image (j .place))
+    → ((part : List ℕ) (path : List (List ℕ)) (found : Found) → outcomeBy words part path found v ≡ o) → (numberOf v ≡ 0 → ⊥) → Judging words image rest rest j o frames
 unfolding outcomeIn
-judged-without words image rest j v o e k w q =
+judged-without words image rest j v o frames e k w q n =
     record {
       outcome = ap (outcomeBy words (partAt image (j .place)) (textsIn (take (j .place .at) words)) (foundOf words (partAt image (j .place)) rest (j .scan))) e ∙ q _ _ _;
       within = w words image;
       kept = omega arith;
       room = refl;
+      command = λ z. absurd (n (sym (ap numberOf e) ∙ z));
     }
 
 pub no-words : (words image : List ℕ) → textsIn words ≡ [] → fault 4 emptyCommand ≡ parseWords (framesOf image) (textsIn words)

@@ -64,13 +64,6 @@ pub record Descended (words image : List ℕ) (place : Place) (r : Reached) : Ty
   pub frames : framesOf (partAt image place) ≡ r .frames
   pub within : Within words image place
 
--- what was judged, and what can be lent of it
-pub record Judging (words image rest left : List ℕ) (j : Judged) (o : Outcome) : Type 0 where
-  pub outcome : outcomeIn words image left j ≡ o
-  pub within : Within words image (j .place)
-  pub kept : j .scan .kept ≤ length left
-  pub room : length left ≡ length rest
-
 -- the number and the text of a verdict's fault, the text in its dashes and the part behind them
 abbrev pub numberOf : Verdict → ℕ
 numberOf Fine = 0
@@ -95,3 +88,11 @@ textOf words part (UnknownCommand word) = partOf words (word .start) (word .leng
 textOf words part (UnknownOption told) = partOf words (told .start) (told .length)
 textOf words part (MissingValue told) = partOf words (told .start) (told .length)
 textOf words part (MissingRequired name) = partOf part (name .start) (name .length)
+
+-- what was judged, what can be lent of it, and the frames of the command that was reached
+pub record Judging (words image rest left : List ℕ) (j : Judged) (o : Outcome) (frames : List Frame) : Type 0 where
+  pub outcome : outcomeIn words image left j ≡ o
+  pub within : Within words image (j .place)
+  pub kept : j .scan .kept ≤ length left
+  pub room : length left ≡ length rest
+  pub command : numberOf (j .verdict) ≡ 0 → framesOf (partAt image (j .place)) ≡ frames

@@ -15,7 +15,7 @@ use scan::Told;
 use scan::parse_args;
 use table::Part;
 ghost use mathlib.Core.Path.{_≡_};
-ghost use mathlib.Core.List.{List};
+ghost use mathlib.Core.List.{List, []};
 ghost use Prim.Native.Nat.{ℕ, _≤_};
 ghost use lib.ListN.{length};
 ghost use Rattle.frame.specs.Series.{textsIn};
@@ -24,7 +24,7 @@ ghost use Rattle.tree.specs.Rules.{checkTree};
 ghost use Rattle.tree.specs.declared.check.Checked.the-variants.{Good};
 ghost use Rattle.scan.specs.Meanings.{definitionsOf, definitionsAt};
 ghost use Rattle.scan.specs.Held.{stored, foundOf, standOf};
-ghost use Rattle.parse.specs.Commands.{Reached, outcomeOf, concluded, parseWords};
+ghost use Rattle.parse.specs.Commands.{Reached, descend, outcomeOf, concluded, parseWords};
 ghost use Rattle.parse.specs.Held.{outcomeBy, Within, Descended, Judging};
 
 // Texts are told by where they stand: a word in the words, a name in the command's part of the image.
@@ -99,7 +99,7 @@ fn without_command(verdict: Verdict) -> Judged
 // The arguments of the command at a place.
 fn judge_arguments<'a>(words: &'a [u8], image: &'a [u8], place: Place, rest: &mut [u8]) -> Judged
     requires { ⌜ (length (now words) ≤ 4096) × (length (now image) ≤ 32768) × (length (now words) ≤ length (now rest)) × Within (now words) (now image) place ⌝ }
-    ensures { λ r. ⌜ ((to : Reached) → Descended (now (words .entry)) (now (image .entry)) place to → Judging (now (words .entry)) (now (image .entry)) (now (rest .entry)) (now (rest .exit)) r (concluded stored to)) ⌝ }
+    ensures { λ r. ⌜ ((to : Reached) → Descended (now (words .entry)) (now (image .entry)) place to → Judging (now (words .entry)) (now (image .entry)) (now (rest .entry)) (now (rest .exit)) r (concluded stored to) (to .frames)) ⌝ }
 {
     let start = place.start;
     let end = place.end;
@@ -116,7 +116,7 @@ fn judge_arguments<'a>(words: &'a [u8], image: &'a [u8], place: Place, rest: &mu
 // What the words of a line say under a well-formed tree; positional words are kept in `rest`.
 pub fn judge<'a>(words: &'a [u8], image: &'a [u8], rest: &mut [u8]) -> Judged
     requires { ⌜ (length (now words) ≤ 4096) × (length (now words) ≤ length (now rest)) × (checkTree (now image) ≡ Good) ⌝ }
-    ensures { λ r. ⌜ Judging (now (words .entry)) (now (image .entry)) (now (rest .entry)) (now (rest .exit)) r (parseWords (framesOf (now (image .entry))) (textsIn (now (words .entry)))) ⌝ }
+    ensures { λ r. ⌜ Judging (now (words .entry)) (now (image .entry)) (now (rest .entry)) (now (rest .exit)) r (parseWords (framesOf (now (image .entry))) (textsIn (now (words .entry)))) (descend 0 (framesOf (now (image .entry))) [] (textsIn (now (words .entry))) .frames) ⌝ }
 {
     let Framed::Frame { kind: _, length } = read_frame(words, 0) else {
         return without_command(Verdict::NoWords);

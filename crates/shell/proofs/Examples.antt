@@ -9,7 +9,7 @@ use Rattle.text.specs.Apart.{behindRun, trimEnd, trimmed, allWhite, blank, word
 use Rattle.frame.specs.Text.{number as numberIn, textOf}
 use Rattle.frame.specs.Framed.{frameOf}
 use Rattle.frame.specs.Series.{runs}
-use Rattle.image.specs.Frames.{absent, present, Frame, node, option, flag}
+use Rattle.image.specs.Frames.{absent, present, Frame, node, flag}
 use Rattle.lookup.specs.Searches.{keyed}
 use Rattle.lookup.specs.Subtrees.{upTo, onFrom, subtree}
 use Rattle.words.specs.Tokens.{turnOf, tokensFrom, tokens, wordsOf}

@@ -1,14 +1,9 @@
--- Laws of the node that words lead to: the descent from the top of a tree, and the handler of the node.
-use Prim.Native.Nat.{ℕ, _-_}
-use mathlib.Core.Path.{_≡_, refl, sym, ap, _∙_}
+-- Laws of the handler: that of the node which bytes begin with, and that of the command which words lead to.
+use Prim.Native.Nat.{ℕ}
+use mathlib.Core.Path.{_≡_, refl, sym, ap}
 use mathlib.Core.List.{List, [], _∷_}
-use native.Mathlib.Omega.{arith}
 use types.Run.{OneOf, miss, hit}
 use denote.Enum.Declared.{tagOf}
-use lib.ListN.{length}
-use lib.Seq.{take-all}
-use Rattle.frame.specs.Text.{Bytes}
-use Rattle.frame.specs.Series.{textsFrom, textsIn}
 use Rattle.image.specs.Frames.{Frame}
 use Rattle.image.specs.Reading.{readBy, readFirst, headFirst, nodeIn, optionIn, flagIn}
 use Rattle.image.specs.declared.head.Lengths.{Lengths}
@@ -16,43 +11,10 @@ use Rattle.image.specs.declared.head.Head.{Head}
 use Rattle.image.specs.declared.head.Head.the-variants.{Node, Option, Flag, Bad, End}
 use Rattle.image.proofs.head.Head.{the-type}
 use Rattle.tree.specs.Images.{framesOf}
-use Rattle.tree.specs.Rules.{checkTree}
-use Rattle.tree.specs.declared.check.Checked.the-variants.{Good}
 use Rattle.lookup.specs.Subtrees.{subtree}
-use Rattle.scan.specs.Held.{Whole}
 use Rattle.parse.specs.Commands.{onSubtree, Reached, descend, fault, parseIn, parseWords}
-use Rattle.parse.specs.Held.{partAt}
-use Rattle.parse.specs.declared.command.Place.{Place}
 use Rattle.parse.proofs.Definitions.{frames-read, frames-none}
-use Rattle.parse.proofs.Descents.{DescentAt}
-use Rattle.parse.proofs.Judgements.{good-sound}
 use Rattle.shell.specs.Lines.{handlerOf, carried, executeIn, execute}
-
--- THE TOP OF A TREE
-no-texts : textsIn [] ≡ []
-unfolding textsIn textsFrom
-no-texts = refl
-
-whole-nothing : Whole []
-unfolding Whole textsIn textsFrom
-whole-nothing more = refl
-
-module _ (words image : List ℕ) (b : Bytes image) (good : checkTree image ≡ Good) where
-  abbrev top : Place
-  top = record { start = 0; end = length image; at = 0 }
-
-  all-there : partAt image top ≡ image
-  all-there = take-all (length image - 0) image (omega arith)
-
-  pub from-top : DescentAt words image (descend 0 (framesOf image) [] (textsIn words)) top 0
-  from-top =
-      record {
-        within = record { order = omega arith; inside = omega arith; passed = omega arith };
-        sound = rw all-there (good-sound image b good);
-        whole = whole-nothing;
-        steps = ap (λ (s : List ℕ). descend 0 (framesOf s) (textsIn []) (textsIn words)) all-there ∙ ap (λ (l : List (List ℕ)). descend 0 (framesOf image) l (textsIn words)) no-texts;
-        deep = omega arith;
-      }
 
 -- THE HANDLER of the node that bytes begin with
 module _ (s : List ℕ) where

@@ -2,7 +2,7 @@
 mod answer;
 mod builtin;
 mod fault;
-mod reached;
+mod handler;
 mod runner;
 
 pub use answer::Ran;

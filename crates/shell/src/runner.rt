@@ -8,7 +8,7 @@ use super::builtin::builtin_of;
 use super::fault::show_dashed;
 use super::fault::show_no_handler;
 use super::fault::told_of;
-use super::reached::find_handler;
+use super::handler::handler_of;
 use buffer::same;
 use help::Followed;
 use help::follow;
@@ -125,7 +125,10 @@ fn execute_words<'a>(words: &'a [u8], image: &'a [u8], out: &mut [u8]) -> Ran
     if number_of(verdict) != 0 {
         return tell_fault(words, image, judged, out);
     }
-    let handler = find_handler(words, image);
+    let place = judged.place;
+    let start = place.start;
+    let end = place.end;
+    let handler = handler_of(&image[start..end]);
     tell_command(words, image, judged, &rest, handler, out)
 }
 

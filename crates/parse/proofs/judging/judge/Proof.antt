@@ -8,7 +8,7 @@ use Rattle.frame.proofs.Series.{texts-stop}
 use Rattle.table.specs.Held.{partOf}
 use Rattle.scan.proofs.Walks.{word-within}
 use Rattle.parse.proofs.Descents.{found-as, name-part}
-use Rattle.parse.proofs.Judgements.{good-short, whole-first, first-unknown, first-within, first-sound, first-judged, judged-as, judged-without, no-words}
+use Rattle.parse.proofs.Judgements.{good-short, whole-first, first-unknown, first-within, first-sound, first-judged, first-frames, judged-as, judged-without, no-words}
 use borrow.Author.Needs.{needs}
 use Rattle.parse.proofs.judging.judge.Statement.{statement}
 use Rattle.parse.proofs.judging.judge.Tie as tie
@@ -25,7 +25,7 @@ without-command-requires c κs = search needs
 returns : tie.Need-returns
 returns c =
     let w = c .without-command .ensures in
-    judged-without (c .before .before .before .before .before .before .args .words .now) (c .before .before .before .before .before .before .args .image .now) (c .before .before .before .before .before .before .args .rest .now) _ _ _ (w .0) (w .1) (w .2) (λ part path found. no-words (c .before .before .before .before .before .before .args .words .now) (c .before .before .before .before .before .before .args .image .now) (texts-stop _ _ (sym (c .before .before .read-frame .ensures)) (c .before .match .keys2)))
+    judged-without (c .before .before .before .before .before .before .args .words .now) (c .before .before .before .before .before .before .args .image .now) (c .before .before .before .before .before .before .args .rest .now) _ _ _ _ (w .0) (w .1) (w .2) (λ part path found. no-words (c .before .before .before .before .before .before .args .words .now) (c .before .before .before .before .before .before .args .image .now) (texts-stop _ _ (sym (c .before .before .read-frame .ensures)) (c .before .match .keys2))) (λ z. omega arith)
 
 add-behind : tie.Need-add-behind
 add-behind c =
@@ -61,7 +61,7 @@ returns-2 : tie.Need-returns-2
 unfolding Bytes
 returns-2 c =
     let w = c .without-command2 .ensures in
-    judged-without (c .before .before .before .before .before .before .before .before .before .before .before .before .args .words .now) (c .before .before .before .before .before .before .before .before .before .before .before .before .args .image .now) (c .before .before .before .before .before .before .before .before .before .before .before .before .args .rest .now) _ _ _ (w .0) (w .1) (w .2) (λ part path found. first-unknown (c .before .before .before .before .before .before .before .before .before .before .before .before .args .words .now) (c .before .before .before .before .before .before .before .before .before .before .before .before .args .image .now) _ (c .before .before .before .before .before .before .length .given .0 .1 .0) (λ i. c .before .before .before .before .before .before .before .before .before .before .before .shared-slice-known .given i .fits) (c .before .before .before .before .before .before .before .before .before .before .before .before .pre .0) (sym (c .before .before .before .before .before .before .before .before .read-frame .ensures) ∙ c .before .before .before .before .before .before .length .given .1) (λ i. c .before .before .before .before .before .before .before .before .before .before .shared-slice-known2 .given i .fits) (c .before .before .before .before .before .before .before .before .before .before .before .before .pre .2) (found-as (c .before .before .before .before .before .before .before .before .before .before .before .before .args .image .now) 0 _ (partOf (c .before .before .before .before .before .before .before .before .before .before .before .before .args .words .now) 3 (c .before .before .before .before .before .before .length .given .0 .1 .0)) _ _ (name-part (c .before .before .before .before .before .before .before .before .before .before .before .before .args .words .now) 3 (c .before .before .before .before .before .before .length .given .0 .1 .0)) (c .before .before .before .find-node .ensures) (c .before .enum-told .given .1)))
+    judged-without (c .before .before .before .before .before .before .before .before .before .before .before .before .args .words .now) (c .before .before .before .before .before .before .before .before .before .before .before .before .args .image .now) (c .before .before .before .before .before .before .before .before .before .before .before .before .args .rest .now) _ _ _ _ (w .0) (w .1) (w .2) (λ part path found. first-unknown (c .before .before .before .before .before .before .before .before .before .before .before .before .args .words .now) (c .before .before .before .before .before .before .before .before .before .before .before .before .args .image .now) _ (c .before .before .before .before .before .before .length .given .0 .1 .0) (λ i. c .before .before .before .before .before .before .before .before .before .before .before .shared-slice-known .given i .fits) (c .before .before .before .before .before .before .before .before .before .before .before .before .pre .0) (sym (c .before .before .before .before .before .before .before .before .read-frame .ensures) ∙ c .before .before .before .before .before .before .length .given .1) (λ i. c .before .before .before .before .before .before .before .before .before .before .shared-slice-known2 .given i .fits) (c .before .before .before .before .before .before .before .before .before .before .before .before .pre .2) (found-as (c .before .before .before .before .before .before .before .before .before .before .before .before .args .image .now) 0 _ (partOf (c .before .before .before .before .before .before .before .before .before .before .before .before .args .words .now) 3 (c .before .before .before .before .before .before .length .given .0 .1 .0)) _ _ (name-part (c .before .before .before .before .before .before .before .before .before .before .before .before .args .words .now) 3 (c .before .before .before .before .before .before .length .given .0 .1 .0)) (c .before .before .before .find-node .ensures) (c .before .enum-told .given .1))) (λ z. omega arith)
 
 find-command-requires : tie.Need-find-command-requires
 unfolding Bytes
@@ -77,7 +77,7 @@ same-length c = search needs
 
 returns-3 : tie.Need-returns-3
 unfolding Bytes
-returns-3 c = judged-as _ _ _ _ _ _ _ (first-judged (c .before .before .before .before .before .before .before .before .before .before .before .before .before .before .before .before .before .args .words .now) (c .before .before .before .before .before .before .before .before .before .before .before .before .before .before .before .before .before .args .image .now) _ (c .before .before .before .before .before .before .before .before .before .before .before .length .given .0 .1 .0) (λ i. c .before .before .before .before .before .before .before .before .before .before .before .before .before .before .before .before .shared-slice-known .given i .fits) (c .before .before .before .before .before .before .before .before .before .before .before .before .before .before .before .before .before .pre .0) (sym (c .before .before .before .before .before .before .before .before .before .before .before .before .before .read-frame .ensures) ∙ c .before .before .before .before .before .before .before .before .before .before .before .length .given .1) (λ i. c .before .before .before .before .before .before .before .before .before .before .before .before .before .before .before .shared-slice-known2 .given i .fits) (c .before .before .before .before .before .before .before .before .before .before .before .before .before .before .before .before .before .pre .2) _ _ (found-as (c .before .before .before .before .before .before .before .before .before .before .before .before .before .before .before .before .before .args .image .now) 0 _ (partOf (c .before .before .before .before .before .before .before .before .before .before .before .before .before .before .before .before .before .args .words .now) 3 (c .before .before .before .before .before .before .before .before .before .before .before .length .given .0 .1 .0)) _ _ (name-part (c .before .before .before .before .before .before .before .before .before .before .before .before .before .before .before .before .before .args .words .now) 3 (c .before .before .before .before .before .before .before .before .before .before .before .length .given .0 .1 .0)) (c .before .before .before .before .before .before .before .before .find-node .ensures) (c .before .before .before .before .before .before .start .given .1))) (c .before .before .judge-arguments .ensures _ (c .before .before .before .before .find-command .ensures))
+returns-3 c = judged-as _ _ _ _ _ _ _ _ _ (first-judged (c .before .before .before .before .before .before .before .before .before .before .before .before .before .before .before .before .before .args .words .now) (c .before .before .before .before .before .before .before .before .before .before .before .before .before .before .before .before .before .args .image .now) _ (c .before .before .before .before .before .before .before .before .before .before .before .length .given .0 .1 .0) (λ i. c .before .before .before .before .before .before .before .before .before .before .before .before .before .before .before .before .shared-slice-known .given i .fits) (c .before .before .before .before .before .before .before .before .before .before .before .before .before .before .before .before .before .pre .0) (sym (c .before .before .before .before .before .before .before .before .before .before .before .before .before .read-frame .ensures) ∙ c .before .before .before .before .before .before .before .before .before .before .before .length .given .1) (λ i. c .before .before .before .before .before .before .before .before .before .before .before .before .before .before .before .shared-slice-known2 .given i .fits) (c .before .before .before .before .before .before .before .before .before .before .before .before .before .before .before .before .before .pre .2) _ _ (found-as (c .before .before .before .before .before .before .before .before .before .before .before .before .before .before .before .before .before .args .image .now) 0 _ (partOf (c .before .before .before .before .before .before .before .before .before .before .before .before .before .before .before .before .before .args .words .now) 3 (c .before .before .before .before .before .before .before .before .before .before .before .length .given .0 .1 .0)) _ _ (name-part (c .before .before .before .before .before .before .before .before .before .before .before .before .before .before .before .before .before .args .words .now) 3 (c .before .before .before .before .before .before .before .before .before .before .before .length .given .0 .1 .0)) (c .before .before .before .before .before .before .before .before .find-node .ensures) (c .before .before .before .before .before .before .start .given .1))) (first-frames (c .before .before .before .before .before .before .before .before .before .before .before .before .before .before .before .before .before .args .words .now) (c .before .before .before .before .before .before .before .before .before .before .before .before .before .before .before .before .before .args .image .now) _ (c .before .before .before .before .before .before .before .before .before .before .before .length .given .0 .1 .0) (λ i. c .before .before .before .before .before .before .before .before .before .before .before .before .before .before .before .before .shared-slice-known .given i .fits) (c .before .before .before .before .before .before .before .before .before .before .before .before .before .before .before .before .before .pre .0) (sym (c .before .before .before .before .before .before .before .before .before .before .before .before .before .read-frame .ensures) ∙ c .before .before .before .before .before .before .before .before .before .before .before .length .given .1) (λ i. c .before .before .before .before .before .before .before .before .before .before .before .before .before .before .before .shared-slice-known2 .given i .fits) (c .before .before .before .before .before .before .before .before .before .before .before .before .before .before .before .before .before .pre .2) _ _ (found-as (c .before .before .before .before .before .before .before .before .before .before .before .before .before .before .before .before .before .args .image .now) 0 _ (partOf (c .before .before .before .before .before .before .before .before .before .before .before .before .before .before .before .before .before .args .words .now) 3 (c .before .before .before .before .before .before .before .before .before .before .before .length .given .0 .1 .0)) _ _ (name-part (c .before .before .before .before .before .before .before .before .before .before .before .before .before .before .before .before .before .args .words .now) 3 (c .before .before .before .before .before .before .before .before .before .before .before .length .given .0 .1 .0)) (c .before .before .before .before .before .before .before .before .find-node .ensures) (c .before .before .before .before .before .before .start .given .1))) (c .before .before .judge-arguments .ensures _ (c .before .before .before .before .find-command .ensures))
 
 pub judge-spec : {M : Type 1} → statement M
 judge-spec =

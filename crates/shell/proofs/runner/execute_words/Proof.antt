@@ -1,12 +1,11 @@
 -- `shell::runner::execute_words` meets its contract: what is told is what was judged, with the handler of the node reached.
-use Prim.Native.Nat.{_≤_}
-use mathlib.Core.Path.{refl, sym, _∙_}
-use borrow.Author.Needs.{needs}
-use lib.ListN.{length}
+use mathlib.Core.Path.{refl, sym, ap, _∙_}
 use Rattle.frame.specs.Text.{Bytes}
 use Rattle.parse.proofs.Judgements.{good-short}
+use Rattle.shell.specs.Lines.{handlerOf}
 use Rattle.shell.proofs.Answering.{said-same}
 use Rattle.shell.proofs.Telling.{words-carried}
+use borrow.Author.Needs.{needs}
 use Rattle.shell.proofs.runner.execute_words.Statement.{statement}
 use Rattle.shell.proofs.runner.execute_words.Tie as tie
 
@@ -29,23 +28,32 @@ same-length c = search needs
 returns : tie.Need-returns
 returns c = said-same _ _ _ _ _ (words-carried (c .before .before .before .before .before .before .before .before .before .before .before .before .args .words .now) (c .before .before .before .before .before .before .before .before .before .before .before .before .args .image .now) _ _ _ (c .before .before .before .before .before .before .before .judge .ensures .outcome) refl) (c .before .before .tell-fault .ensures _ _)
 
-find-handler-requires : tie.Need-find-handler-requires
-find-handler-requires c κs = c .before .before .before .before .before .before .before .before .pre
+sub-handler-of : tie.Need-sub-handler-of
+sub-handler-of c = search needs
+
+part-handler-of-start : tie.Need-part-handler-of-start
+part-handler-of-start c = search needs
+
+part-handler-of-end : tie.Need-part-handler-of-end
+part-handler-of-end c = search needs
+
+handler-of-requires : tie.Need-handler-of-requires
+handler-of-requires c κs = search needs
 
 slice-aggregate-tell-command : tie.Need-slice-aggregate-tell-command
 slice-aggregate-tell-command c = search needs
 
 tell-command-requires : tie.Need-tell-command-requires
-tell-command-requires c κs =
-    let j = c .before .before .before .before .before .before .judge .ensures in
-    let l : length (c .before .before .before .before .before .before .judge .last .1 .1 .0) ≤ 4096 = search needs in
-    (j .within, j .kept, l, c .before .before .before .before .before .before .before .before .before .before .before .pre .0, sym (c .before .before .before .before .number-of .ensures) ∙ c .before .before .before .if1 .left)
+tell-command-requires c κs = search needs
 
 same-length-2 : tie.Need-same-length-2
 same-length-2 c = search needs
 
 returns-2 : tie.Need-returns-2
-returns-2 c = said-same _ _ _ _ _ (words-carried (c .before .before .before .before .before .before .before .before .before .before .before .before .before .before .args .words .now) (c .before .before .before .before .before .before .before .before .before .before .before .before .before .before .args .image .now) _ _ _ (c .before .before .before .before .before .before .before .before .before .judge .ensures .outcome) (c .before .before .before .before .before .find-handler .ensures)) (c .before .before .tell-command .ensures)
+returns-2 c =
+    let j = c .before .before .before .before .before .before .before .before .before .before .before .judge .ensures in
+    let h = c .before .before .before .before .before .handler-of .ensures ∙ ap handlerOf (j .command (sym (c .before .before .before .before .before .before .before .before .before .number-of .ensures) ∙ c .before .before .before .before .before .before .before .before .if1 .left)) in
+    said-same _ _ _ _ _ (words-carried (c .before .before .before .before .before .before .before .before .before .before .before .before .before .before .before .before .args .words .now) (c .before .before .before .before .before .before .before .before .before .before .before .before .before .before .before .before .args .image .now) _ _ _ (j .outcome) h) (c .before .before .tell-command .ensures)
 
 pub execute-words-spec : {M : Type 1} → statement M
 execute-words-spec =
@@ -57,7 +65,10 @@ execute-words-spec =
     tell-fault-requires
     same-length
     returns
-    find-handler-requires
+    sub-handler-of
+    part-handler-of-start
+    part-handler-of-end
+    handler-of-requires
     slice-aggregate-tell-command
     tell-command-requires
     same-length-2

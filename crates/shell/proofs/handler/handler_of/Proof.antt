@@ -1,9 +1,9 @@
--- `shell::reached::handler_of` meets its contract: by the head of the first frame.
+-- `shell::handler::handler_of` meets its contract: by the head of the first frame.
 use mathlib.Core.Path.{sym, _∙_}
 use borrow.Author.Needs.{needs}
 use Rattle.shell.proofs.Reaching.{handler-there, handler-none}
-use Rattle.shell.proofs.reached.handler_of.Statement.{statement}
-use Rattle.shell.proofs.reached.handler_of.Tie as tie
+use Rattle.shell.proofs.handler.handler_of.Statement.{statement}
+use Rattle.shell.proofs.handler.handler_of.Tie as tie
 
 head-of-requires : tie.Need-head-of-requires
 head-of-requires c κs = search needs
