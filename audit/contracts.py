@@ -6,7 +6,8 @@ import sys
 
 ROOT = pathlib.Path(__file__).resolve().parent.parent
 NAMED = set(re.findall(r"\w+", " ".join(re.findall(r"`([^`]*)`", (ROOT / "docs/CONTRACTS.md").read_text()))))
-FUNCTION = re.compile(r'^[ ]*pub (?:extern "C" )?fn (\w+)(.*?)^[ ]*\{$', re.M | re.S)
+# From the name to the line whose end opens the body; a clause of a contract opens and closes its brace on its own line.
+FUNCTION = re.compile(r'^[ ]*pub (?:extern "C" )?fn (\w+)(.*?)\{$', re.M | re.S)
 
 
 def functions(source):
@@ -16,19 +17,19 @@ def functions(source):
 
 
 def exported(crate):
-    """The names that a library's root passes on; a program has no such root, and all its public functions count."""
+    """The names, types and modules that a library's root passes on; a program has no such root, and all its public functions count."""
     root = crate / "src/lib.rt"
     if not root.exists():
         return None
     text = root.read_text()
     own = [name for name, _, _ in functions(text)]
-    types = re.findall(r"^pub use [\w:]+::(\w+);", text, re.M)
-    return set(types + own)
+    passed = re.findall(r"^pub (?:use [\w:]+::|mod )(\w+);", text, re.M)
+    return set(passed + own)
 
 
-def is_public(name, source, names):
-    """A function is public if its name is passed on, or if it is a method of a type whose name is."""
-    if names is None or name in names:
+def is_public(name, path, source, names):
+    """A function is public if its name is passed on, or its module, or the type whose method it is."""
+    if names is None or name in names or path.stem in names:
         return True
     for kind, body in re.findall(r"^impl (\w+) \{$(.*?)^\}$", source, re.M | re.S):
         if kind in names and re.search(r"^    pub fn %s\b" % name, body, re.M):
@@ -43,7 +44,7 @@ def main():
         for path in sorted((crate / "src").rglob("*.rt")):
             source = path.read_text()
             for name, states, asks in functions(source):
-                if (states and not asks) or not is_public(name, source, names):
+                if (states and not asks) or not is_public(name, path, source, names):
                     continue
                 what = "asks for something" if states else "states no result"
                 known = name in NAMED
