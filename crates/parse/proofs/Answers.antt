@@ -61,7 +61,7 @@ module _ (image other line : List ℕ) (g : checkTree image ≡ Good) (h : check
     unfolding parseLine
     other-commands e = alike (words-alike (framesOf image) (framesOf other) (wordsOf line) e)
 
-    -- a line that is too long or ill-formed names no command, and is answered alike under all trees
+    -- an ill-formed line names no command, and is answered alike under all trees
     pub refused-alike : ltb (wellFormedLength line) (length line) ≡ true → (r ≡ q) × (left ≡ right)
     unfolding parseAnswer parseLeaves
     refused-alike e =
