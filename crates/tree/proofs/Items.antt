@@ -8,17 +8,18 @@ use lib.ListN.{length, drop, length-drop}
 use lib.Seq.{getD-drop, drop-drop}
 use borrow.Author.Tests.{lt-ltb, le-ltb}
 use Rattle.buffer.proofs.Lists.{drop-end}
-use Rattle.buffer.proofs.Choices.{true-is-not-false}
+use Rattle.buffer.proofs.Choices.{then-is, true-is-not-false}
 use Rattle.frame.specs.Text.{Bytes}
 use Rattle.image.specs.Frames.{Frame}
 use Rattle.image.specs.Reading.{headFirst, Read, read, broken, ended, readFirst}
 use Rattle.image.proofs.Encoding.{read-within, read-ended}
 use Rattle.tree.specs.Images.{Item, whole, torn, itemsFrom, items}
 use Rattle.tree.specs.Rules.{Seen, start, obeys, after, judge, checkTree}
-use Rattle.tree.specs.Steps.{startWalk, seenBy, Sound, StepBy}
+use Rattle.tree.specs.Steps.{startWalk, seenBy, Sound, passed, stepBy}
 use Rattle.tree.specs.declared.walk.Walk.{Walk}
 use Rattle.tree.specs.declared.walk.Step.{Step}
 use Rattle.tree.specs.declared.check.Checked.the-variants.{Good, BadFrame}
+use Rattle.tree.proofs.Told.{passes}
 
 -- bytes from a place on are bytes
 pub bytes-drop : (n : ℕ) (s : List ℕ) → Bytes s → Bytes (drop n s)
@@ -83,31 +84,37 @@ pub record OnWay (image : List ℕ) (walk : Walk) (n : ℕ) : Type 0 where
 
 module _ (image : List ℕ) (walk : Walk) (n : ℕ) (way : OnWay image walk n) (r : Step) where
   -- a turn
-  pub goes-on : (x : Read) → readFirst (drop (walk .at) image) ≡ x → StepBy image walk r x → r .ok ≡ true → (walk .at < r .walk .at) × OnWay image (r .walk) (n + 1)
+  pub goes-on : (x : Read) → readFirst (drop (walk .at) image) ≡ x → r ≡ stepBy (seenBy image walk) walk x → r .ok ≡ true → (walk .at < r .walk .at) × OnWay image (r .walk) (n + 1)
+  unfolding stepBy
   goes-on (read f k) e s o =
-      let p = s .past o in
+      let obeyed : obeys (seenBy image walk) f ≡ true = sym (ap (λ (step : Step). step .ok) s) ∙ o in
+      let next : r .walk ≡ passed walk f k = ap (λ (step : Step). step .walk) s ∙ then-is _ _ _ obeyed in
+      let p = passes image walk (way .sound) f k e obeyed in
       let h = read-within (drop (walk .at) image) f k e in
       let l = length-drop (walk .at) image in
       let w = way .within in
       let c = way .count in
-      let place = p .place in
+      let place : r .walk .at ≡ walk .at + k = rw next (p .place) in
       let more : walk .at < r .walk .at = omega arith in
       let rest : items (drop k (drop (walk .at) image)) ≡ items (drop (r .walk .at) image) = ap items (drop-drop k (walk .at) image ∙ ap (λ (m : ℕ). drop m image) (sym place)) in
-      let on = judge-on (seenBy image walk) n (drop (walk .at) image) f k e (sym (s .ok) ∙ o) in (
+      let on = judge-on (seenBy image walk) n (drop (walk .at) image) f k e obeyed in
+      let seen : seenBy image (r .walk) ≡ after (seenBy image walk) f = rw next (p .seen) in (
         more,
         record {
-          sound = p .sound;
+          sound = rw next (p .sound);
           within = omega arith;
           count = omega arith;
-          same = rw (p .seen, ← rest) (sym on ∙ way .same);
+          same = rw (seen, ← rest) (sym on ∙ way .same);
         },
       )
-  goes-on broken e s o = absurd (true-is-not-false (sym o ∙ s))
-  goes-on ended e s o = absurd (true-is-not-false (sym o ∙ s))
+  goes-on broken e s o = absurd (true-is-not-false (sym o ∙ ap (λ (step : Step). step .ok) s))
+  goes-on ended e s o = absurd (true-is-not-false (sym o ∙ ap (λ (step : Step). step .ok) s))
 
   -- the frame that breaks a rule
-  pub stops : (x : Read) → readFirst (drop (walk .at) image) ≡ x → StepBy image walk r x → r .ok ≡ false → walk .at < length image → BadFrame n ≡ judge start 0 (items image)
-  stops (read f k) e s o h = sym (judge-stop (seenBy image walk) n (drop (walk .at) image) f k e (sym (s .ok) ∙ o)) ∙ way .same
+  pub stops : (x : Read) → readFirst (drop (walk .at) image) ≡ x → r ≡ stepBy (seenBy image walk) walk x → r .ok ≡ false → walk .at < length image
+      → BadFrame n ≡ judge start 0 (items image)
+  unfolding stepBy
+  stops (read f k) e s o h = sym (judge-stop (seenBy image walk) n (drop (walk .at) image) f k e (sym (ap (λ (step : Step). step .ok) s) ∙ o)) ∙ way .same
   stops broken e s o h = sym (judge-torn (seenBy image walk) n (drop (walk .at) image) e) ∙ way .same
   stops ended e s o h = absurd (let k = length-drop (walk .at) image in let z = ap length (read-ended (drop (walk .at) image) e) in omega arith)
 

@@ -11,12 +11,17 @@ use lib.Seq.{length-take-le, getD-take, take-take, take-suc-set}
 use borrow.Author.Tests.{le-leb, lt-leb, lt-ltb, le-ltb}
 use Rattle.buffer.specs.Compare.{order}
 use Rattle.buffer.specs.declared.order.Order.{Order}
-use Rattle.buffer.proofs.Choices.{true-is-not-false}
 use Rattle.image.specs.Frames.{Perhaps, Frame, node, option, flag}
 use Rattle.tree.specs.Rules.{isLess, rises, follows, after}
-use Rattle.tree.specs.Steps.{nameAt, textFirst, seenBy, Sound, pastNode, pastOption, pastFlag, Past, Stepped}
+use Rattle.tree.specs.Steps.{nameAt, textFirst, seenBy, Sound, pastNode, pastOption, pastFlag, stepIf}
 use Rattle.tree.specs.declared.walk.Walk.{Walk}
 use Rattle.tree.specs.declared.walk.Step.{Step}
+
+-- a walk that has gone past a frame of that size
+pub record Past (image : List ℕ) (walk : Walk) (f : Frame) (size : ℕ) (next : Walk) : Type 0 where
+  pub seen : seenBy image next ≡ after (seenBy image walk) f
+  pub sound : Sound next
+  pub place : next .at ≡ walk .at + size
 
 module _ {A B : Type 0} (f : A → B) where
   getD-mapped : (l : List A) (i : ℕ) (x : B) (y : A) → i < length l → getD (map f l) i x ≡ f (getD l i y)
@@ -67,10 +72,10 @@ module _ (image : List ℕ) (walk : Walk) (sound : Sound walk) where
     unfolding follows seenBy
     too-many k l = rw (path-length, le-leb d (walk .deep), le-ltb (walk .nodes) 256)
 
-    pub node-decides : d ≤ walk .deep → walk .nodes < 256 → (t : Bool) (m : List ℕ) → n ≡ m → t ≡ rises (seenBy image walk .path) d m
+    pub node-decides : d ≤ walk .deep → walk .nodes < 256 → (t : Bool) → t ≡ rises (seenBy image walk .path) d n
         → follows (seenBy image walk) (node d h n ds u) ≡ t
     unfolding follows seenBy
-    node-decides k l t m e r = rw (path-length, le-leb d (walk .deep), lt-ltb (walk .nodes) 256, e) (sym r)
+    node-decides k l t r = rw (path-length, le-leb d (walk .deep), lt-ltb (walk .nodes) 256) (sym r)
 
   -- the walk past a frame of each kind
   pub past-node : (d h : ℕ) (n ds : List ℕ) (u : Perhaps) (size : ℕ) → d ≤ 7 → d ≤ walk .deep → n ≡ nameAt image (walk .at + 4)
@@ -121,18 +126,18 @@ module _ (image : List ℕ) (walk : Walk) (sound : Sound walk) where
     flag-decides e t k = rw (path-length, lt-ltb 0 (walk .deep) (omega arith)) k
 
 -- a step that is refused, and one that is taken
-module _ (image : List ℕ) (walk : Walk) (f : Frame) (size : ℕ) (rule : Bool) (r : Step) where
-  pub step-refused : r .ok ≡ false → rule ≡ false → Stepped image walk f size rule r
-  step-refused e k = record { ok = e ∙ sym k; past = λ t. absurd (true-is-not-false (sym t ∙ e)) }
+module _ (rule : Bool) (walk next : Walk) where
+  pub step-refused : (r : Step) → r ≡ stepIf false walk walk → rule ≡ false → r ≡ stepIf rule walk next
+  step-refused r e k = e ∙ rw k
 
-  pub step-taken : r .ok ≡ true → rule ≡ true → (next : Walk) → r .walk ≡ next → Past image walk f size next → Stepped image walk f size rule r
-  step-taken e k next w p = record { ok = e ∙ sym k; past = λ t. rw w p }
+  pub step-taken : (past : Walk) → past ≡ next → rule ≡ true → record { walk = past; ok = true } ≡ stepIf rule walk next
+  step-taken past e k = rw (k, e)
 
 -- a text that was lent in three steps: the rest of the image, its first byte, and as many bytes behind that
 pub name-lent : (image tail r : List ℕ) (p n : ℕ) → tail ≡ drop p image → n ≡ getD tail 0 0 → r ≡ take n (drop 1 tail) → r ≡ nameAt image p
 unfolding textFirst
 name-lent image tail r p n a b d = d ∙ rw (b, a)
 
--- two lent names compared
-pub compared : (r : Bool) (o : Order) (x y a b : List ℕ) → r ≡ isLess o → o ≡ order x y → x ≡ a → y ≡ b → r ≡ isLess (order a b)
-compared r o x y a b e f g h = cc
+-- a lent name compared
+pub compared : (r : Bool) (o : Order) (x y a : List ℕ) → r ≡ isLess o → o ≡ order x y → x ≡ a → r ≡ isLess (order a y)
+compared r o x y a e f g = cc

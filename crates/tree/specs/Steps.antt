@@ -1,12 +1,12 @@
 -- The steps by which the code goes through an image: where it stands, and what one frame makes of that.
 use Prim.Native.Nat.{ℕ, _+_, _≤_}
 use mathlib.Core.Path.{_≡_}
-use mathlib.Core.Bool.{Bool, true, false}
+use mathlib.Core.Bool.{Bool, false, cond}
 use mathlib.Core.List.{List, map}
 use lib.ListN.{length, take, drop, getD, set, replicate}
 use Rattle.image.specs.Frames.{Perhaps, Frame, node, option, flag}
 use Rattle.image.specs.Reading.{Read, read, broken, ended}
-use Rattle.tree.specs.Rules.{Seen, follows, obeys, after}
+use Rattle.tree.specs.Rules.{Seen, follows, obeys}
 use Rattle.tree.specs.declared.walk.Walk.{Walk}
 use Rattle.tree.specs.declared.walk.Step.{Step}
 
@@ -30,7 +30,7 @@ pub record Sound (walk : Walk) : Type 0 where
   pub deep : walk .deep ≤ 8
   pub names : length (walk .names) ≡ 8
 
--- the walk past a frame of each kind
+-- the walk past a frame of that size, of each kind
 unfoldable pub pastNode : Walk → ℕ → ℕ → Walk
 pastNode walk depth size =
     record { at = walk .at + size; names = set (walk .names) depth (walk .at + 4); deep = depth + 1; nodes = walk .nodes + 1; options = 0; flags = 0 }
@@ -43,33 +43,30 @@ unfoldable pub pastFlag : Walk → ℕ → Walk
 pastFlag walk size =
     record { at = walk .at + size; names = walk .names; deep = walk .deep; nodes = walk .nodes; options = walk .options; flags = walk .flags + 1 }
 
--- a walk that has gone past a frame of that size
-pub record Past (image : List ℕ) (walk : Walk) (f : Frame) (size : ℕ) (next : Walk) : Type 0 where
-  pub seen : seenBy image next ≡ after (seenBy image walk) f
-  pub sound : Sound next
-  pub place : next .at ≡ walk .at + size
+abbrev pub passed : Walk → Frame → ℕ → Walk
+passed walk (node d h name description usage) size = pastNode walk d size
+passed walk (option r c name long description) size = pastOption walk size
+passed walk (flag c name long description) size = pastFlag walk size
 
--- one frame: whether it follows those before, and if so the walk past it
-pub record Stepped (image : List ℕ) (walk : Walk) (f : Frame) (size : ℕ) (rule : Bool) (r : Step) : Type 0 where
-  pub ok : r .ok ≡ rule
-  pub past : r .ok ≡ true → Past image walk f size (r .walk)
+-- a frame that keeps the rules is passed; another leaves the walk as it is
+abbrev pub stepIf : Bool → Walk → Walk → Step
+stepIf rule walk next = record { walk = cond rule next walk; ok = rule }
+
+-- one frame more, after what was seen
+unfoldable pub stepBy : Seen → Walk → Read → Step
+stepBy seen walk (read f n) = stepIf (obeys seen f) walk (passed walk f n)
+stepBy seen walk broken = stepIf false walk walk
+stepBy seen walk ended = stepIf false walk walk
 
 -- the same for a frame of each kind, of which only what the rules ask counts
-abbrev pub NodeStepped : List ℕ → Walk → ℕ → ℕ → Step → Type 0
-NodeStepped image walk depth size r =
-    (h : ℕ) (n ds : List ℕ) (u : Perhaps) → n ≡ nameAt image (walk .at + 4)
-    → Stepped image walk (node depth h n ds u) size (follows (seenBy image walk) (node depth h n ds u)) r
+abbrev pub NodeStepped : List ℕ → Walk → ℕ → List ℕ → ℕ → Step → Type 0
+NodeStepped image walk depth name size r =
+    (h : ℕ) (ds : List ℕ) (u : Perhaps) → r ≡ stepIf (follows (seenBy image walk) (node depth h name ds u)) walk (pastNode walk depth size)
 
 abbrev pub OptionStepped : List ℕ → Walk → ℕ → Step → Type 0
 OptionStepped image walk size r =
-    (q c : ℕ) (n : List ℕ) (l : Perhaps) (ds : List ℕ) → Stepped image walk (option q c n l ds) size (follows (seenBy image walk) (option q c n l ds)) r
+    (q c : ℕ) (n : List ℕ) (l : Perhaps) (ds : List ℕ) → r ≡ stepIf (follows (seenBy image walk) (option q c n l ds)) walk (pastOption walk size)
 
 abbrev pub FlagStepped : List ℕ → Walk → ℕ → Step → Type 0
 FlagStepped image walk size r =
-    (c : ℕ) (n : List ℕ) (l : Perhaps) (ds : List ℕ) → Stepped image walk (flag c n l ds) size (follows (seenBy image walk) (flag c n l ds)) r
-
--- the same for whatever stands at the walk's place
-abbrev pub StepBy : List ℕ → Walk → Step → Read → Type 0
-StepBy image walk r (read f n) = Stepped image walk f n (obeys (seenBy image walk) f) r
-StepBy image walk r broken = r .ok ≡ false
-StepBy image walk r ended = r .ok ≡ false
+    (c : ℕ) (n : List ℕ) (l : Perhaps) (ds : List ℕ) → r ≡ stepIf (follows (seenBy image walk) (flag c n l ds)) walk (pastFlag walk size)

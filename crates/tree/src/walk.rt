@@ -13,7 +13,7 @@ ghost use Prim.Native.Nat.{ℕ, _+_, _≤_, _<_};
 ghost use lib.ListN.{length, drop};
 ghost use Rattle.image.specs.Reading.{readFirst};
 ghost use Rattle.tree.specs.Rules.{isLess, rises};
-ghost use Rattle.tree.specs.Steps.{Sound, nameAt, seenBy, startWalk, pastNode, pastOption, pastFlag, StepBy, NodeStepped, OptionStepped, FlagStepped};
+ghost use Rattle.tree.specs.Steps.{Sound, nameAt, seenBy, startWalk, pastNode, pastOption, pastFlag, stepIf, stepBy, NodeStepped, OptionStepped, FlagStepped};
 
 // Where a walk stands: its place; for each depth the place of the last name there, of which the first `deep` count; how many nodes
 // there were, and how many options and flags of the last one.
@@ -98,27 +98,27 @@ fn is_less(order: Order) -> bool
     }
 }
 
-// Whether a node of that depth, whose name stands at a place, comes after its sibling before, if there is one.
-fn rises_at(image: &[u8], walk: Walk, depth: usize, place: usize) -> bool
+// Whether a node of that depth and name comes after its sibling before, if there is one.
+fn rises_at(image: &[u8], walk: Walk, depth: usize, name: &[u8]) -> bool
     requires { ⌜ (depth ≤ 7) × Sound walk ⌝ }
-    ensures { λ r. ⌜ r ≡ rises (seenBy (now (image .entry)) walk .path) depth (nameAt (now (image .entry)) place) ⌝ }
+    ensures { λ r. ⌜ r ≡ rises (seenBy (now (image .entry)) walk .path) depth (now (name .entry)) ⌝ }
 {
     if walk.deep <= depth {
         return true;
     }
     let before = walk.names[depth];
-    is_less(compare(name_at(image, before), name_at(image, place)))
+    is_less(compare(name_at(image, before), name))
 }
 
 fn refused(walk: Walk) -> Step
-    ensures { λ r. ⌜ r .ok ≡ false ⌝ }
+    ensures { λ r. ⌜ r ≡ stepIf false walk walk ⌝ }
 {
     Step { walk, ok: false }
 }
 
-fn node_step(image: &[u8], walk: Walk, depth: usize, size: usize) -> Step
+fn node_step(image: &[u8], walk: Walk, depth: usize, name: &[u8], size: usize) -> Step
     requires { ⌜ (depth ≤ 7) × Sound walk × (4 ≤ size) × (walk .at + size ≤ 32768) ⌝ }
-    ensures { λ r. ⌜ NodeStepped (now (image .entry)) walk depth size r ⌝ }
+    ensures { λ r. ⌜ NodeStepped (now (image .entry)) walk depth (now (name .entry)) size r ⌝ }
 {
     if walk.deep < depth {
         return refused(walk);
@@ -126,7 +126,7 @@ fn node_step(image: &[u8], walk: Walk, depth: usize, size: usize) -> Step
     if 256 <= walk.nodes {
         return refused(walk);
     }
-    if !rises_at(image, walk, depth, walk.at + 4) {
+    if !rises_at(image, walk, depth, name) {
         return refused(walk);
     }
     Step {
@@ -167,17 +167,17 @@ fn flag_step(walk: Walk, size: usize) -> Step
     }
 }
 
-// The walk past the frame at its place, if that is one that may follow.
-pub fn step_at(image: &[u8], walk: Walk) -> Step
-    requires { ⌜ Sound walk × (length (now image) ≤ 32768) × (walk .at ≤ length (now image)) ⌝ }
-    ensures { λ r. ⌜ StepBy (now (image .entry)) walk r (readFirst (drop (walk .at) (now (image .entry)))) ⌝ }
+// The walk past the first of the frames that come next, if that may follow; the image needs to hold only the names before it.
+pub fn step_over(image: &[u8], walk: Walk, next: &[u8]) -> Step
+    requires { ⌜ Sound walk × (walk .at + length (now next) ≤ 32768) ⌝ }
+    ensures { λ r. ⌜ r ≡ stepBy (seenBy (now (image .entry)) walk) walk (readFirst (now (next .entry))) ⌝ }
 {
-    match frame_at(image, walk.at) {
+    match frame_at(next, 0) {
         Head::Node {
             depth,
             handler: _,
             texts,
-        } => node_step(image, walk, depth, texts.size),
+        } => node_step(image, walk, depth, part(next, 5, texts.name), texts.size),
         Head::Option {
             required: _,
             short: _,
@@ -186,4 +186,12 @@ pub fn step_at(image: &[u8], walk: Walk) -> Step
         Head::Flag { short: _, texts } => flag_step(walk, texts.size),
         _ => refused(walk),
     }
+}
+
+// The walk past the frame at its place, if that is one that may follow.
+pub fn step_at(image: &[u8], walk: Walk) -> Step
+    requires { ⌜ Sound walk × (length (now image) ≤ 32768) × (walk .at ≤ length (now image)) ⌝ }
+    ensures { λ r. ⌜ r ≡ stepBy (seenBy (now (image .entry)) walk) walk (readFirst (drop (walk .at) (now (image .entry)))) ⌝ }
+{
+    step_over(image, walk, rest(image, walk.at))
 }

@@ -1,7 +1,6 @@
 -- `tree::walk::flag_step` meets its contract: the first rule that is broken decides; a flag that follows is passed.
-use Rattle.tree.proofs.Walks.{flag-orphan, flag-decides, past-flag, step-refused, step-taken}
+use Rattle.tree.proofs.Walks.{flag-orphan, flag-decides, step-refused, step-taken}
 use borrow.Author.Needs.{needs}
-use mathlib.Core.Path.{refl}
 use mathlib.Core.Bool.{true, false}
 use borrow.Author.Tests.{lt-ltb, le-ltb}
 use Rattle.tree.proofs.walk.flag_step.Statement.{statement}
@@ -11,22 +10,19 @@ refused-requires : tie.Need-refused-requires
 refused-requires c κs = search needs
 
 returns : tie.Need-returns
-returns c = λ image d n l ds. step-refused _ _ _ _ _ _ (c .refused .ensures) (flag-orphan image _ (c .before .before .before .pre .0) d n l ds (c .before .if1 .taken))
+returns c = λ image d n l ds. step-refused _ _ _ _ (c .refused .ensures) (flag-orphan image _ (c .before .before .before .pre .0) d n l ds (c .before .if1 .taken))
 
 refused-requires-2 : tie.Need-refused-requires-2
 refused-requires-2 c κs = search needs
 
 returns-2 : tie.Need-returns-2
-returns-2 c = λ image d n l ds. step-refused _ _ _ _ _ _ (c .refused2 .ensures) (flag-decides image _ (c .before .before .before .before .before .pre .0) d n l ds (c .before .before .before .if1 .left) false (le-ltb _ _ (c .before .if2 .taken)))
+returns-2 c = λ image d n l ds. step-refused _ _ _ _ (c .refused2 .ensures) (flag-decides image _ (c .before .before .before .before .before .pre .0) d n l ds (c .before .before .before .if1 .left) false (le-ltb _ _ (c .before .if2 .taken)))
 
 past-flag-requires : tie.Need-past-flag-requires
 past-flag-requires c κs = search needs
 
 returns-3 : tie.Need-returns-3
-returns-3 c =
-    λ image d n l ds.
-    let past = past-flag image (c .before .before .before .before .before .args .walk) (c .before .before .before .before .before .pre .0) d n l ds (c .before .before .before .before .before .args .size) in
-    step-taken _ _ _ _ _ _ refl (flag-decides image _ (c .before .before .before .before .before .pre .0) d n l ds (c .before .before .before .if1 .left) true (lt-ltb _ _ (c .before .if2 .left))) _ (c .past-flag .ensures) past
+returns-3 c = λ image d n l ds. step-taken _ _ _ _ (c .past-flag .ensures) (flag-decides image _ (c .before .before .before .before .before .pre .0) d n l ds (c .before .before .before .if1 .left) true (lt-ltb _ _ (c .before .if2 .left)))
 
 pub flag-step-spec : {M : Type 1} → statement M
 flag-step-spec =

@@ -1,7 +1,7 @@
 -- `tree::walk::node_step` meets its contract: the first rule that is broken decides; a node that follows is passed.
-use Rattle.tree.proofs.Walks.{too-deep, too-many, node-decides, past-node, step-refused, step-taken}
+use Rattle.tree.proofs.Walks.{too-deep, too-many, node-decides, step-refused, step-taken}
 use borrow.Author.Needs.{needs}
-use mathlib.Core.Path.{refl, sym, _∙_}
+use mathlib.Core.Path.{sym, _∙_}
 use mathlib.Core.Bool.{true, false}
 use borrow.Author.Tests.{not-true, not-false}
 use Rattle.tree.proofs.walk.node_step.Statement.{statement}
@@ -11,16 +11,13 @@ refused-requires : tie.Need-refused-requires
 refused-requires c κs = search needs
 
 returns : tie.Need-returns
-returns c = λ h n ds u k. step-refused _ _ _ _ _ _ (c .refused .ensures) (too-deep (c .before .before .before .before .args .image .now) _ (c .before .before .before .before .pre .1) _ h n ds u (c .before .if1 .taken))
+returns c = λ h ds u. step-refused _ _ _ _ (c .refused .ensures) (too-deep (c .before .before .before .before .before .args .image .now) _ (c .before .before .before .before .before .pre .1) _ h _ ds u (c .before .if1 .taken))
 
 refused-requires-2 : tie.Need-refused-requires-2
 refused-requires-2 c κs = search needs
 
 returns-2 : tie.Need-returns-2
-returns-2 c = λ h n ds u k. step-refused _ _ _ _ _ _ (c .refused2 .ensures) (too-many (c .before .before .before .before .before .before .args .image .now) _ (c .before .before .before .before .before .before .pre .1) _ h n ds u (c .before .before .before .if1 .left) (c .before .if2 .taken))
-
-add-rises-at : tie.Need-add-rises-at
-add-rises-at c = search needs
+returns-2 c = λ h ds u. step-refused _ _ _ _ (c .refused2 .ensures) (too-many (c .before .before .before .before .before .before .before .args .image .now) _ (c .before .before .before .before .before .before .before .pre .1) _ h _ ds u (c .before .before .before .if1 .left) (c .before .if2 .taken))
 
 rises-at-requires : tie.Need-rises-at-requires
 rises-at-requires c κs = search needs
@@ -30,19 +27,18 @@ refused-requires-3 c κs = search needs
 
 returns-3 : tie.Need-returns-3
 returns-3 c =
-    λ h n ds u k.
+    λ h ds u.
     let rises = sym (not-true _ (c .before .if3 .taken)) ∙ c .before .before .rises-at .ensures in
-    step-refused _ _ _ _ _ _ (c .refused3 .ensures) (node-decides (c .before .before .before .before .before .before .before .before .before .args .image .now) _ (c .before .before .before .before .before .before .before .before .before .pre .1) _ h n ds u (c .before .before .before .before .before .before .if1 .left) (c .before .before .before .before .if2 .left) false _ k rises)
+    step-refused _ _ _ _ (c .refused3 .ensures) (node-decides (c .before .before .before .before .before .before .before .before .before .args .image .now) _ (c .before .before .before .before .before .before .before .before .before .pre .1) _ h _ ds u (c .before .before .before .before .before .if1 .left) (c .before .before .before .if2 .left) false rises)
 
 past-node-requires : tie.Need-past-node-requires
 past-node-requires c κs = search needs
 
 returns-4 : tie.Need-returns-4
 returns-4 c =
-    λ h n ds u k.
+    λ h ds u.
     let rises = sym (not-false _ (c .before .if3 .left)) ∙ c .before .before .rises-at .ensures in
-    let past = past-node (c .before .before .before .before .before .before .before .before .before .args .image .now) (c .before .before .before .before .before .before .before .before .before .args .walk) (c .before .before .before .before .before .before .before .before .before .pre .1) (c .before .before .before .before .before .before .before .before .before .args .depth) h n ds u (c .before .before .before .before .before .before .before .before .before .args .size) (c .before .before .before .before .before .before .before .before .before .pre .0) (c .before .before .before .before .before .before .if1 .left) k in
-    step-taken _ _ _ _ _ _ refl (node-decides (c .before .before .before .before .before .before .before .before .before .args .image .now) _ (c .before .before .before .before .before .before .before .before .before .pre .1) _ h n ds u (c .before .before .before .before .before .before .if1 .left) (c .before .before .before .before .if2 .left) true _ k rises) _ (c .past-node .ensures) past
+    step-taken _ _ _ _ (c .past-node .ensures) (node-decides (c .before .before .before .before .before .before .before .before .before .args .image .now) _ (c .before .before .before .before .before .before .before .before .before .pre .1) _ h _ ds u (c .before .before .before .before .before .if1 .left) (c .before .before .before .if2 .left) true rises)
 
 pub node-step-spec : {M : Type 1} → statement M
 node-step-spec =
@@ -52,7 +48,6 @@ node-step-spec =
     returns
     refused-requires-2
     returns-2
-    add-rises-at
     rises-at-requires
     refused-requires-3
     returns-3

@@ -6,7 +6,7 @@ use Rattle.tree.proofs.walk.rises_at.Statement.{statement}
 use Rattle.tree.proofs.walk.rises_at.Tie as tie
 
 returns : tie.Need-returns
-returns c = rises-first (c .before .before .args .image .now) (c .before .before .args .t2) (c .before .before .pre .1) _ _ (c .if1 .taken)
+returns c = rises-first (c .before .before .before .args .image .now) (c .before .before .before .args .t2) (c .before .before .before .pre .1) _ _ (c .if1 .taken)
 
 mul-before : tie.Need-mul-before
 mul-before c = search needs
@@ -17,9 +17,6 @@ element-copy-out-before c = search needs
 name-at-requires : tie.Need-name-at-requires
 name-at-requires c κs = search needs
 
-name-at-requires-2 : tie.Need-name-at-requires-2
-name-at-requires-2 c κs = search needs
-
 compare-requires : tie.Need-compare-requires
 compare-requires c κs = search needs
 
@@ -28,18 +25,10 @@ is-less-requires c κs = search needs
 
 returns-2 : tie.Need-returns-2
 returns-2 c =
-    compared _ _ _ _ _ _ (c .is-less .ensures) (c .before .compare .ensures) (c .before .before .before .name-at .ensures) (c .before .before .name-at2 .ensures)
-    ∙ rises-after (c .before .before .before .before .before .before .before .args .image .now) (c .before .before .before .before .before .before .before .args .t2) (c .before .before .before .before .before .before .before .pre .1) _ _ (c .before .before .before .before .before .if1 .left)
+    compared _ _ _ _ _ (c .is-less .ensures) (c .before .compare .ensures) (c .before .before .name-at .ensures)
+    ∙ rises-after (c .before .before .before .before .before .before .before .args .image .now) (c .before .before .before .before .before .before .before .args .t2) (c .before .before .before .before .before .before .before .pre .1) _ _ (c .before .before .before .before .if1 .left)
 
 pub rises-at-spec : {M : Type 1} → statement M
 rises-at-spec =
     tie.close
-    (tie.spec
-    returns
-    mul-before
-    element-copy-out-before
-    name-at-requires
-    name-at-requires-2
-    compare-requires
-    is-less-requires
-    returns-2)
+    (tie.spec returns mul-before element-copy-out-before name-at-requires compare-requires is-less-requires returns-2)
