@@ -2,4 +2,5 @@
 pub mod Following
 pub mod Answers
 pub mod Commands
+pub mod Bounds
 pub mod Examples

@@ -1,6 +1,7 @@
 -- Laws of a writer that also measures: texts one behind the other, and a text with room or with none.
 use Prim.Native.Nat.{ℕ, _+_, _<_, _≤_}
 use mathlib.Core.Path.{_≡_, refl, sym, ap, _∙_}
+use mathlib.Core.Bool.{Bool, true, false, cond}
 use mathlib.Core.List.{List, [], _++_}
 use native.Mathlib.Omega.{arith}
 use lib.ListN.{length, length-append}
@@ -92,3 +93,8 @@ module _ (text out : List ℕ) (n : ℕ) (e : n ≡ length text) where
 -- no second answer satisfies the contract
 pub one-answer : (text out left other : List ℕ) (r q : Shown) → Showing text out r left → Showing text out q other → (r ≡ q) × (left ≡ other)
 one-answer text out left other r q a b = (a .answer ∙ sym (b .answer), a .bytes ∙ sym (b .bytes))
+
+-- a choice of two texts is as long as the longer
+pub cond-most : (t : Bool) (x y : List ℕ) (n : ℕ) → length x ≤ n → length y ≤ n → length (cond t x y) ≤ n
+cond-most true x y n h k = h
+cond-most false x y n h k = k

@@ -22,15 +22,11 @@ use Rattle.rows.specs.Rows.{blanks, padded, shortThen, shownAs, required
 use Rattle.rows.specs.Steps.{rowBy, sizeBy}
 use Rattle.rows.specs.declared.row.Listing.{Listing}
 use Rattle.rows.specs.declared.row.Listing.the-variants.{Options, Flags, Subcommands, Commands}
-use Rattle.ink.proofs.Inking.{inked-nothing, inked-both, inked-as}
+use Rattle.ink.proofs.Inking.{inked-nothing, inked-both, inked-as, cond-most}
 use Rattle.rows.proofs.Rowing.{blanks-length}
 
 -- how long each part of a row is at most
-cond-most : (t : Bool) (x y : List ℕ) (n : ℕ) → length x ≤ n → length y ≤ n → length (cond t x y) ≤ n
-cond-most true x y n h k = h
-cond-most false x y n h k = k
-
-perhapsLength : Perhaps → ℕ
+unfoldable pub perhapsLength : Perhaps → ℕ
 perhapsLength absent = 0
 perhapsLength (present t) = length t
 
@@ -62,7 +58,7 @@ entry-most indent w label ds h =
     let f = blanks-length w (length label) in
     omega arith
 
-node-most : (indent : List ℕ) (w : ℕ) (n ds : List ℕ) → w ≤ 20 → length (nodeRow indent w n ds) ≤ 22 + length indent + length n + length ds
+pub node-most : (indent : List ℕ) (w : ℕ) (n ds : List ℕ) → w ≤ 20 → length (nodeRow indent w n ds) ≤ 22 + length indent + length n + length ds
 unfolding nodeRow ascii
 node-most indent w n ds h = let a = length-append (entry indent w n ds) (ascii "\n") in let e = entry-most indent w n ds h in omega arith
 
@@ -84,7 +80,7 @@ definition-long n x ds =
     let f = perhaps-length x in
     omega arith
 
-definition-most : (c : ℕ) (n : List ℕ) (x : Perhaps) (ds : List ℕ) → length (entry (ascii "  ") 20 (shownAs c n x) ds) ≤ 29 + length n + perhapsLength x + length ds
+pub definition-most : (c : ℕ) (n : List ℕ) (x : Perhaps) (ds : List ℕ) → length (entry (ascii "  ") 20 (shownAs c n x) ds) ≤ 29 + length n + perhapsLength x + length ds
 unfolding ascii
 definition-most c n x ds = let e = entry-most (ascii "  ") 20 (shownAs c n x) ds (omega arith) in let s = shown-most c n x in omega arith
 
