@@ -5,4 +5,5 @@ pub mod Judgements
 pub mod Tellings
 pub mod Lines
 pub mod Answers
+pub mod Bounds
 mod Examples
