@@ -6,4 +6,5 @@ pub mod Telling
 pub mod Lines
 pub mod Bare
 pub mod Answers
+pub mod Bounds
 mod Examples
