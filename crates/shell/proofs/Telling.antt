@@ -1,5 +1,5 @@
 -- What is carried out of what was judged: a fault by its parts, and a command with its handler or without.
-use Prim.Native.Nat.{ℕ, _≤_}
+use Prim.Native.Nat.{ℕ, _<_, _≤_}
 use mathlib.Core.Path.{_≡_, refl, sym, ap, _∙_}
 use mathlib.Core.List.{List, []}
 use native.Mathlib.Omega.{arith}
@@ -23,6 +23,15 @@ use Rattle.message.specs.declared.told.Told.{Told}
 use Rattle.message.specs.declared.told.Told.the-variants.{NoHandler}
 use Rattle.shell.specs.Lines.{text, handed, faultMessage, joined, handlerOf, carried, execute}
 use Rattle.shell.proofs.Reaching.{execute-top}
+
+-- a fault's number is a byte
+pub number-small : (v : Verdict) → numberOf v < 256
+number-small Fine = omega arith
+number-small NoWords = omega arith
+number-small (UnknownCommand word) = omega arith
+number-small (UnknownOption told) = omega arith
+number-small (MissingValue told) = omega arith
+number-small (MissingRequired name) = omega arith
 
 -- behind dashes stands a part of the words
 pub dashed-short : (words part : List ℕ) (v : Verdict) → (dashesOf v ≡ 0 → ⊥) → length (textOf words part v) ≤ length words

@@ -13,11 +13,11 @@ pub enum Ran {
     // Nothing is to be done.
     Nothing,
     // A text stands in the buffer, so many bytes: a message with its number, or help, the list or `clear` with 0.
-    Text { number: usize, length: usize },
+    Text { number: u8, length: usize },
     // The end, with its text of so many bytes.
     Exit(usize),
     // A handler by its number, and the report for it, so many bytes.
-    Handler { handler: usize, length: usize },
+    Handler { handler: u16, length: usize },
     // The tree is bad: the number of its first frame that breaks a rule.
     BadTree(usize),
     // The line has over 1,024 bytes: its length, 65,535 if more.
@@ -27,7 +27,7 @@ pub enum Ran {
 }
 
 // What showing a text answers here, with the number beside it.
-pub fn shown(number: usize, answer: Shown) -> Ran
+pub fn shown(number: u8, answer: Shown) -> Ran
     ensures { λ r. ⌜ ((bytes out left : List ℕ) → Showing bytes out answer left → Answered (text number bytes) out r left) ⌝ }
 {
     match answer {
@@ -47,7 +47,7 @@ pub fn ended(answer: Shown) -> Ran
 }
 
 // What writing a report answers here, with the handler that it is for.
-pub fn called(handler: usize, reported: Reported) -> Ran
+pub fn called(handler: u16, reported: Reported) -> Ran
     ensures { λ r. ⌜ ((frames out left : List ℕ) → Reporting frames out reported left → Answered (handed handler frames) out r left) ⌝ }
 {
     match reported {

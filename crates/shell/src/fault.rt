@@ -20,7 +20,7 @@ ghost use Rattle.layout.specs.Texts.{spaced};
 ghost use Rattle.shell.specs.Lines.{faultMessage, joined};
 
 // The message of a fault by its number.
-pub fn told_of(number: usize) -> Told
+pub fn told_of(number: u8) -> Told
     ensures { λ r. ⌜ r ≡ faultMessage number ⌝ }
 {
     match number {

@@ -6,7 +6,7 @@ ghost use Rattle.tree.specs.Images.{framesOf};
 ghost use Rattle.shell.specs.Lines.{handlerOf};
 
 // The handler of the node that frames begin with, 0 where there is none.
-pub fn handler_of(frames: &[u8]) -> usize
+pub fn handler_of(frames: &[u8]) -> u16
     ensures { λ r. ⌜ r ≡ handlerOf (framesOf (now (frames .entry))) ⌝ }
 {
     let Head::Node {
@@ -17,5 +17,5 @@ pub fn handler_of(frames: &[u8]) -> usize
     else {
         return 0;
     };
-    handler
+    handler as u16
 }

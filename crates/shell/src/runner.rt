@@ -68,7 +68,7 @@ fn tell_fault<'a>(words: &'a [u8], image: &'a [u8], judged: Judged, out: &mut [u
     let start = place.start;
     let end = place.end;
     let verdict = judged.verdict;
-    let number = number_of(verdict);
+    let number = number_of(verdict) as u8;
     let dashes = dashes_of(verdict);
     let text = text_of(words, &image[start..end], b"empty command", verdict);
     if dashes == 0 {
@@ -83,7 +83,7 @@ fn tell_command<'a>(
     image: &'a [u8],
     judged: Judged,
     rest: &[u8],
-    handler: usize,
+    handler: u16,
     out: &mut [u8],
 ) -> Ran
     requires { ⌜ Within (now words) (now image) (judged .place) × (judged .scan .kept ≤ length (now rest)) × (length (now rest) ≤ 4096) × (length (now words) ≤ 4096) × (numberOf (judged .verdict) ≡ 0) ⌝ }

@@ -8,12 +8,15 @@ use Rattle.parse.proofs.Tellings.{text-short}
 use Rattle.parse.proofs.Descents.{part-most}
 use Rattle.parse.specs.Held.{partAt, textOf}
 use Rattle.shell.proofs.Answering.{said-same}
-use Rattle.shell.proofs.Telling.{dashed-short, fault-carried, plain-carried}
+use Rattle.shell.proofs.Telling.{number-small, dashed-short, fault-carried, plain-carried}
 use Rattle.shell.proofs.runner.tell_fault.Statement.{statement}
 use Rattle.shell.proofs.runner.tell_fault.Tie as tie
 
 number-of-requires : tie.Need-number-of-requires
 number-of-requires c κs = search needs
+
+cast-number : tie.Need-cast-number
+cast-number c = let e = c .number-of .ensures in let h = number-small (c .before .before .before .before .before .args .judged .verdict) in omega arith
 
 dashes-of-requires : tie.Need-dashes-of-requires
 dashes-of-requires c κs = search needs
@@ -80,6 +83,7 @@ tell-fault-spec =
     tie.close
     (tie.spec
     number-of-requires
+    cast-number
     dashes-of-requires
     sub-text-of
     part-text-of-start
