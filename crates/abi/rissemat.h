@@ -3,11 +3,11 @@
  * A slice is a pointer and then a length; a pointer to no bytes may be anything but must not be read through. Slices of
  * one call must not overlap. An answer has 64 bits:
  *   bits 0-31   the value: bytes written, or what the refusal returns (above 4,294,967,295: that number)
- *   bits 32-39  the refusal's number, 0 for none
+ *   bits 32-39  the refusal's number, 0 for none; with kind 1 of rissemat_run the number beside the text
  *   bits 40-47  the kind of answer, where a call has several
  *   bits 48-63  a second value, where a call has one
- * A refusal writes nothing, but for 4 to 7, each of which is told by a frame, as long as the value says. Success writes the first bytes of
- * an out, line or screen only, as many as the value (the second value for line) says.
+ * A refusal writes nothing, but for 4 to 7 of rissemat_parse and rissemat_help, each of which is told by a frame, as long as the value says.
+ * Success writes the first bytes of an out, line or screen only, as many as the value (the second value for line) says.
  */
 #ifndef RISSEMAT_H
 #define RISSEMAT_H
@@ -63,5 +63,17 @@ uint64_t rissemat_parse(const uint8_t *image, size_t image_len, const uint8_t *l
  * Refusals, in this order: 1, 2 and 3 as for rissemat_parse, 14 (no words: 0), 4 (a word that names no node, told as above), 9 (out too short
  * for the help or for that frame: length needed). */
 uint64_t rissemat_help(const uint8_t *image, size_t image_len, const uint8_t *line, size_t line_len, uint8_t *out, size_t out_len);
+
+/* A line run under a tree. What the answer is tells its kind:
+ *   0  nothing is to be done (a blank line), or a refusal
+ *   1  a text to show: help, the list of commands or `clear`, with the number 0; or the message of a line that is refused, with 3 (ill-formed
+ *      UTF-8), 4 (unknown command, also one that help is asked for), 5 (unknown option), 6 (missing value), 7 (missing required option) or
+ *      8 (no handler) in bits 32-39
+ *   2  the end, with its text to show
+ *   3  a handler by its number, the second value, with the report for it, frames as of rissemat_parse
+ * The value is the length of the text or the report, at the front of out.
+ * Refusals, all of kind 0, in this order: 1 (a bad tree, as above), 2 (line over 1,024 bytes: its length, 65,535 if more), 9 (out too short:
+ * length needed). */
+uint64_t rissemat_run(const uint8_t *image, size_t image_len, const uint8_t *line, size_t line_len, uint8_t *out, size_t out_len);
 
 #endif

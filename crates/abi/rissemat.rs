@@ -8,4 +8,5 @@ unsafe extern "C" {
     pub fn rissemat_tree(image: *const u8, image_len: usize) -> u64;
     pub fn rissemat_parse(image: *const u8, image_len: usize, line: *const u8, line_len: usize, out: *mut u8, out_len: usize) -> u64;
     pub fn rissemat_help(image: *const u8, image_len: usize, line: *const u8, line_len: usize, out: *mut u8, out_len: usize) -> u64;
+    pub fn rissemat_run(image: *const u8, image_len: usize, line: *const u8, line_len: usize, out: *mut u8, out_len: usize) -> u64;
 }

@@ -25,8 +25,10 @@ use Rattle.parse.specs.declared.answer.Parsed.{Parsed}
 use Rattle.parse.specs.Answer.{Parsing, number as parseNumber, value as parseValue}
 use Rattle.help.specs.declared.call.Helped.{Helped}
 use Rattle.help.specs.Answer.{Helping, number as helpNumber, value as helpValue}
+use Rattle.shell.specs.Answer.{Running}
+use Rattle.shell.specs.declared.answer.Ran.{Ran}
 use Rattle.abi.specs.Packed.{plain}
-use Rattle.abi.specs.Calls.{WordsCall, QuoteCall, FreshCall, freshNumber, freshValue, KeyCall, keyTold, AddCall, TreeCall, ParseCall, HelpCall}
+use Rattle.abi.specs.Calls.{WordsCall, QuoteCall, FreshCall, freshNumber, freshValue, KeyCall, keyTold, AddCall, TreeCall, ParseCall, HelpCall, RunCall, runTold}
 
 pub words-call : (line out left : List ℕ) (r q : Tokens) (p : ℕ) → Tokenized line out r left → r ≡ q → p ≡ plain (number q) (value q) → WordsCall line out p left
 words-call line out left r q p h e f =
@@ -77,6 +79,9 @@ pub help-call : (image line out left : List ℕ) (r q : Helped) (p : ℕ) → He
 help-call image line out left r q p h e f =
     record { answer = f ∙ ap (λ (x : Helped). plain (helpNumber x) (helpValue x)) (sym e ∙ h .answer); bytes = h .bytes }
 
+pub run-call : (image line out left : List ℕ) (r q : Ran) (p : ℕ) → Running image line out r left → r ≡ q → p ≡ runTold q → RunCall image line out p left
+run-call image line out left r q p h e f = record { answer = f ∙ ap runTold (sym e ∙ h .answer); bytes = h .bytes }
+
 -- no second answer and no other bytes
 pub one-fresh : (state slots a b a′ b′ : List ℕ) (r r′ : ℕ) → FreshCall state slots r a b → FreshCall state slots r′ a′ b′ → (r ≡ r′) × (a ≡ a′) × (b ≡ b′)
 one-fresh state slots a b a′ b′ r r′ h k = (h .answer ∙ sym (k .answer), h .kept ∙ sym (k .kept), h .held ∙ sym (k .held))
@@ -97,3 +102,6 @@ one-parse image line out a a′ r r′ h k = (h .answer ∙ sym (k .answer), h .
 
 pub one-help : (image line out a a′ : List ℕ) (r r′ : ℕ) → HelpCall image line out r a → HelpCall image line out r′ a′ → (r ≡ r′) × (a ≡ a′)
 one-help image line out a a′ r r′ h k = (h .answer ∙ sym (k .answer), h .bytes ∙ sym (k .bytes))
+
+pub one-run : (image line out a a′ : List ℕ) (r r′ : ℕ) → RunCall image line out r a → RunCall image line out r′ a′ → (r ≡ r′) × (a ≡ a′)
+one-run image line out a a′ r r′ h k = (h .answer ∙ sym (k .answer), h .bytes ∙ sym (k .bytes))

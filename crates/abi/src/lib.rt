@@ -1,11 +1,11 @@
 // The library's face to Rust and C: each call answers 64 bits and proves nothing new.
 //
 // Bits 0-31 are the value (bytes written, or what the refusal returns; above 4,294,967,295 that number), bits 32-39 the
-// refusal's number (0: none), bits 40-47 the kind of answer where a call has several, bits 48-63 a second value where a call
-// has one. rissemat.h and rissemat.rs beside this crate declare the calls for C and for Rust.
+// refusal's number (0: none), or the number beside a text, bits 40-47 the kind of answer where a call has several, bits 48-63 a
+// second value where a call has one. rissemat.h and rissemat.rs beside this crate declare the calls for C and for Rust.
 mod pack;
 
-ghost use Rattle.abi.specs.Calls.{WordsCall, QuoteCall, FreshCall, KeyCall, AddCall, TreeCall, ParseCall, HelpCall};
+ghost use Rattle.abi.specs.Calls.{WordsCall, QuoteCall, FreshCall, KeyCall, AddCall, TreeCall, ParseCall, HelpCall, RunCall};
 use editor::Pressed;
 use help::Helped;
 use help::help;
@@ -19,6 +19,8 @@ use saved::Begun;
 use saved::add;
 use saved::begin;
 use saved::press;
+use shell::Ran;
+use shell::run;
 use tree::Checked;
 use tree::check_tree;
 use words::Tokens;
@@ -138,5 +140,22 @@ pub extern "C" fn rissemat_help(image: &[u8], line: &[u8], out: &mut [u8]) -> u6
         Helped::NoWords => packed(14, 0, 0, 0),
         Helped::UnknownCommand(n) => packed(4, n, 0, 0),
         Helped::NoRoom(n) => packed(9, n, 0, 0),
+    }
+}
+
+// A line run under a tree: kind 1 a text, with its number where a refusal's stands; kind 2 the end, with its text; kind 3 a handler, whose
+// number is the second value, with the report for it; kind 0 nothing.
+#[no_mangle]
+pub extern "C" fn rissemat_run(image: &[u8], line: &[u8], out: &mut [u8]) -> u64
+    ensures { λ r. ⌜ RunCall (now (image .entry)) (now (line .entry)) (now (out .entry)) r (now (out .exit)) ⌝ }
+{
+    match run(image, line, out) {
+        Ran::Nothing => packed(0, 0, 0, 0),
+        Ran::Text { number, length } => packed(number, length, 1, 0),
+        Ran::Exit(n) => packed(0, n, 2, 0),
+        Ran::Handler { handler, length } => packed(0, length, 3, handler as usize),
+        Ran::BadTree(n) => packed(1, n, 0, 0),
+        Ran::LineTooLong(n) => packed(2, n, 0, 0),
+        Ran::NoRoom(n) => packed(9, n, 0, 0),
     }
 }
