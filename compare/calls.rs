@@ -3,7 +3,7 @@
 mod rissemat;
 
 use rissemat::{rissemat_fresh, rissemat_help, rissemat_history_add, rissemat_key, rissemat_parse};
-use rissemat::{rissemat_quote, rissemat_tree, rissemat_words};
+use rissemat::{rissemat_quote, rissemat_run, rissemat_tree, rissemat_words};
 
 /// Writes the words of a line as frames of kind 14.
 pub fn words(line: &[u8], out: &mut [u8]) -> u64 {
@@ -66,4 +66,9 @@ pub fn parse(image: &[u8], line: &[u8], out: &mut [u8]) -> u64 {
 /// Writes the help for the words of a line, or the frame with a word that is unknown.
 pub fn help(image: &[u8], line: &[u8], out: &mut [u8]) -> u64 {
     unsafe { rissemat_help(image.as_ptr(), image.len(), line.as_ptr(), line.len(), out.as_mut_ptr(), out.len()) }
+}
+
+/// Runs a line under a tree; writes its text, or the report for its handler.
+pub fn run(image: &[u8], line: &[u8], out: &mut [u8]) -> u64 {
+    unsafe { rissemat_run(image.as_ptr(), image.len(), line.as_ptr(), line.len(), out.as_mut_ptr(), out.len()) }
 }

@@ -31,6 +31,7 @@ for file in shell/mod.rs shell/command/mod.rs shell/command/history.rs shell/com
 done
 cp compare/original/lib.rs "$built/original/lib.rs"
 cp compare/original/vm.rs "$built/original/shell/command/vm.rs"
+cp compare/original/handlers.rs "$built/original/shell/command/vm/handlers.rs"
 cp compare/original/planted.rs "$built/original/shell/command/vm/planted.rs"
 cp compare/original/tree.rs "$built/original/shell/command/vm/tree.rs"
 

@@ -10,14 +10,14 @@ mod planting;
 mod random;
 #[path = "comparer/reports.rs"]
 mod reports;
+mod stored;
 
-use forest::{Node, image};
-use hex::{hex, or_dash};
-use original::Original;
+use hex::hex;
 use original_fs::Original as OriginalFs;
-use planting::{full, full_arguments, marked, random_line};
+use planting::{full, full_line, marked, random_line};
 use random::Random;
 use reports::parsed;
+use stored::{Sample, Stored, bytes};
 
 /// The longest line that is taken, in bytes.
 const LIMIT: usize = 1_024;
@@ -56,13 +56,6 @@ const LONG: usize = 12;
 const LONG_BYTES: usize = 500;
 const SEED: u64 = 0x7265_706C_6179_0004;
 
-/// A tree and the lines to parse under it.
-type Sample = (Vec<Node>, Vec<Vec<u8>>);
-
-fn bytes(lines: &[&str]) -> Vec<Vec<u8>> {
-    lines.iter().map(|line| line.as_bytes().to_vec()).collect()
-}
-
 /// The marked examples, all short lines of the words above, and lines that are refused before they are parsed.
 fn marked_sample() -> Sample {
     let mut lines = bytes(&MARKED);
@@ -78,15 +71,7 @@ fn marked_sample() -> Sample {
 
 /// Lines up to the longest under a node with very many options and flags.
 fn full_sample(random: &mut Random) -> Sample {
-    let mut line = |_| {
-        let length = random.below(LONG_BYTES);
-        let mut line = "a".to_string();
-        while line.len() < length {
-            line.push_str(&full_arguments(random));
-        }
-        line.into_bytes()
-    };
-    (full().0, (0..LONG).map(&mut line).collect())
+    (full().0, (0..LONG).map(|_| full_line(random, LONG_BYTES).into_bytes()).collect())
 }
 
 fn random_sample(random: &mut Random) -> Sample {
@@ -116,49 +101,9 @@ fn answer(line: &[u8]) -> String {
     format!("told {number} {} kept short 9 {}", hex(&told), told.len())
 }
 
-/// What is stored: the input, and the output for it.
-#[derive(Default)]
-struct Stored {
-    input: String,
-    output: String,
-    lines: usize,
-}
-
-impl Stored {
-    fn tree(&mut self, image: &[u8]) {
-        self.input += &format!("={}\n", hex(image));
-        self.output += &format!("tree of {}\n", image.len());
-    }
-
-    fn line(&mut self, line: &[u8], answer: &str) {
-        self.input += &format!("{}\n", hex(line));
-        self.output += &format!("{} {answer}\n", or_dash(hex(line)));
-        self.lines += 1;
-    }
-
-    fn sample(&mut self, (tree, lines): &Sample) {
-        Original::plant(tree);
-        self.tree(&image(tree));
-        lines.iter().for_each(|line| self.line(line, &answer(line)));
-    }
-
-    /// Without its last byte the third frame of the marked tree is broken, and no line is looked at.
-    fn bad_tree(&mut self) {
-        let (tree, lines) = marked_sample();
-        let image = image(&tree);
-        self.tree(&image[..image.len() - 1]);
-        lines.iter().rev().take(4).chain(&lines[..1]).for_each(|line| self.line(line, "refused 1 2 kept"));
-    }
-}
-
 fn main() {
-    let folder = std::env::args().nth(1).expect("the folder of replay_parse");
     let mut stored = Stored::default();
-    all_samples().iter().for_each(|sample| stored.sample(sample));
-    stored.bad_tree();
-    let Stored { input, output, lines } = stored;
-    assert!(input.len() < 65_536, "replay_parse reads at most 65,535 bytes");
-    std::fs::write(format!("{folder}/stdin"), &input).expect("stdin is written");
-    std::fs::write(format!("{folder}/stdout"), &output).expect("stdout is written");
-    println!("{lines} lines; {} and {} bytes", input.len(), output.len());
+    all_samples().iter().for_each(|sample| stored.sample(sample, answer));
+    stored.bad_tree(&marked_sample());
+    stored.write();
 }

@@ -1,5 +1,6 @@
 // Calls with a buffer exactly full, one byte too short, and larger: the answer and every byte in and around it are seen.
 use crate::part::{hex, say};
+use crate::ran::Ran;
 use crate::watched::Watched;
 use std::hint::black_box;
 
@@ -15,15 +16,26 @@ pub enum Expected {
         number: u64,
         told: Vec<u8>,
     },
+    /// An answer that has a kind.
+    Kind(Ran),
+}
+
+impl Expected {
+    pub fn is_refusal(&self) -> bool {
+        match self {
+            Expected::Bytes(_) => false,
+            Expected::Kind(ran) => ran.number != 0,
+            Expected::Refusal { .. } | Expected::Fault { .. } => true,
+        }
+    }
 }
 
 /// How much longer than needed the larger buffer is.
 const MORE: usize = 37;
 /// More than the words of any line need, 2,048 bytes, and more than any quoted line.
 const ROOM: usize = 2_400;
-/// More than any report needs: the words of a line, and a name of 32 bytes for each of 64 options and 64 flags; and more than the help of a
-/// node of the random trees.
-const MOST: usize = 16_384;
+/// More than any report or help needs, and more than the list of 256 commands.
+const MOST: usize = 65_536;
 /// The refusal of a buffer that is too short. Its value is the length needed.
 const TOO_SHORT: u64 = 9;
 
@@ -46,13 +58,16 @@ impl Buffers {
             }
             Expected::Bytes(bytes) => self.written(&call, 0, bytes),
             Expected::Fault { number, told } => self.written(&call, *number, told),
+            Expected::Kind(Ran { number, kind, second, bytes }) => {
+                self.written(&call, number | kind << KIND | second << SECOND, bytes)
+            }
         }
     }
 
-    // The call has to write these bytes if there is room, under this number.
-    fn written(&mut self, call: impl Fn(&mut [u8]) -> u64, number: u64, bytes: &[u8]) -> Option<String> {
+    // The call has to write these bytes if there is room, with these bits above the value.
+    fn written(&mut self, call: impl Fn(&mut [u8]) -> u64, above: u64, bytes: &[u8]) -> Option<String> {
         let length = bytes.len();
-        let written = answer(number, length as u64);
+        let written = answer(above, length as u64);
         let too_short = answer(TOO_SHORT, length as u64);
         self.one(length, &call, written, bytes)
             .or_else(|| self.one(length.checked_sub(1)?, &call, too_short, &[]))
@@ -83,12 +98,17 @@ impl Buffers {
     }
 }
 
-/// The 64 bits of an answer: the value in the low 32, the refusal's number in the 8 above; the rest is 0 in these calls.
-fn answer(number: u64, value: u64) -> u64 {
-    number << 32 | value
+/// The bits of the kind and of the second value, counted from the number's.
+const KIND: u32 = 8;
+const SECOND: u32 = 16;
+
+/// The 64 bits of an answer: the value in the low 32, and above it the number, with the kind and the second value of calls that have them.
+fn answer(above: u64, value: u64) -> u64 {
+    above << 32 | value
 }
 
-/// How many bytes an answer says that were written: a fault of the line, 4 to 7, is told by a frame.
+/// How many bytes an answer says that were written: a refusal writes none, but a fault of the line, 4 to 7, is told by a frame.
 fn bytes_of(answer: u64) -> usize {
-    if matches!(answer >> 32, 0 | 4..=7) { answer as u32 as usize } else { 0 }
+    let above = answer >> 32;
+    if above >> KIND != 0 || matches!(above, 0 | 4..=7) { answer as u32 as usize } else { 0 }
 }

@@ -1,31 +1,26 @@
 // The help for the words of a line under a tree: the library against the original's show_help with that tree in the place of its own.
 use crate::buffers::Expected;
+use crate::lines::every_character;
+use crate::parse::{every_line, planted};
 use crate::part::Part;
+use crate::planting::{marked, named};
+use crate::ran::helped;
 use crate::random::Random;
 use crate::reports::fault;
 use crate::trees::random_tree;
 use crate::words::{LIMIT, too_long};
-use axstd::console::typed;
 use forest::{Node, image};
 use original::Original;
 use original_fs::Original as OriginalFs;
 
+/// The most words of the lines under the named trees.
+const SHORT: usize = 3;
 const TREES: usize = 10_000;
 const LINES: usize = 40;
 const SEED: u64 = 0x6865_6C70_0000_0001;
 
 /// What stands between words: any white space, and what is none.
 const BETWEEN: [&str; 8] = [" ", " ", " ", "  ", "\t", "\u{a0}", "\u{3000}\n", "\u{200b}"];
-
-/// What the original shows, under the tree that is planted, or the frame with the word that is unknown.
-fn helped(words: &[String]) -> Expected {
-    let mut told = Ok(());
-    let mut screens = typed(&[], || told = Original::show_help(words)).screens;
-    match told {
-        Ok(()) => Expected::Bytes(screens.remove(0)),
-        Err(word) => Expected::Fault { number: 4, told: fault(&word) },
-    }
-}
 
 fn expected(line: &[u8]) -> Expected {
     if line.len() > LIMIT {
@@ -36,7 +31,13 @@ fn expected(line: &[u8]) -> Expected {
         Err(error) => return Expected::Refusal { number: 3, value: error.valid_up_to() as u64 },
     };
     let words: Vec<String> = text.split_whitespace().map(str::to_string).collect();
-    if words.is_empty() { Expected::Refusal { number: 14, value: 0 } } else { helped(&words) }
+    if words.is_empty() {
+        return Expected::Refusal { number: 14, value: 0 };
+    }
+    match helped(&words) {
+        Ok(shown) => Expected::Bytes(shown),
+        Err(word) => Expected::Fault { number: 4, told: fault(&word) },
+    }
 }
 
 // The tree of the image has to be planted.
@@ -74,7 +75,7 @@ pub fn random_trees(part: &mut Part) {
     }
 }
 
-fn random_line(random: &mut Random, tree: &[Node]) -> String {
+pub fn random_line(random: &mut Random, tree: &[Node]) -> String {
     let mut line = if random.once_in(4) { random.pick(&BETWEEN).to_string() } else { String::new() };
     let mut siblings = tree;
     while !siblings.is_empty() && !random.once_in(4) {
@@ -84,6 +85,23 @@ fn random_line(random: &mut Random, tree: &[Node]) -> String {
         siblings = &node.below;
     }
     if random.once_in(6) { line + random.pick(&["a", "ab", "\"a\"", "-", "\u{20ac}"]) } else { line }
+}
+
+/// Under every named tree of parse every line of up to three of its words.
+pub fn named_trees(part: &mut Part) {
+    for tree in named() {
+        let image = planted(&tree);
+        every_line(&mut Vec::new(), SHORT, &mut |line| check(part, &image, line.as_bytes()));
+    }
+}
+
+/// Every character in a word that leads nowhere, and between two words.
+pub fn every_one(part: &mut Part) {
+    let image = planted(&marked());
+    for character in every_character() {
+        check(part, &image, format!("a{character}b").as_bytes());
+        check(part, &image, format!("set{character}a").as_bytes());
+    }
 }
 
 /// Refusals in their order: a bad tree, a line that is too long, an ill-formed one, no words, an unknown word.

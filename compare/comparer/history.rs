@@ -1,6 +1,6 @@
 // Adding to a history: the library against the original's CommandHistory, and its refusals against the model.
 use crate::lent::Lent;
-use crate::lines::{Mixer, every_character, every_line};
+use crate::lines::{Mixer, about_white_space, every_line};
 use crate::model::{LINE, Model, saved};
 use crate::part::Part;
 use original::Original;
@@ -37,10 +37,7 @@ pub fn short_texts(part: &mut Part) {
 /// Each character of Unicode that is white space, and some that are not: alone, with white space about it, and with a letter.
 pub fn blank_texts(part: &mut Part) {
     let mut lent = Lent::new();
-    let near = |c: char| {
-        (-1..=1).any(|by| char::from_u32((c as u32).wrapping_add_signed(by)).is_some_and(char::is_whitespace))
-    };
-    for character in every_character().filter(|&character| near(character)) {
+    for character in about_white_space() {
         let texts =
             [format!("{character}"), format!(" {character}\t"), format!("{character}a"), format!("a{character}")];
         check(part, &mut lent, &texts.map(String::into_bytes));

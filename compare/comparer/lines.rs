@@ -73,6 +73,12 @@ pub fn every_character() -> impl Iterator<Item = char> {
     '\0'..=char::MAX
 }
 
+/// Every character that is white space, or whose neighbour is.
+pub fn about_white_space() -> impl Iterator<Item = char> {
+    let white = |code| char::from_u32(code).is_some_and(char::is_whitespace);
+    every_character().filter(move |&c| (-1..=1).any(|by| white((c as u32).wrapping_add_signed(by))))
+}
+
 /// Makes mixed texts and lines.
 pub struct Mixer {
     pub random: Random,

@@ -15,8 +15,10 @@ mod part;
 mod planting;
 mod prompts;
 mod quote;
+mod ran;
 mod random;
 mod reports;
+mod run;
 mod session;
 mod shell;
 mod states;
@@ -30,7 +32,7 @@ mod workers;
 use part::Part;
 use std::process::ExitCode;
 
-const PARTS: [(&str, fn(&mut Part)); 40] = [
+const PARTS: [(&str, fn(&mut Part)); 53] = [
     ("session: the original under keys", session::compare),
     ("marked: M1 to M8", marked::compare),
     ("words: every short line", words::short_lines),
@@ -70,7 +72,20 @@ const PARTS: [(&str, fn(&mut Part)); 40] = [
     ("parse: refusals in their order", parse::refusals),
     ("help: the original's own trees", help::original_trees),
     ("help: random trees", help::random_trees),
+    ("help: named trees", help::named_trees),
+    ("help: every character", help::every_one),
     ("help: refusals in their order", help::refusals),
+    ("run: what the standard states", run::stated),
+    ("run: white space", run::white_space),
+    ("run: every character", run::every_one),
+    ("run: escaped words", run::escapes),
+    ("run: the original's own trees", run::original_trees),
+    ("run: named trees", run::named_trees),
+    ("run: random trees", run::random_trees),
+    ("run: texts of help", run::help_texts),
+    ("run: long lines", run::long_lines),
+    ("run: mixed lines", run::mixed_lines),
+    ("run: refusals in their order", run::refusals),
 ];
 
 /// Runs the parts whose names begin with one of the words given, all if there are none.

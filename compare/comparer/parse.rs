@@ -1,7 +1,7 @@
 // A line parsed under a tree: the library against the original's parser with that tree in the place of its own.
 use crate::buffers::Expected;
 use crate::part::Part;
-use crate::planting::{Tree, full, full_arguments, marked, named, random, random_line};
+use crate::planting::{Tree, full, full_line, marked, named, random, random_line};
 use crate::random::Random;
 use crate::reports::{fault, parsed};
 use crate::words::{LIMIT, too_long};
@@ -64,7 +64,7 @@ fn expected(line: &[u8]) -> Expected {
 }
 
 /// The image of a tree that is from now on the original's too.
-fn planted(Tree(tree): &Tree) -> Vec<u8> {
+pub fn planted(Tree(tree): &Tree) -> Vec<u8> {
     Original::plant(tree);
     image(tree)
 }
@@ -98,7 +98,8 @@ pub fn named_trees(part: &mut Part) {
     }
 }
 
-fn every_line(words: &mut Vec<&'static str>, more: usize, check: &mut impl FnMut(&str)) {
+/// Gives out the line of these words, and all lines with up to so many of the words above behind them.
+pub fn every_line(words: &mut Vec<&'static str>, more: usize, check: &mut impl FnMut(&str)) {
     check(&words.join(" "));
     if more == 0 {
         return;
@@ -127,12 +128,7 @@ pub fn long_lines(part: &mut Part) {
     let mut numbers = Random(SEED_LONG);
     let image = planted(&full());
     for _ in 0..LONG {
-        let length = numbers.below(LIMIT + 1);
-        let mut line = "a".to_string();
-        while line.len() < length {
-            line.push_str(&full_arguments(&mut numbers));
-        }
-        check(part, &image, line.as_bytes());
+        check(part, &image, full_line(&mut numbers, LIMIT + 1).as_bytes());
     }
 }
 

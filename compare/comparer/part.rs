@@ -34,7 +34,7 @@ impl Part {
 
     /// Makes a call of the library with each of the buffers, and says whether all was as expected.
     pub fn check(&mut self, call: impl Fn(&mut [u8]) -> u64, expected: &Expected) -> bool {
-        self.refusals += u64::from(!matches!(expected, Expected::Bytes(_)));
+        self.refusals += u64::from(expected.is_refusal());
         let difference = self.buffers.difference(call, expected);
         self.note(difference)
     }

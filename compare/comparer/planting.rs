@@ -53,6 +53,20 @@ pub fn marked() -> Tree {
     Tree::new().node(0, "set").flag(b'l', "long", Some("long")).required(b'c', "config", Some("cfg"))
 }
 
+/// The tree of examples: `log` with a handler, `vm` with none, and its child `start` with a handler and a flag.
+pub fn examples() -> Tree {
+    let Tree(mut tree) = Tree::new().node(0, "log").node(0, "vm").node(1, "start").flag(b'f', "force", Some("force"));
+    tree[0] = Node {
+        handler: 2,
+        usage: Some("log [LEVEL]".to_string()),
+        description: "Change log level".to_string(),
+        ..tree[0].clone()
+    };
+    tree[1].handler = 0;
+    tree[1].below[0].handler = 3;
+    Tree(tree)
+}
+
 /// Trees whose names the words of `parse::WORDS` meet.
 pub fn named() -> Vec<Tree> {
     vec![
@@ -100,6 +114,19 @@ pub fn named() -> Vec<Tree> {
     ]
 }
 
+/// The tree with these handlers in turn, in the order of the frames: nodes without one are among them.
+pub fn handlers(Tree(mut tree): Tree) -> Tree {
+    number(&mut tree, &mut [1, 0, 2, 255, 256, 65_535].into_iter().cycle());
+    Tree(tree)
+}
+
+fn number(siblings: &mut [Node], handlers: &mut impl Iterator<Item = u16>) {
+    for node in siblings {
+        node.handler = handlers.next().expect("handlers without end");
+        number(&mut node.below, handlers);
+    }
+}
+
 /// A node at each depth, all of one name, each with a flag of its own.
 fn eight_levels() -> Tree {
     (0..DEPTHS).fold(Tree::new(), |tree, depth| {
@@ -123,7 +150,7 @@ pub fn full() -> Tree {
 }
 
 /// A word or two behind a space that the node of `full` takes.
-pub fn full_arguments(random: &mut Random) -> String {
+fn full_arguments(random: &mut Random) -> String {
     let number = random.below(DEFINITIONS) as u8;
     let flags: String = (0..random.below(8)).map(|_| char::from(b'A' + random.below(26) as u8)).collect();
     match random.below(6) {
@@ -134,6 +161,16 @@ pub fn full_arguments(random: &mut Random) -> String {
         4 => format!(" -{flags}{} \u{20ac}{number}", random.pick(&['a', 'b', 'c'])),
         _ => format!(" {flags}{number}"),
     }
+}
+
+/// A line of such words under the name of that node: of fewer bytes than `end`, or so many and what the last words take.
+pub fn full_line(random: &mut Random, end: usize) -> String {
+    let length = random.below(end);
+    let mut line = "a".to_string();
+    while line.len() < length {
+        line.push_str(&full_arguments(random));
+    }
+    line
 }
 
 /// What the names and longs of random trees are taken from.

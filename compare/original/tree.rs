@@ -1,5 +1,6 @@
 // Hands out the original's command tree as plain data, and builds others with its builders.
-use super::super::{COMMAND_TREE, CommandNode, FlagDef, OptionDef, ParsedCommand, build_command_tree};
+use super::super::{COMMAND_TREE, CommandNode, FlagDef, OptionDef, build_command_tree};
+use super::handlers::handler;
 use crate::Original;
 use forest::{Definition, Kind, Node};
 use std::collections::BTreeMap;
@@ -27,12 +28,10 @@ impl Original {
     }
 }
 
-fn do_nothing(_command: &ParsedCommand) {}
-
 fn built(told: &'static Node) -> CommandNode {
     let mut node = CommandNode::new(&told.description);
     if told.handler != 0 {
-        node = node.with_handler(do_nothing);
+        node = node.with_handler(handler(told.handler));
     }
     if let Some(usage) = &told.usage {
         node = node.with_usage(usage);

@@ -1,9 +1,10 @@
 // Stands for the file vm.rs that the original wants and whose text was not supplied: it hands out the parser's inside.
+mod handlers;
 mod planted;
 mod tree;
 
 use super::{CommandHistory, CommandNode, CommandParser, ParseError, ParsedCommand};
-use super::{handle_builtin_commands, print_prompt, run_cmd_bytes, show_help};
+use super::{execute_command, handle_builtin_commands, print_prompt, run_cmd_bytes, show_help};
 use crate::Original;
 use std::collections::BTreeMap;
 use std::string::String;
@@ -24,13 +25,12 @@ impl Original {
 
     /// A line parsed, or the fault's number in the standard and its text.
     pub fn parse(line: &str) -> Result<ParsedCommand, (u64, String)> {
-        CommandParser::parse(line).map_err(|error| match error {
-            ParseError::UnknownCommand(text) => (4, text),
-            ParseError::UnknownOption(text) => (5, text),
-            ParseError::MissingValue(text) => (6, text),
-            ParseError::MissingRequiredOption(text) => (7, text),
-            ParseError::NoHandler(text) => (8, text),
-        })
+        CommandParser::parse(line).map_err(numbered)
+    }
+
+    /// A line carried out, or the fault's number in the standard and its text.
+    pub fn execute(line: &str) -> Result<(), (u64, String)> {
+        execute_command(line).map_err(numbered)
     }
 
     /// Shows the help for words, of which there has to be one, or gives back the word that is unknown.
@@ -46,11 +46,26 @@ impl Original {
         CommandHistory::new(100)
     }
 
-    /// What the loop does with a line behind the LF of Enter.
-    pub fn run(line: &[u8]) {
+    /// What the loop does with a line behind the LF of Enter, up to the prompt.
+    pub fn run_line(line: &[u8]) {
         if !line.is_empty() && !handle_builtin_commands(str::from_utf8(line).unwrap_or("")) {
             run_cmd_bytes(line);
         }
+    }
+
+    /// What the loop does with a line behind the LF of Enter.
+    pub fn run(line: &[u8]) {
+        Original::run_line(line);
         print_prompt();
+    }
+}
+
+fn numbered(error: ParseError) -> (u64, String) {
+    match error {
+        ParseError::UnknownCommand(text) => (4, text),
+        ParseError::UnknownOption(text) => (5, text),
+        ParseError::MissingValue(text) => (6, text),
+        ParseError::MissingRequiredOption(text) => (7, text),
+        ParseError::NoHandler(text) => (8, text),
     }
 }
