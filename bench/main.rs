@@ -1,4 +1,5 @@
-// Times the proved library against the original shell, both from this one driver, and prints four tables.
+// Times the proved library against the original shell, both from this one driver, and prints five tables.
+mod help;
 mod keys;
 mod lines;
 mod parse;
@@ -16,4 +17,6 @@ fn main() {
     tree::rows();
     table::parse_heading();
     parse::rows();
+    table::help_heading();
+    help::rows();
 }

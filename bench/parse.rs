@@ -54,7 +54,7 @@ fn line_row(tree: &str, image: &[u8], count: usize, line: &str) {
 }
 
 /// 16 nodes with 15 children each, all with two options and two flags.
-fn large_tree() -> Vec<Node> {
+pub fn large_tree() -> Vec<Node> {
     let node = |number, below| Node { name: format!("n{number:02}"), definitions: definitions(), below, ..Node::default() };
     let children = || (0..15).map(|number| node(number, Vec::new())).collect();
     (0..16).map(|number| node(number, children())).collect()

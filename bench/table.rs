@@ -53,3 +53,18 @@ pub fn parse_row(tree: &str, words: usize, rust: f64, whole: f64, test: f64) {
         "| {tree:<9} | {words:>5} | {rust:>7.0} | {test:>7.0} | {whole:>8.0} | {by_whole:>12.2} | {after:>17.0} | {by_after:>12.2} |"
     );
 }
+
+pub fn help_heading() {
+    println!();
+    println!("| tree      | help         | bytes | Rust ns | test ns | whole ns | whole / Rust | after the test ns | after / Rust |");
+    println!("|-----------|--------------|------:|--------:|--------:|---------:|-------------:|------------------:|-------------:|");
+}
+
+/// Prints the row of one help: the whole call, the test of the image alone, and what is left of the call without it.
+pub fn help_row(tree: &str, help: &str, bytes: usize, rust: f64, whole: f64, test: f64) {
+    let after = whole - test;
+    let (by_whole, by_after) = (whole / rust, after / rust);
+    println!(
+        "| {tree:<9} | {help:<12} | {bytes:>5} | {rust:>7.0} | {test:>7.0} | {whole:>8.0} | {by_whole:>12.2} | {after:>17.0} | {by_after:>12.2} |"
+    );
+}

@@ -1,0 +1,38 @@
+// The help of a command and the list of commands, against what the original takes to show the same under the same tree.
+use crate::parse::large_tree;
+use crate::table::help_row;
+use crate::timing::medians;
+use axstd::console::typed;
+use forest::image;
+use original::Original;
+use original_fs::Original as OriginalFs;
+use std::hint::black_box;
+
+/// More than any of these texts takes.
+const ROOM: usize = 65_536;
+
+pub fn rows() {
+    for (name, tree, command) in [("fs", OriginalFs::tree(), "rm"), ("256 nodes", large_tree(), "n15 n14")] {
+        Original::plant(&tree);
+        let image = image(&tree);
+        let words: Vec<String> = command.split(' ').map(str::to_string).collect();
+        let help = |out: &mut [u8]| calls::help(black_box(&image), black_box(command.as_bytes()), out);
+        row(name, "of a command", &image, || Original::show_help(black_box(&words)).expect("a command"), help);
+        let bare = |out: &mut [u8]| calls::run(black_box(&image), black_box(b"help"), out);
+        row(name, "bare", &image, || Original::run_line(black_box(b"help")), bare);
+    }
+}
+
+/// What is timed must be the same on both sides: the text that is shown.
+fn row(tree: &str, help: &str, image: &[u8], show: impl Fn(), call: impl Fn(&mut [u8]) -> u64) {
+    let mut out = vec![0; ROOM];
+    let screen = typed(&[], &show).screens.remove(0);
+    let shown = call(&mut out) as u32 as usize;
+    assert_eq!(out[..shown], screen[..], "{tree} {help}");
+    let [rust, whole, test] = medians([
+        &mut || _ = black_box(typed(&[], &show)),
+        &mut || _ = black_box(call(black_box(&mut out))),
+        &mut || _ = black_box(calls::tree(black_box(image))),
+    ]);
+    help_row(tree, help, shown, rust, whole, test);
+}
