@@ -1,19 +1,12 @@
 // The stored sample: a line of the input is a tree behind `=`, or a line to parse under the last tree, and is answered by a line.
 use crate::answer::put_answer;
 use image::part;
-use image::rest;
 use replay::hex::read_hex;
 use replay::input::line_end;
 use replay::input::read_input;
 use replay::line;
-
-// Writes the length of a tree image.
-fn tell_tree(n: usize) {
-    let mut line = [0u8; 64];
-    let before = line::put_all(b"tree of ", &mut line, 0);
-    let end = line::put_decimal(n, &mut line, before);
-    line::write(&mut line, end);
-}
+use replay::tree::is_tree;
+use replay::tree::read_tree;
 
 // Writes a text and what is answered for it.
 fn answer(image: &[u8], text: &[u8]) {
@@ -30,15 +23,13 @@ fn answer_line(image: &[u8], digits: &[u8]) {
     answer(image, &text[..n]);
 }
 
-// Takes a line: a tree is read and told, and a text answered under the tree of the first n bytes. Returns the length of the tree from here on.
+// Takes a line: a tree is read, and a text answered under the tree of the first n bytes. Returns the length of the tree from here on.
 fn take_line(digits: &[u8], image: &mut [u8], n: usize) -> usize {
-    if digits.len() == 0 || digits[0] != b'=' {
-        answer_line(part(image, 0, n), digits);
-        return n;
+    if is_tree(digits) {
+        return read_tree(digits, image);
     }
-    let read = read_hex(rest(digits, 1), image);
-    tell_tree(read);
-    read
+    answer_line(part(image, 0, n), digits);
+    n
 }
 
 // Answers every line. The tree before the first is empty.

@@ -8,17 +8,11 @@ use Rattle.replay_parse.proofs.answer.put_short.Tie as tie
 returns : tie.Need-returns
 returns c = search needs
 
-slice-aggregate-put-all : tie.Need-slice-aggregate-put-all
-slice-aggregate-put-all c = search needs
-
-put-all-requires : tie.Need-put-all-requires
-put-all-requires c κs = search needs
-
-same-length : tie.Need-same-length
-same-length c = search needs
-
 returns-2 : tie.Need-returns-2
 returns-2 c = search needs
+
+buffer-requires : tie.Need-buffer-requires
+buffer-requires c κs = search needs
 
 sub-room : tie.Need-sub-room
 sub-room c = search needs
@@ -32,17 +26,23 @@ slice-aggregate-parse c = simp length-take (omega arith)
 parse-requires : tie.Need-parse-requires
 parse-requires c κs = search needs
 
-slice-aggregate-put-all-2 : tie.Need-slice-aggregate-put-all-2
-slice-aggregate-put-all-2 c = search needs
+slice-aggregate-put-all : tie.Need-slice-aggregate-put-all
+slice-aggregate-put-all c = search needs
 
-put-all-requires-2 : tie.Need-put-all-requires-2
-put-all-requires-2 c κs = search needs
+put-all-requires : tie.Need-put-all-requires
+put-all-requires c κs = search needs
+
+number-requires : tie.Need-number-requires
+number-requires c κs = search needs
+
+value-requires : tie.Need-value-requires
+value-requires c κs = search needs
 
 put-numbers-requires : tie.Need-put-numbers-requires
 put-numbers-requires c κs = search needs
 
-same-length-2 : tie.Need-same-length-2
-same-length-2 c = search needs
+same-length : tie.Need-same-length
+same-length c = search needs
 
 returns-3 : tie.Need-returns-3
 returns-3 c = search needs
@@ -52,16 +52,16 @@ put-short-spec =
     tie.close
     (tie.spec
     returns
-    slice-aggregate-put-all
-    put-all-requires
-    same-length
     returns-2
+    buffer-requires
     sub-room
     array-borrow-prefix-out
     slice-aggregate-parse
     parse-requires
-    slice-aggregate-put-all-2
-    put-all-requires-2
+    slice-aggregate-put-all
+    put-all-requires
+    number-requires
+    value-requires
     put-numbers-requires
-    same-length-2
+    same-length
     returns-3)
