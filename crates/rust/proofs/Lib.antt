@@ -5,3 +5,7 @@ pub mod Maps
 pub mod Meanings
 pub mod Arguments
 pub mod Parsing
+pub mod Plain
+pub mod Lines
+pub mod Listings
+pub mod Helping

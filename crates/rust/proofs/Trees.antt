@@ -4,12 +4,13 @@ use mathlib.Core.Path.{_≡_, refl, sym, ap, _∙_}
 use mathlib.Core.Bool.{Bool, true, false, cond}
 use mathlib.Core.List.{List, [], _∷_, _++_, append-nil}
 use mathlib.Core.Option.{Option, none, some}
+use lib.Dec.{ltb, leb}
 use Rattle.buffer.specs.Compare.{order, sameBytes}
 use Rattle.buffer.specs.declared.order.Order.{Order}
 use Rattle.buffer.specs.declared.order.Order.the-variants.{Less, Equal, Greater}
 use Rattle.buffer.proofs.Choices.{true-is-not-false}
 use Rattle.image.specs.Frames.{Perhaps, Frame, node, option, flag}
-use Rattle.image.specs.Limits.{fair}
+use Rattle.image.specs.Limits.{isName, fair}
 use Rattle.image.proofs.Fields.{both-first, both-second}
 use Rattle.tree.specs.Rules.{isLess}
 use Rattle.tree.specs.Forest.{Forest, bare, grown, flatten, definitionsOnly, modest, orderly}
@@ -47,25 +48,28 @@ less Greater e = absurd (true-is-not-false (sym e))
 -- what the rules of a forest tell of its first tree
 pub record Rules (before : List ℕ) (d : ℕ) (name : List ℕ) (definitions : List Frame) (below after : Forest) : Type 0 where
   pub rises : isLess (order before name) ≡ true
+  pub shown : isName name ≡ true
   pub only : definitionsOnly definitions ≡ true
   pub deeper : orderly [] (suc d) below ≡ true
   pub later : orderly name d after ≡ true
 
 pub rules : (before : List ℕ) (d h : ℕ) (n ds : List ℕ) (u : Perhaps) (defs : List Frame) (below after : Forest)
     → orderly before d (grown h n ds u defs below after) ≡ true → Rules before d n defs below after
-unfolding orderly
+unfolding orderly fair
 rules before d h n ds u defs below after o =
-    let e = both-second (fair (node d h n ds u)) _ (both-second (isLess (order before n)) _ o) in
+    let f = both-second (isLess (order before n)) _ o in
+    let e = both-second (fair (node d h n ds u)) _ f in
     let k = both-second (modest defs) _ e in
     record {
       rises = both-first (isLess (order before n)) _ o;
+      shown = both-first (isName n) _ (both-second (leb d 7) _ (both-second (ltb h 65536) _ (both-first (fair (node d h n ds u)) _ f)));
       only = both-first (definitionsOnly defs) _ (both-first (modest defs) _ e);
       deeper = both-first (orderly [] (suc d) below) _ k;
       later = both-second (orderly [] (suc d) below) _ k;
     }
 
 -- siblings rise, so each goes in front of those after it
-put-first : (n : List ℕ) (v : CommandNode) (d : ℕ) (f : Forest) → orderly n d f ≡ true → insertNode n v (commandsOf f) ≡ entry n v (commandsOf f)
+pub put-first : (n : List ℕ) (v : CommandNode) (d : ℕ) (f : Forest) → orderly n d f ≡ true → insertNode n v (commandsOf f) ≡ entry n v (commandsOf f)
 unfolding insertNode commandsOf
 put-first n v d bare o = refl
 put-first n v d (grown h m ds u defs below after) o =
@@ -118,7 +122,7 @@ up-definitions (flag c n x ds ∷ l) d f o =
     ap (λ (m : List Frame). flag c n x ds ∷ m) (up-definitions l d f (both-second (fair (flag c n x ds)) _ o))
 
 module _ (d : ℕ) (t : Tree) (fine : Fine d t) where
-  fine-rules : Rules (fine .0) d (t .name) (t .definitions) (t .below) bare
+  pub fine-rules : Rules (fine .0) d (t .name) (t .definitions) (t .below) bare
   fine-rules = rules (fine .0) d (t .handler) (t .name) (t .description) (t .usage) (t .definitions) (t .below) bare (fine .1)
 
   pub own-definitions : definitionsOf (flatten d (alone t)) ≡ t .definitions
