@@ -34,7 +34,7 @@ trim-blank (p ∷ ps) = by (white p) refl (trim-blank ps)
     by true w h = h
     by false w h = solid-end p (trimEnd ps) w
 
-blank-is-empty : (t : List ℕ) → isEmpty (trimmed t) ≡ blank t
+pub blank-is-empty : (t : List ℕ) → isEmpty (trimmed t) ≡ blank t
 unfolding trimmed blank
 blank-is-empty t = trim-blank (piecesOf t)
 

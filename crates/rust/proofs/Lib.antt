@@ -9,3 +9,7 @@ pub mod Plain
 pub mod Lines
 pub mod Listings
 pub mod Helping
+pub mod Escapes
+pub mod Asked
+pub mod Executing
+pub mod Running

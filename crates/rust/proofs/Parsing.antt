@@ -30,7 +30,7 @@ pub frames-are : (image : List ℕ) (f : Forest) → StandsFor image f → frame
 frames-are image f s = well-formed-frames image (flatten 0 f) (record { joined = s .joined; obey = forest-obeys f (s .rising) (s .nodes); short = s .short })
 
 -- the frames of a tree are not none
-some-frames : (A : Type 0) (d : ℕ) (t : Tree) (absent : A) (found : List Frame → A) → onSubtree (flatten d (alone t)) absent found ≡ found (flatten d (alone t))
+pub some-frames : (A : Type 0) (d : ℕ) (t : Tree) (absent : A) (found : List Frame → A) → onSubtree (flatten d (alone t)) absent found ≡ found (flatten d (alone t))
 unfolding flatten
 some-frames A d t absent found = refl
 
@@ -89,7 +89,7 @@ same-command path words d t fine = rw (own-definitions d t fine, same-args t non
     by (missingValue told) = refl
 
 -- a command that was reached
-same-reached : (c : Command) (r : Reached) → Meets c r → parseCommand c ≡ resultFor (concluded put r)
+pub same-reached : (c : Command) (r : Reached) → Meets c r → parseCommand c ≡ resultFor (concluded put r)
 same-reached c r m =
     ap parseCommand (m .found) ∙ same-command (r .path) (r .words) (m .depth) (m .tree) (m .fine)
     ∙ ap (λ (frames : List Frame). resultFor (concluded put (record { path = r .path; words = r .words; frames = frames }))) (sym (m .frames))

@@ -1,8 +1,8 @@
 -- Texts of a tree are ASCII: each byte is a character, so that the Rust's widths in characters are ours in bytes.
 use Prim.Native.Nat.{ℕ, _-_, _<_}
-use mathlib.Core.Path.{_≡_, refl, ap, _∙_}
+use mathlib.Core.Path.{_≡_, refl, sym, ap, _∙_}
 use mathlib.Core.Bool.{Bool, true, false, cond}
-use mathlib.Core.List.{List, [], _∷_, _++_}
+use mathlib.Core.List.{List, [], _∷_, _++_, append-nil}
 use mathlib.Core.Option.{none, some}
 use native.Mathlib.Omega.{arith}
 use lib.Dec.{eqb, leb}
@@ -39,9 +39,12 @@ first-plain : (b : ℕ) (t : List ℕ) → b < 0x80 → codesIn (b ∷ t) ≡ b 
 unfolding decodeFirst
 first-plain b t h = codes-step (b ∷ t) b 1 (row-ascii b (getD t 0 0) (getD t 1 0) (getD t 2 0) h)
 
-pub codes-plain : (t : List ℕ) → Plain t → codesIn t ≡ t
-codes-plain [] p = codes-none
-codes-plain (b ∷ t) p = first-plain b t (p .0) ∙ ap (λ (l : List ℕ). b ∷ l) (codes-plain t (p .1))
+pub codes-behind : (s t : List ℕ) → Plain s → codesIn (s ++ t) ≡ s ++ codesIn t
+codes-behind [] t p = refl
+codes-behind (b ∷ s) t p = first-plain b (s ++ t) (p .0) ∙ ap (λ (l : List ℕ). b ∷ l) (codes-behind s t (p .1))
+
+codes-plain : (t : List ℕ) → Plain t → codesIn t ≡ t
+codes-plain t p = ap codesIn (sym (append-nil t)) ∙ codes-behind t [] p ∙ ap (λ (l : List ℕ). t ++ l) codes-none ∙ append-nil t
 
 -- what is shown is plain
 shown-plain : (low b : ℕ) → shown low b ≡ true → b < 0x80

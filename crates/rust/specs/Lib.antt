@@ -2,4 +2,5 @@
 pub mod Tree
 pub mod Parser
 pub mod Help
+pub mod Shell
 pub mod Same

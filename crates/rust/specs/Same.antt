@@ -3,11 +3,16 @@ use Prim.Native.Nat.{ℕ}
 use mathlib.Core.Bool.{Bool, true, cond}
 use mathlib.Core.List.{List, [], _∷_}
 use mathlib.Core.Option.{Option, none, some}
-use lib.Dec.{eqb}
+use lib.Dec.{eqb, ltb}
+use Rattle.image.specs.Limits.{both}
 use Rattle.table.specs.Map.{Map}
+use Rattle.report.specs.Report.{reportOf}
 use Rattle.parse.specs.Commands.{Outcome, parsed, fault}
 use Rattle.help.specs.Answer.{Reply, said, unknown, wordless}
+use Rattle.message.specs.Messages.{goodbye}
+use Rattle.shell.specs.Lines.{Said, silence, text, farewell, handed as handsOver}
 use Rattle.rust.specs.Parser.{BTreeMap, ParsedCommand, ParseError, UnknownCommand, UnknownOption, MissingValue, MissingRequiredOption, NoHandler, Result, ok, err}
+use Rattle.rust.specs.Shell.{Effect, prints, calls, exits, panics}
 
 -- BTreeMap<String, bool>: each flag that was found is true
 unfoldable pub flagsFor : Map → BTreeMap Bool
@@ -30,6 +35,39 @@ resultFor (fault number told) = err (errorFor number told)
 
 -- what show_help does where help replies: it prints, or its error; with no words it panics
 abbrev pub replyFor : Reply → Option (Result (List ℕ))
-replyFor (said text) = some (ok text)
+replyFor (said bytes) = some (ok bytes)
 replyFor (unknown word) = some (err (UnknownCommand word))
 replyFor wordless = none
+
+-- what the console sees of a line: an output, a handler with its report, the end with its output, or a crash
+pub data Seen : Type 0 where
+  output : List ℕ → Seen
+  handed : (handler : ℕ) (report : List ℕ) → Seen
+  ended : List ℕ → Seen
+  crashed : Seen
+
+-- our report of the command that a handler of the Rust is called with
+unfoldable pub keysOf : BTreeMap Bool → Map
+keysOf [] = []
+keysOf (e ∷ m) = (e .0, []) ∷ keysOf m
+
+unfoldable pub reportFor : ParsedCommand → List ℕ
+reportFor command = reportOf (command .path) (command .options) (keysOf (command .flags)) (command .positional)
+
+abbrev pub seenOf : Effect → Seen
+seenOf (prints bytes) = output bytes
+seenOf (calls handler command) = handed handler (reportFor command)
+seenOf (exits bytes) = ended bytes
+seenOf panics = crashed
+
+-- the same of our answer; the number beside a text is ours alone
+abbrev pub seenFor : Said → Seen
+seenFor silence = output []
+seenFor (text number bytes) = output bytes
+seenFor farewell = ended goodbye
+seenFor (handsOver handler report) = handed handler report
+
+-- characters of which each outside ASCII is one that the Rust's tables print as it is: a `Debug` text copies those, and ours copies all (docs/DIFFERENCES.md)
+unfoldable pub allPrinted : (ℕ → Bool) → List ℕ → Bool
+allPrinted printable [] = true
+allPrinted printable (c ∷ chars) = both (cond (ltb c 0x80) true (printable c)) (allPrinted printable chars)
