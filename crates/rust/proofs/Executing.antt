@@ -89,7 +89,7 @@ unfolding runs flagFrame keysOf flagsFor
 flags-told [] = refl
 flags-told (e ∷ m) = ap (λ (l : List ℕ). frameOf 0x13 (e .0) ++ l) (flags-told m)
 
-report-same : (path : List (List ℕ)) (f : Found)
+pub report-same : (path : List (List ℕ)) (f : Found)
     → reportFor (record { path = path; options = f .options; flags = flagsFor (f .flags); positional = f .positionals }) ≡ toldIn (parsed path f)
 unfolding reportFor toldIn reportOf
 report-same path f = ap (λ (l : List ℕ). runs (frameOf 0x11) path ++ (runs optionFrame (f .options) ++ (l ++ runs (frameOf 0x14) (f .positionals)))) (flags-told (f .flags))

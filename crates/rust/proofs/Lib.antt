@@ -13,3 +13,4 @@ pub mod Escapes
 pub mod Asked
 pub mod Executing
 pub mod Running
+pub mod Calls

@@ -11,7 +11,7 @@ use Rattle.parse.specs.Commands.{Outcome, parsed, fault}
 use Rattle.help.specs.Answer.{Reply, said, unknown, wordless}
 use Rattle.message.specs.Messages.{goodbye}
 use Rattle.shell.specs.Lines.{Said, silence, text, farewell, handed as handsOver}
-use Rattle.rust.specs.Parser.{BTreeMap, ParsedCommand, ParseError, UnknownCommand, UnknownOption, MissingValue, MissingRequiredOption, NoHandler, Result, ok, err}
+use Rattle.rust.specs.Parser.{BTreeMap, ParsedCommand, ParseError, UnknownCommand, UnknownOption, MissingValue, MissingRequiredOption, Result, ok, err}
 use Rattle.rust.specs.Shell.{Effect, prints, calls, exits, panics}
 
 -- BTreeMap<String, bool>: each flag that was found is true
@@ -19,14 +19,9 @@ unfoldable pub flagsFor : Map → BTreeMap Bool
 flagsFor [] = []
 flagsFor (e ∷ m) = (e .0, true) ∷ flagsFor m
 
--- the variant of a fault's number
+-- the variant of a fault's number, 4 to 7
 unfoldable pub errorFor : ℕ → List ℕ → ParseError
-errorFor number told =
-    cond (eqb number 4) (UnknownCommand told)
-    (cond (eqb number 5) (UnknownOption told)
-    (cond (eqb number 6) (MissingValue told)
-    (cond (eqb number 7) (MissingRequiredOption told)
-    (NoHandler told))))
+errorFor number told = cond (eqb number 4) (UnknownCommand told) (cond (eqb number 5) (UnknownOption told) (cond (eqb number 6) (MissingValue told) (MissingRequiredOption told)))
 
 -- Ok with the command that a line says, or Err with its fault
 abbrev pub resultFor : Outcome → Result ParsedCommand

@@ -1,0 +1,82 @@
+-- What the calls answer and leave, said by what the Rust does: the bytes that are written, the number of 01 beside them, and 9 where they don't fit.
+use Prim.Native.Nat.{ℕ, _<_, _≤_}
+use mathlib.Core.Path.{_≡_}
+use mathlib.Core.List.{List, []}
+use mathlib.Core.Option.{Option, none, some}
+use lib.ListN.{length}
+use Rattle.buffer.specs.Write.{over}
+use Rattle.frame.specs.Framed.{frameOf}
+use Rattle.words.specs.Tokens.{framesOf}
+use Rattle.words.specs.declared.tokenizer.Tokens.{Tokens}
+use Rattle.words.specs.declared.tokenizer.Tokens.the-variants.{Words, NoRoom as WordsNoRoom}
+use Rattle.report.specs.Report.{faultOf}
+use Rattle.parse.specs.Answer.{number as parseNumber, value as parseValue}
+use Rattle.parse.specs.declared.answer.Parsed.{Parsed}
+use Rattle.parse.specs.declared.answer.Parsed.the-variants.{NoRoom as ParseNoRoom}
+use Rattle.help.specs.Answer.{number as helpNumber, value as helpValue}
+use Rattle.help.specs.declared.call.Helped.{Helped}
+use Rattle.help.specs.declared.call.Helped.the-variants.{NoWords, NoRoom as HelpNoRoom}
+use Rattle.shell.specs.Answer.{kind, number as runNumber, value as runValue}
+use Rattle.shell.specs.declared.answer.Ran.{Ran}
+use Rattle.shell.specs.declared.answer.Ran.the-variants.{Exit, Handler, NoRoom as RunNoRoom}
+use Rattle.rust.specs.Parser.{ParsedCommand, ParseError, UnknownCommand, UnknownOption, MissingValue, MissingRequiredOption, NoHandler, Result, ok, err}
+use Rattle.rust.specs.Shell.{textIn}
+use Rattle.rust.specs.Same.{reportFor, Seen, output, handed, ended, crashed}
+
+-- the number of 01 for an error
+abbrev pub errorNumber : ParseError → ℕ
+errorNumber (UnknownCommand t) = 4
+errorNumber (UnknownOption t) = 5
+errorNumber (MissingValue t) = 6
+errorNumber (MissingRequiredOption t) = 7
+errorNumber (NoHandler t) = 8
+
+-- bytes at the front of a buffer where they fit, and an answer that says so; else nothing, and the other answer
+pub record Writes (bytes out left : List ℕ) (fits short : Type 0) : Type 0 where
+  pub fitting : length bytes ≤ length out → fits × (left ≡ over bytes out)
+  pub lacking : length out < length bytes → short × (left ≡ out)
+
+abbrev pub resultNumber : {A : Type 0} → Result A → ℕ
+resultNumber (ok a) = 0
+resultNumber (err e) = errorNumber e
+
+-- WORDS: a frame 14 for each token
+abbrev pub SplitsAs : List (List ℕ) → List ℕ → Tokens → List ℕ → Type 0
+SplitsAs tokens out r left = Writes (framesOf tokens) out left (r ≡ Words (length (framesOf tokens))) (r ≡ WordsNoRoom (length (framesOf tokens)))
+
+-- PARSE: the report of the command, or frame 1E with the error's text
+abbrev pub parseBytes : Result ParsedCommand → List ℕ
+parseBytes (ok command) = reportFor command
+parseBytes (err e) = faultOf (textIn e)
+
+abbrev pub ParsesAs : Result ParsedCommand → List ℕ → Parsed → List ℕ → Type 0
+ParsesAs result out r left =
+    Writes (parseBytes result) out left ((parseNumber r ≡ resultNumber result) × (parseValue r ≡ length (parseBytes result)))
+    (r ≡ ParseNoRoom (length (parseBytes result)))
+
+-- HELP: what is printed, or frame 1E with the unknown word; 14 where the Rust panics
+abbrev pub helpBytes : Result (List ℕ) → List ℕ
+helpBytes (ok text) = text
+helpBytes (err e) = frameOf 0x1e (textIn e)
+
+abbrev pub HelpsAs : Option (Result (List ℕ)) → List ℕ → Helped → List ℕ → Type 0
+HelpsAs (some result) out r left =
+    Writes (helpBytes result) out left ((helpNumber r ≡ resultNumber result) × (helpValue r ≡ length (helpBytes result)))
+    (r ≡ HelpNoRoom (length (helpBytes result)))
+HelpsAs none out r left = (r ≡ NoWords) × (left ≡ out)
+
+-- RUN: what is printed, with or without a number beside it; the end; or a handler with its report
+abbrev pub seenBytes : Seen → List ℕ
+seenBytes (output bytes) = bytes
+seenBytes (handed handler report) = report
+seenBytes (ended bytes) = bytes
+seenBytes crashed = []
+
+abbrev pub Says : Seen → Ran → Type 0
+Says (output bytes) r = (runNumber r ≡ 0) × (kind r ≤ 1) × (runValue r ≡ length bytes)
+Says (handed handler report) r = r ≡ Handler handler (length report)
+Says (ended bytes) r = r ≡ Exit (length bytes)
+Says crashed r = ⊥
+
+abbrev pub RunsAs : Seen → List ℕ → Ran → List ℕ → Type 0
+RunsAs seen out r left = Writes (seenBytes seen) out left (Says seen r) (r ≡ RunNoRoom (length (seenBytes seen)))
