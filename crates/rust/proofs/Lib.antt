@@ -14,3 +14,4 @@ pub mod Asked
 pub mod Executing
 pub mod Running
 pub mod Calls
+mod Examples

@@ -1,9 +1,9 @@
 -- The Rust's lines in help and in the list of commands are our rows.
 use Prim.Native.Nat.{ℕ}
 use mathlib.Core.Path.{_≡_, ap, _∙_}
-use mathlib.Core.Bool.{true}
-use mathlib.Core.List.{List}
-use lib.Dec.{leb}
+use mathlib.Core.Bool.{true, cond}
+use mathlib.Core.List.{List, [], _++_}
+use lib.Dec.{eqb, leb}
 use Rattle.image.specs.Frames.{Perhaps, option, flag}
 use Rattle.image.specs.Limits.{isName, isShort, optionally, definable, fair}
 use Rattle.image.proofs.Fields.{both-first, both-second}
@@ -33,12 +33,13 @@ label-column c n l d =
 
 pub option-line : (r c : ℕ) (n : List ℕ) (l : Perhaps) (ds : List ℕ) → fair (option r c n l ds) ≡ true → optionLine (optionDef r c n l ds) ≡ optionRow r c n l ds
 unfolding optionLine println optionRow entry requiredMark fair ascii
-option-line r c n l ds e = rw (label-column c n l (defined c n l ds (both-second (leb r 1) _ e)))
+option-line r c n l ds e =
+    ap (λ (s : List ℕ). ascii "  " ++ s ++ ascii " " ++ ds ++ cond (eqb r 1) (ascii " (required)") [] ++ ascii "\n") (label-column c n l (defined c n l ds (both-second (leb r 1) _ e)))
 
 pub flag-line : (c : ℕ) (n : List ℕ) (l : Perhaps) (ds : List ℕ) → fair (flag c n l ds) ≡ true → flagLine (flagDef c n l ds) ≡ flagRow c n l ds
 unfolding flagLine println flagRow entry fair
-flag-line c n l ds e = rw (label-column c n l (defined c n l ds e))
+flag-line c n l ds e = ap (λ (s : List ℕ). ascii "  " ++ s ++ ascii " " ++ ds ++ ascii "\n") (label-column c n l (defined c n l ds e))
 
 pub node-line : (indent : List ℕ) (width : ℕ) (n : List ℕ) (command : CommandNode) → isName n ≡ true → nodeLine indent width n command ≡ nodeRow indent width n (descriptionOf command)
 unfolding nodeLine println nodeRow entry
-node-line indent width n command e = rw (column width n (name-plain n e))
+node-line indent width n command e = ap (λ (s : List ℕ). indent ++ s ++ ascii " " ++ descriptionOf command ++ ascii "\n") (column width n (name-plain n e))

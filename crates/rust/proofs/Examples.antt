@@ -1,0 +1,75 @@
+-- Worked examples: what the original answered when it was run with this tree planted, computed from its functions on values.
+use Prim.Native.Nat.{ℕ}
+use mathlib.Core.Path.{_≡_, refl}
+use mathlib.Core.Bool.{Bool, true, false}
+use mathlib.Core.List.{[], _∷_, _++_}
+use Rattle.buffer.specs.Compare.{order, sameBytes}
+use Rattle.text.specs.Unicode.{encode, encodeAll}
+use Rattle.text.specs.Decoding.{leastSecond, greatestSecond, within, decodeTwo, decodeThree, decodeFour, table, decodeFirst, piecesFrom, piecesOf, codesOf, codesIn, bytesAll, wellFormedLength}
+use Rattle.text.specs.Space.{whiteSpace, among, isWhiteSpace}
+use Rattle.text.specs.Apart.{behindRun, trimEnd, trimmed, wordsAfter, wordsBetween}
+use Rattle.frame.specs.Hex.{digitOf}
+use Rattle.image.specs.Frames.{absent, present, option, flag}
+use Rattle.tree.specs.Forest.{Forest, bare, grown}
+use Rattle.ink.specs.Ascii.{ascii}
+use Rattle.rust.specs.Tree.{Commands, insertNode, get, someOf, optionDefs, flagDefs, commandsOf}
+use Rattle.rust.specs.Parser.{insert, containsKey, UnknownCommand, UnknownOption, MissingValue, MissingRequiredOption, ok, err, closed, tokenizeFrom, tokenize, deepest, findCommand, any, find, isOption, isFlag, isShortOption, isShortFlag, optionNameByShort, flagNameByShort, stripPrefix, startsWith, findEquals, optionValue, longName, shortNames, shortOrPositional, long, turn, parseArgsFrom, parseArgs, validateRequired, parseCommand, parseTokens, parse}
+use Rattle.rust.specs.Help.{println, leftIn, join, forEach, forEachNode, labelStr, optionLine, flagLine, nodeLine, helpLines, nodeUnder, showHelp, availableLine, showAvailableCommands}
+use Rattle.rust.specs.Shell.{prints, calls, exits, isUtf8, along, nodeAt, report, handle, executeCommand, runCmdBytes, hexIn, escapeUnicode, isPrintable, escapeDebug, debugChars, debugError, handleBuiltinCommands, enter}
+
+-- `vm` without a handler and its child `start`, with a required option, a flag and an option of a name alone; `log`. The map puts `log` first.
+forest : Forest
+forest =
+    grown 0 (ascii "vm") (ascii "Machines") (present (ascii "vm <COMMAND>")) []
+    (grown 3 (ascii "start") (ascii "Start one") absent
+    (option 1 0x63 (ascii "config") (present (ascii "cfg")) (ascii "Its file") ∷ flag 0x66 (ascii "force") absent (ascii "No question") ∷ option 0 0 (ascii "name") absent (ascii "Its name") ∷ [])
+    bare bare)
+    (grown 2 (ascii "log") (ascii "Change log level") absent [] bare bare)
+
+tree : Commands
+tree = commandsOf forest
+
+-- tables that print every character as it is
+all : ℕ → Bool
+all c = true
+
+parses :
+    (parse tree [] ≡ err (UnknownCommand (ascii "empty command")))
+    × (parse tree (ascii "vm start -fc x a --name=1=2 -")
+    ≡ ok (record {
+      path = ascii "vm" ∷ ascii "start" ∷ [];
+      options = (ascii "config", ascii "x") ∷ (ascii "name", ascii "1=2") ∷ [];
+      flags = (ascii "force", true) ∷ [];
+      positional = ascii "a" ∷ ascii "-" ∷ [];
+    }))
+    × (parse tree (ascii "vm start -cf x") ≡ err (MissingValue (ascii "-c")))
+    × (parse tree (ascii "vm start --cfg x") ≡ err (MissingRequiredOption (ascii "config")))
+    × (parse tree (ascii "vm start --force=1") ≡ err (UnknownOption (ascii "--force")))
+    × (parse tree (ascii "vm start -c x --") ≡ err (UnknownOption (ascii "--")))
+    × (parse tree (ascii "vm start -c x -" ++ 0xC3 ∷ 0xA9 ∷ []) ≡ err (UnknownOption (ascii "-" ++ 0xC3 ∷ 0xA9 ∷ [])))
+    × (parse tree (ascii "log a\\ ") ≡ ok (record { path = ascii "log" ∷ []; options = []; flags = []; positional = ascii "a " ∷ [] }))
+unfolding forest tree ascii sameBytes order insertNode get someOf optionDefs flagDefs commandsOf decodeFirst table decodeTwo decodeThree decodeFour leastSecond greatestSecond within piecesFrom piecesOf codesOf codesIn bytesAll encode encodeAll among whiteSpace isWhiteSpace behindRun trimEnd trimmed wordsAfter wordsBetween wellFormedLength closed tokenizeFrom tokenize insert containsKey deepest findCommand any find isOption isFlag isShortOption isShortFlag optionNameByShort flagNameByShort stripPrefix startsWith findEquals optionValue longName shortNames shortOrPositional long turn parseArgsFrom parseArgs validateRequired parseCommand parseTokens parse
+parses = (refl, refl, refl, refl, refl, refl, refl, refl)
+
+runs :
+    (enter all tree (ascii "exit") ≡ exits (ascii "Goodbye!\n"))
+    × (enter all tree (ascii "vm") ≡ prints (ascii "Error: Command 'vm' has no handler function\n"))
+    × (enter all tree (ascii "log") ≡ calls 2 (record { path = ascii "log" ∷ []; options = []; flags = []; positional = [] }))
+    × (enter all tree (ascii " help log") ≡ prints (ascii "Error: Unknown command 'help'\nType 'help' to see available commands\n"))
+    × (enter all tree (ascii "help vm stop\"\\") ≡ prints (ascii "Error: UnknownCommand(\"stop\\\"\\\\\")\n"))
+    × (enter all tree (ascii "help " ++ 0x01 ∷ 0x7f ∷ ascii "x") ≡ prints (ascii "Error: UnknownCommand(\"\\u{1}\\u{7f}x\")\n"))
+    × (enter (λ c. false) tree (ascii "help " ++ 0xC2 ∷ 0x80 ∷ []) ≡ prints (ascii "Error: UnknownCommand(\"\\u{80}\")\n"))
+    × (enter all tree (0xFF ∷ []) ≡ prints (ascii "Error: Input contains invalid UTF-8 characters\n"))
+unfolding forest tree ascii sameBytes order insertNode get someOf optionDefs flagDefs commandsOf all decodeFirst table decodeTwo decodeThree decodeFour leastSecond greatestSecond within piecesFrom piecesOf codesOf codesIn bytesAll encode encodeAll among whiteSpace isWhiteSpace behindRun trimEnd trimmed wordsAfter wordsBetween wellFormedLength closed tokenizeFrom tokenize insert containsKey deepest findCommand any find isOption isFlag isShortOption isShortFlag optionNameByShort flagNameByShort stripPrefix startsWith findEquals optionValue longName shortNames shortOrPositional long turn parseArgsFrom parseArgs validateRequired parseCommand parseTokens parse println leftIn join forEach forEachNode labelStr optionLine flagLine nodeLine helpLines nodeUnder showHelp availableLine showAvailableCommands isUtf8 along nodeAt report handle executeCommand runCmdBytes digitOf hexIn escapeUnicode isPrintable escapeDebug debugChars debugError handleBuiltinCommands enter
+runs = (refl, refl, refl, refl, refl, refl, refl, refl)
+
+helps :
+    (enter all tree (ascii "help vm") ≡ prints (ascii "Command: vm\nDescription: Machines\nUsage: vm <COMMAND>\n\nSubcommands:\n  start                Start one\n"))
+    × (enter all tree (ascii "help vm start")
+    ≡ prints
+    (ascii "Command: vm start\nDescription: Start one\n\nOptions:\n  -c, --cfg            Its file (required)\n  name                 Its name\n\nFlags:\n  -f                   No question\n"))
+    × (enter all tree (ascii "\thelp ")
+    ≡ prints
+    (ascii "ArceOS Shell - Available Commands:\n\n  log             Change log level\n  vm              Machines\n    start         Start one\n\nBuilt-in Commands:\n  help            Show help information\n  help <command>  Show help for a specific command\n  clear           Clear the screen\n  exit/quit       Exit the shell\n\nTip: Use 'help <command>' to see detailed usage of a command\n"))
+unfolding forest tree ascii sameBytes order insertNode get someOf optionDefs flagDefs commandsOf all decodeFirst table decodeTwo decodeThree decodeFour leastSecond greatestSecond within piecesFrom piecesOf codesOf codesIn bytesAll encode encodeAll among whiteSpace isWhiteSpace behindRun trimEnd trimmed wordsAfter wordsBetween wellFormedLength closed tokenizeFrom tokenize insert containsKey deepest findCommand any find isOption isFlag isShortOption isShortFlag optionNameByShort flagNameByShort stripPrefix startsWith findEquals optionValue longName shortNames shortOrPositional long turn parseArgsFrom parseArgs validateRequired parseCommand parseTokens parse println leftIn join forEach forEachNode labelStr optionLine flagLine nodeLine helpLines nodeUnder showHelp availableLine showAvailableCommands isUtf8 along nodeAt report handle executeCommand runCmdBytes digitOf hexIn escapeUnicode isPrintable escapeDebug debugChars debugError handleBuiltinCommands enter
+helps = (refl, refl, refl)
