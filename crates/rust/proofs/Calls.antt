@@ -36,8 +36,8 @@ use Rattle.rust.specs.Tree.{commandsOf}
 use Rattle.rust.specs.Parser.{UnknownCommand, UnknownOption, MissingValue, MissingRequiredOption, tokenize, parse}
 use Rattle.rust.specs.Help.{showHelp}
 use Rattle.rust.specs.Shell.{textIn, enter}
-use Rattle.rust.specs.Same.{errorFor, resultFor, replyFor, seenOf, seenFor, allPrinted}
-use Rattle.rust.specs.Calls.{errorNumber, Writes, SplitsAs, parseBytes, resultNumber, ParsesAs, HelpsAs, seenBytes, Says, RunsAs}
+use Rattle.rust.specs.Same.{errorFor, resultFor, errorNumber, replyFor, seenOf, seenFor, allPrinted}
+use Rattle.rust.specs.Calls.{Writes, SplitsAs, parseBytes, resultNumber, ParsesAs, HelpsAs, seenBytes, Says, RunsAs}
 use Rattle.rust.proofs.Words.{tokenize-is}
 use Rattle.rust.proofs.Parsing.{same-parse}
 use Rattle.rust.proofs.Helping.{same-help}
@@ -139,8 +139,8 @@ said-bytes farewell = refl
 said-bytes (handed handler report) = refl
 
 said-says : (s : Said) → Says (seenFor s) (named s (length (saidBytes s)))
-said-says silence = (refl, omega arith, refl)
-said-says (text number bytes) = (refl, omega arith, refl)
+said-says silence = refl
+said-says (text number bytes) = refl
 said-says farewell = refl
 said-says (handed handler report) = refl
 

@@ -13,9 +13,9 @@ use Rattle.image.specs.Frames.{absent, present, option, flag}
 use Rattle.tree.specs.Forest.{Forest, bare, grown}
 use Rattle.ink.specs.Ascii.{ascii}
 use Rattle.rust.specs.Tree.{Commands, insertNode, get, someOf, optionDefs, flagDefs, commandsOf}
-use Rattle.rust.specs.Parser.{insert, containsKey, UnknownCommand, UnknownOption, MissingValue, MissingRequiredOption, ok, err, closed, tokenizeFrom, tokenize, deepest, findCommand, any, find, isOption, isFlag, isShortOption, isShortFlag, optionNameByShort, flagNameByShort, stripPrefix, startsWith, findEquals, optionValue, longName, shortNames, shortOrPositional, long, turn, parseArgsFrom, parseArgs, validateRequired, parseCommand, parseTokens, parse}
+use Rattle.rust.specs.Parser.{insert, containsKey, UnknownCommand, UnknownOption, MissingValue, MissingRequiredOption, NoHandler, ok, err, closed, tokenizeFrom, tokenize, deepest, findCommand, any, find, isOption, isFlag, isShortOption, isShortFlag, optionNameByShort, flagNameByShort, stripPrefix, startsWith, findEquals, optionValue, longName, shortNames, shortOrPositional, long, turn, parseArgsFrom, parseArgs, validateRequired, parseCommand, parseTokens, parse}
 use Rattle.rust.specs.Help.{println, leftIn, join, forEach, forEachNode, labelStr, optionLine, flagLine, nodeLine, helpLines, nodeUnder, showHelp, availableLine, showAvailableCommands}
-use Rattle.rust.specs.Shell.{prints, calls, exits, isUtf8, along, nodeAt, report, handle, executeCommand, runCmdBytes, hexIn, escapeUnicode, isPrintable, escapeDebug, debugChars, debugError, handleBuiltinCommands, enter}
+use Rattle.rust.specs.Shell.{returns, prints, fails, garbled, calls, exits, isUtf8, along, nodeAt, report, handle, executeCommand, runCmdBytes, hexIn, escapeUnicode, isPrintable, escapeDebug, debugChars, debugError, handleBuiltinCommands, enter}
 
 -- `vm` without a handler and its child `start`, with a required option, a flag and an option of a name alone; `log`. The map puts `log` first.
 forest : Forest
@@ -53,15 +53,16 @@ parses = (refl, refl, refl, refl, refl, refl, refl, refl)
 
 runs :
     (enter all tree (ascii "exit") ≡ exits (ascii "Goodbye!\n"))
-    × (enter all tree (ascii "vm") ≡ prints (ascii "Error: Command 'vm' has no handler function\n"))
+    × (enter all tree (ascii "vm") ≡ fails (NoHandler (ascii "vm")) (ascii "Error: Command 'vm' has no handler function\n"))
+    × (enter all tree (ascii " \t ") ≡ returns)
     × (enter all tree (ascii "log") ≡ calls 2 (record { path = ascii "log" ∷ []; options = []; flags = []; positional = [] }))
-    × (enter all tree (ascii " help log") ≡ prints (ascii "Error: Unknown command 'help'\nType 'help' to see available commands\n"))
-    × (enter all tree (ascii "help vm stop\"\\") ≡ prints (ascii "Error: UnknownCommand(\"stop\\\"\\\\\")\n"))
-    × (enter all tree (ascii "help " ++ 0x01 ∷ 0x7f ∷ ascii "x") ≡ prints (ascii "Error: UnknownCommand(\"\\u{1}\\u{7f}x\")\n"))
-    × (enter (λ c. false) tree (ascii "help " ++ 0xC2 ∷ 0x80 ∷ []) ≡ prints (ascii "Error: UnknownCommand(\"\\u{80}\")\n"))
-    × (enter all tree (0xFF ∷ []) ≡ prints (ascii "Error: Input contains invalid UTF-8 characters\n"))
+    × (enter all tree (ascii " help log") ≡ fails (UnknownCommand (ascii "help")) (ascii "Error: Unknown command 'help'\nType 'help' to see available commands\n"))
+    × (enter all tree (ascii "help vm stop\"\\") ≡ fails (UnknownCommand (ascii "stop\"\\")) (ascii "Error: UnknownCommand(\"stop\\\"\\\\\")\n"))
+    × (enter all tree (ascii "help " ++ 0x01 ∷ 0x7f ∷ ascii "x") ≡ fails (UnknownCommand (0x01 ∷ 0x7f ∷ ascii "x")) (ascii "Error: UnknownCommand(\"\\u{1}\\u{7f}x\")\n"))
+    × (enter (λ c. false) tree (ascii "help " ++ 0xC2 ∷ 0x80 ∷ []) ≡ fails (UnknownCommand (0xC2 ∷ 0x80 ∷ [])) (ascii "Error: UnknownCommand(\"\\u{80}\")\n"))
+    × (enter all tree (0xFF ∷ []) ≡ garbled (ascii "Error: Input contains invalid UTF-8 characters\n"))
 unfolding forest tree ascii sameBytes order insertNode get someOf optionDefs flagDefs commandsOf all decodeFirst table decodeTwo decodeThree decodeFour leastSecond greatestSecond within piecesFrom piecesOf codesOf codesIn bytesAll encode encodeAll among whiteSpace isWhiteSpace behindRun trimEnd trimmed wordsAfter wordsBetween wellFormedLength closed tokenizeFrom tokenize insert containsKey deepest findCommand any find isOption isFlag isShortOption isShortFlag optionNameByShort flagNameByShort stripPrefix startsWith findEquals optionValue longName shortNames shortOrPositional long turn parseArgsFrom parseArgs validateRequired parseCommand parseTokens parse println leftIn join forEach forEachNode labelStr optionLine flagLine nodeLine helpLines nodeUnder showHelp availableLine showAvailableCommands isUtf8 along nodeAt report handle executeCommand runCmdBytes digitOf hexIn escapeUnicode isPrintable escapeDebug debugChars debugError handleBuiltinCommands enter
-runs = (refl, refl, refl, refl, refl, refl, refl, refl)
+runs = (refl, refl, refl, refl, refl, refl, refl, refl, refl)
 
 helps :
     (enter all tree (ascii "help vm") ≡ prints (ascii "Command: vm\nDescription: Machines\nUsage: vm <COMMAND>\n\nSubcommands:\n  start                Start one\n"))

@@ -23,7 +23,7 @@ use Rattle.shell.specs.Lines.{text, handed as handsOver, joined, faultMessage, 
 use Rattle.rust.specs.Tree.{CommandNode, Commands, handlerOf, subcommandsOf, someOf, get, commandsOf}
 use Rattle.rust.specs.Parser.{ParsedCommand, UnknownCommand, UnknownOption, MissingValue, MissingRequiredOption, NoHandler, ifSome, Command, deepest, findCommand, parseCommand, parseTokens}
 use Rattle.rust.specs.Help.{println, join}
-use Rattle.rust.specs.Shell.{along, nodeAt, report, handle, executed, prints, calls}
+use Rattle.rust.specs.Shell.{along, nodeAt, report, handle, failed, executed, calls}
 use Rattle.rust.specs.Same.{flagsFor, errorFor, resultFor, keysOf, reportFor, output, handed, seenOf, seenFor}
 use Rattle.rust.proofs.Trees.{Tree, alone, nodeOf, Sought, nowhere, there, command}
 use Rattle.rust.proofs.Parsing.{some-frames, Meets, meets, same-reached}
@@ -108,8 +108,8 @@ module _ (tree : Commands) (path : List (List ℕ)) (node : CommandNode) (h : �
       p : ParsedCommand
       p = record { path = path; options = f .options; flags = flagsFor (f .flags); positional = f .positionals }
 
-      by : (z : Bool) → seenOf (ifSome (cond z none (some h)) (λ n. calls n p) (prints (report (NoHandler (join path))))) ≡ seenFor (cond z (text 8 (message TellHandler (joined path))) (handsOver h (toldIn (parsed path f))))
-      by true = ap output (handler-told (join path) ∙ ap (message TellHandler) (path-joined path))
+      by : (z : Bool) → seenOf (ifSome (cond z none (some h)) (λ n. calls n p) (failed (NoHandler (join path)))) ≡ seenFor (cond z (text 8 (message TellHandler (joined path))) (handsOver h (toldIn (parsed path f))))
+      by true = ap (output 8) (handler-told (join path) ∙ ap (message TellHandler) (path-joined path))
       by false = ap (handed h) (report-same path f)
 
   -- whatever the arguments come to
@@ -118,11 +118,11 @@ module _ (tree : Commands) (path : List (List ℕ)) (node : CommandNode) (h : �
   same-stand defs (go f) = by (missingRequired defs (f .options))
     where
       by : (x : Option (List ℕ)) → seenOf (executed tree (resultFor (onMissing x (λ name. fault 7 name) (parsed path f)))) ≡ seenFor (carried h (onMissing x (λ name. fault 7 name) (parsed path f)))
-      by (some name) = ap output (required-told name)
+      by (some name) = ap (output 7) (required-told name)
       by none = called f
-  same-stand defs (wait f key t) = ap output (value-told t)
-  same-stand defs (unknownOption t) = ap output (option-told t)
-  same-stand defs (missingValue t) = ap output (value-told t)
+  same-stand defs (wait f key t) = ap (output 6) (value-told t)
+  same-stand defs (unknownOption t) = ap (output 5) (option-told t)
+  same-stand defs (missingValue t) = ap (output 6) (value-told t)
 
 -- the handler of a tree's node
 tree-handler : (d : ℕ) (t : Tree) → handlerIn (flatten d (alone t)) ≡ t .handler
@@ -141,11 +141,11 @@ same-reach tree c r at m =
 -- the words of a line under a forest
 pub same-execute : (f : Forest) → orderly [] 0 f ≡ true → (words : List (List ℕ)) → seenOf (executed (commandsOf f) (parseTokens (commandsOf f) words)) ≡ seenFor (execute (flatten 0 f) words)
 unfolding parseTokens findCommand execute executeIn parseIn carried faultMessage ascii
-same-execute f o [] = ap output (unknown-told _)
+same-execute f o [] = ap (output 4) (unknown-told _)
 same-execute f o (w ∷ words) = by (command w f o)
   where
     by : Sought (get w (commandsOf f)) 0 (subtree 0 w (flatten 0 f)) → seenOf (executed (commandsOf f) (parseTokens (commandsOf f) (w ∷ words))) ≡ seenFor (execute (flatten 0 f) (w ∷ words))
-    by (nowhere a b) = rw (a, b) (ap output (unknown-told w))
+    by (nowhere a b) = rw (a, b) (ap (output 4) (unknown-told w))
     by (there t fine a b) =
         rw (a, b, some-frames Outcome 0 t)
         (same-reach (commandsOf f) (deepest (nodeOf t) (w ∷ []) words) (descend 1 (flatten 0 (alone t)) (w ∷ []) words)

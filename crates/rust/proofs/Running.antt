@@ -32,7 +32,7 @@ use Rattle.shell.proofs.Bare.{bare-help}
 use Rattle.rust.specs.Tree.{Commands, commandsOf}
 use Rattle.rust.specs.Parser.{UnknownCommand, ifSome, startsWith, parseTokens, parse}
 use Rattle.rust.specs.Help.{println, showHelp, showAvailableCommands}
-use Rattle.rust.specs.Shell.{prints, exits, panics, isUtf8, executed, executeCommand, runCmdBytes, debugError, helped, handleBuiltinCommands, enter}
+use Rattle.rust.specs.Shell.{returns, prints, exits, panics, isUtf8, executed, executeCommand, runCmdBytes, debugError, helped, handleBuiltinCommands, enter}
 use Rattle.rust.specs.Same.{replyFor, output, ended, seenOf, seenFor, allPrinted}
 use Rattle.rust.proofs.Words.{tokenize-is}
 use Rattle.rust.proofs.Parsing.{frames-are}
@@ -66,7 +66,7 @@ help-seen printable frames w words each = by (followed 0 frames (w ∷ words)) r
     by : (led : Led) → followed 0 frames (w ∷ words) ≡ led
         → seenOf (ifSome (replyFor (replyBy (w ∷ words) led)) (helped printable) panics) ≡ seenFor (helpSaid (replyBy (w ∷ words) led))
     by (found below) e = refl
-    by (lost v) e = ap output (error-is printable v (lost-told (Told printable) v (w ∷ words) 0 frames each e))
+    by (lost v) e = ap (output 4) (error-is printable v (lost-told (Told printable) v (w ∷ words) 0 frames each e))
 
 -- BUILTINS
 chained : {A : Type 0} (a b c d : Bool) (x y z o : A) → cond a x (cond (cond b true c) y (cond d z o)) ≡ onBuiltin (cond a Help (cond b Exit (cond c Exit (cond d Clear None)))) x y z o
@@ -118,7 +118,7 @@ module _ (image : List ℕ) (f : Forest) (stands : StandsFor image f) (printable
   unfolding runCmdBytes executeCommand parse
   run-seen utf = rw (utf, blank-is-empty line, tokenize-is (trimmed line), frames-are image f stands) (by (blank line))
     where
-      by : (b : Bool) → seenOf (cond b (prints []) (executed (commandsOf f) (parseTokens (commandsOf f) (wordsOf (trimmed line))))) ≡ seenFor (cond b silence (execute (flatten 0 f) (wordsOf (trimmed line))))
+      by : (b : Bool) → seenOf (cond b returns (executed (commandsOf f) (parseTokens (commandsOf f) (wordsOf (trimmed line))))) ≡ seenFor (cond b silence (execute (flatten 0 f) (wordsOf (trimmed line))))
       by true = refl
       by false = same-execute f (stands .rising) (wordsOf (trimmed line))
 
@@ -154,17 +154,17 @@ module _ (image : List ℕ) (f : Forest) (stands : StandsFor image f) (printable
             → seenOf (ifSome (onBuiltin b (some (prints (showAvailableCommands (commandsOf f)))) (some (exits (println (ascii "Goodbye!")))) (some (prints (0x1b ∷ ascii "[2J" ++ 0x1b ∷ ascii "[H")))
             (cond (startsWith (ascii "help ") line) (some (ifSome (showHelp (commandsOf f) (wordsBetween (drop 5 line))) (helped printable) panics)) none)) (λ e. e) (runCmdBytes (commandsOf f) line))
             ≡ seenFor (onBuiltin b (text 0 (availableText (framesOf image))) farewell (text 0 clearScreen) (otherSaid (framesOf image) line))
-        by Help q = ap output (same-available image f stands)
+        by Help q = ap (output 0) (same-available image f stands)
         by Exit q = ap ended goodbye-is
-        by Clear q = ap output clear-is
+        by Clear q = ap (output 0) clear-is
         by None q = other-seen q
 
   -- a line that is not well-formed is no builtin
-  ill-seen : isUtf8 line ≡ false → seenOf (enter printable (commandsOf f) line) ≡ output illFormed
+  ill-seen : isUtf8 line ≡ false → seenOf (enter printable (commandsOf f) line) ≡ output 3 illFormed
   unfolding enter runCmdBytes
-  ill-seen e = rw (e, empty-is-none printable (commandsOf f)) (ap output ill-is)
+  ill-seen e = rw (e, empty-is-none printable (commandsOf f)) (ap (output 3) ill-is)
 
-  -- ANY LINE under a well-formed image: the same output, the same handler with the same report, or the end with the same output. In a help line each
+  -- ANY LINE under a well-formed image: nothing, the same output with the error's number, the same handler with the same report, or the end with the same output. In a help line each
   -- character outside ASCII is to be one that the Rust prints as it is.
   pub same-run : (beginsHelp line ≡ true → allPrinted printable (codesIn line) ≡ true) → seenOf (enter printable (commandsOf f) line) ≡ seenFor (saidOf (framesOf image) line)
   unfolding saidOf

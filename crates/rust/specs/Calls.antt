@@ -16,20 +16,11 @@ use Rattle.parse.specs.declared.answer.Parsed.the-variants.{NoRoom as ParseNoRo
 use Rattle.help.specs.Answer.{number as helpNumber, value as helpValue}
 use Rattle.help.specs.declared.call.Helped.{Helped}
 use Rattle.help.specs.declared.call.Helped.the-variants.{NoWords, NoRoom as HelpNoRoom}
-use Rattle.shell.specs.Answer.{kind, number as runNumber, value as runValue}
 use Rattle.shell.specs.declared.answer.Ran.{Ran}
-use Rattle.shell.specs.declared.answer.Ran.the-variants.{Exit, Handler, NoRoom as RunNoRoom}
-use Rattle.rust.specs.Parser.{ParsedCommand, ParseError, UnknownCommand, UnknownOption, MissingValue, MissingRequiredOption, NoHandler, Result, ok, err}
+use Rattle.shell.specs.declared.answer.Ran.the-variants.{Nothing, Text, Exit, Handler, NoRoom as RunNoRoom}
+use Rattle.rust.specs.Parser.{ParsedCommand, Result, ok, err}
 use Rattle.rust.specs.Shell.{textIn}
-use Rattle.rust.specs.Same.{reportFor, Seen, output, handed, ended, crashed}
-
--- the number of 01 for an error
-abbrev pub errorNumber : ParseError → ℕ
-errorNumber (UnknownCommand t) = 4
-errorNumber (UnknownOption t) = 5
-errorNumber (MissingValue t) = 6
-errorNumber (MissingRequiredOption t) = 7
-errorNumber (NoHandler t) = 8
+use Rattle.rust.specs.Same.{reportFor, errorNumber, Seen, quiet, output, handed, ended, crashed}
 
 -- bytes at the front of a buffer where they fit, and an answer that says so; else nothing, and the other answer
 pub record Writes (bytes out left : List ℕ) (fits short : Type 0) : Type 0 where
@@ -65,15 +56,17 @@ HelpsAs (some result) out r left =
     (r ≡ HelpNoRoom (length (helpBytes result)))
 HelpsAs none out r left = (r ≡ NoWords) × (left ≡ out)
 
--- RUN: what is printed, with or without a number beside it; the end; or a handler with its report
+-- RUN: nothing; what is printed, with its number; a handler with its report; or the end
 abbrev pub seenBytes : Seen → List ℕ
-seenBytes (output bytes) = bytes
+seenBytes quiet = []
+seenBytes (output number bytes) = bytes
 seenBytes (handed handler report) = report
 seenBytes (ended bytes) = bytes
 seenBytes crashed = []
 
 abbrev pub Says : Seen → Ran → Type 0
-Says (output bytes) r = (runNumber r ≡ 0) × (kind r ≤ 1) × (runValue r ≡ length bytes)
+Says quiet r = r ≡ Nothing
+Says (output number bytes) r = r ≡ Text number (length bytes)
 Says (handed handler report) r = r ≡ Handler handler (length report)
 Says (ended bytes) r = r ≡ Exit (length bytes)
 Says crashed r = ⊥

@@ -11,8 +11,8 @@ use Rattle.parse.specs.Commands.{Outcome, parsed, fault}
 use Rattle.help.specs.Answer.{Reply, said, unknown, wordless}
 use Rattle.message.specs.Messages.{goodbye}
 use Rattle.shell.specs.Lines.{Said, silence, text, farewell, handed as handsOver}
-use Rattle.rust.specs.Parser.{BTreeMap, ParsedCommand, ParseError, UnknownCommand, UnknownOption, MissingValue, MissingRequiredOption, Result, ok, err}
-use Rattle.rust.specs.Shell.{Effect, prints, calls, exits, panics}
+use Rattle.rust.specs.Parser.{BTreeMap, ParsedCommand, ParseError, UnknownCommand, UnknownOption, MissingValue, MissingRequiredOption, NoHandler, Result, ok, err}
+use Rattle.rust.specs.Shell.{Effect, returns, prints, fails, garbled, calls, exits, panics}
 
 -- BTreeMap<String, bool>: each flag that was found is true
 unfoldable pub flagsFor : Map → BTreeMap Bool
@@ -34,12 +34,21 @@ replyFor (said bytes) = some (ok bytes)
 replyFor (unknown word) = some (err (UnknownCommand word))
 replyFor wordless = none
 
--- what the console sees of a line: an output, a handler with its report, the end with its output, or a crash
+-- what the console sees of a line: nothing, an output with the number of 01 beside it, a handler with its report, the end with its output, or a crash
 pub data Seen : Type 0 where
-  output : List ℕ → Seen
+  quiet : Seen
+  output : (number : ℕ) (bytes : List ℕ) → Seen
   handed : (handler : ℕ) (report : List ℕ) → Seen
   ended : List ℕ → Seen
   crashed : Seen
+
+-- the number of 01 for an error
+abbrev pub errorNumber : ParseError → ℕ
+errorNumber (UnknownCommand t) = 4
+errorNumber (UnknownOption t) = 5
+errorNumber (MissingValue t) = 6
+errorNumber (MissingRequiredOption t) = 7
+errorNumber (NoHandler t) = 8
 
 -- our report of the command that a handler of the Rust is called with
 unfoldable pub keysOf : BTreeMap Bool → Map
@@ -50,15 +59,18 @@ unfoldable pub reportFor : ParsedCommand → List ℕ
 reportFor command = reportOf (command .path) (command .options) (keysOf (command .flags)) (command .positional)
 
 abbrev pub seenOf : Effect → Seen
-seenOf (prints bytes) = output bytes
+seenOf returns = quiet
+seenOf (prints bytes) = output 0 bytes
+seenOf (fails e bytes) = output (errorNumber e) bytes
+seenOf (garbled bytes) = output 3 bytes
 seenOf (calls handler command) = handed handler (reportFor command)
 seenOf (exits bytes) = ended bytes
 seenOf panics = crashed
 
--- the same of our answer; the number beside a text is ours alone
+-- the same of our answer
 abbrev pub seenFor : Said → Seen
-seenFor silence = output []
-seenFor (text number bytes) = output bytes
+seenFor silence = quiet
+seenFor (text number bytes) = output number bytes
 seenFor farewell = ended goodbye
 seenFor (handsOver handler report) = handed handler report
 

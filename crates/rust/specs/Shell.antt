@@ -15,9 +15,13 @@ use Rattle.rust.specs.Tree.{CommandNode, Commands, handlerOf, subcommand
 use Rattle.rust.specs.Parser.{ParsedCommand, ParseError, UnknownCommand, UnknownOption, MissingValue, MissingRequiredOption, NoHandler, Result, ok, err, ifSome, isEmpty, startsWith, parse}
 use Rattle.rust.specs.Help.{println, join, showHelp, showAvailableCommands}
 
--- what a call does: it prints and comes back, calls a handler with a command, prints and ends the process, or panics
+-- what a line comes to: nothing; a text that is printed, by itself or on an error, its own or that of `from_utf8`; a handler that is called with a command;
+-- the end of the process, with what was printed; or a panic
 pub data Effect : Type 0 where
+  returns : Effect
   prints : List ℕ → Effect
+  fails : ParseError → List ℕ → Effect
+  garbled : List ℕ → Effect
   calls : (handler : ℕ) (command : ParsedCommand) → Effect
   exits : List ℕ → Effect
   panics : Effect
@@ -44,14 +48,17 @@ report (MissingValue opt) = println (ascii "Error: Option '" ++ opt ++ ascii "' 
 report (MissingRequiredOption opt) = println (ascii "Error: Missing required option '" ++ opt ++ ascii "'")
 report (NoHandler cmd) = println (ascii "Error: Command '" ++ cmd ++ ascii "' has no handler function")
 
+abbrev pub failed : ParseError → Effect
+failed e = fails e (report e)
+
 -- if let Some(handler) = current_node.handler { handler(&parsed); Ok(()) } else { Err(ParseError::NoHandler(parsed.command_path.join(" "))) }
 unfoldable pub handle : ParsedCommand → CommandNode → Effect
-handle parsed command = ifSome (handlerOf command) (λ handler. calls handler parsed) (prints (report (NoHandler (join (parsed .path)))))
+handle parsed command = ifSome (handlerOf command) (λ handler. calls handler parsed) (failed (NoHandler (join (parsed .path))))
 
 -- match execute_command(trimmed) { Ok(_) => {}, Err(ParseError::UnknownCommand(cmd)) => .. }
 abbrev pub executed : Commands → Result ParsedCommand → Effect
 executed tree (ok parsed) = ifSome (nodeAt tree (parsed .path)) (handle parsed) panics
-executed tree (err e) = prints (report e)
+executed tree (err e) = failed e
 
 unfoldable pub executeCommand : Commands → List ℕ → Effect
 executeCommand tree input = executed tree (parse tree input)
@@ -59,8 +66,8 @@ executeCommand tree input = executed tree (parse tree input)
 -- pub fn run_cmd_bytes(cmd_bytes: &[u8])
 unfoldable pub runCmdBytes : Commands → List ℕ → Effect
 runCmdBytes tree bytes =
-    cond (isUtf8 bytes) (cond (isEmpty (trimmed bytes)) (prints []) (executeCommand tree (trimmed bytes)))
-    (prints (println (ascii "Error: Input contains invalid UTF-8 characters")))
+    cond (isUtf8 bytes) (cond (isEmpty (trimmed bytes)) returns (executeCommand tree (trimmed bytes)))
+    (garbled (println (ascii "Error: Input contains invalid UTF-8 characters")))
 
 -- `\u{..}`: a character's code in hexadecimal, without a leading 0
 unfoldable pub hexIn : ℕ → ℕ → List ℕ
@@ -110,7 +117,7 @@ debugError printable e = variant e ++ ascii "(\"" ++ debugChars printable (codes
 -- if let Err(e) = show_help(&cmd_parts) { println!("Error: {:?}", e); }
 abbrev pub helped : (ℕ → Bool) → Result (List ℕ) → Effect
 helped printable (ok text) = prints text
-helped printable (err e) = prints (println (ascii "Error: " ++ debugError printable e))
+helped printable (err e) = fails e (println (ascii "Error: " ++ debugError printable e))
 
 -- pub fn handle_builtin_commands(input: &str) -> bool: what it does where it answers true, none where it answers false
 unfoldable pub handleBuiltinCommands : (ℕ → Bool) → Commands → List ℕ → Option Effect
