@@ -1,6 +1,7 @@
 -- The laws of the crate `rust`: on well-formed trees our definitions are the Rust's functions.
 pub mod Words
 pub mod Trees
+pub mod Supplied
 pub mod Maps
 pub mod Meanings
 pub mod Arguments
