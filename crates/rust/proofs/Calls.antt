@@ -15,11 +15,13 @@ use Rattle.words.specs.Tokens.{wordsOf, framesOf as wordFrames}
 use Rattle.words.specs.Answer.{written, answerFor as wordsAnswer, leavesBy as wordsLeft, leavesFor as wordsLeave, Tokenized}
 use Rattle.words.specs.declared.tokenizer.Tokens.{Tokens}
 use Rattle.words.specs.declared.tokenizer.Tokens.the-variants.{Words, NoRoom as WordsNoRoom}
-use Rattle.tree.specs.Images.{framesOf}
+use Rattle.frame.specs.Text.{Bytes}
+use Rattle.image.specs.Frames.{Frame}
+use Rattle.tree.specs.Images.{framesOf, flat}
 use Rattle.tree.specs.Rules.{checkTree}
 use Rattle.tree.specs.Forest.{Forest}
 use Rattle.tree.specs.declared.check.Checked.the-variants.{Good}
-use Rattle.tree.proofs.Forests.{StandsFor, forest-good}
+use Rattle.tree.proofs.Forests.{StandsFor, forest-good, good-forest}
 use Rattle.report.specs.Report.{faultOf}
 use Rattle.parse.specs.Commands.{Outcome, parsed, fault, parseLine}
 use Rattle.parse.specs.Answer.{toldIn, faultAnswer, namedAs, outcomeAnswer, outcomeLeaves, parseAnswer, parseLeaves, Parsing, number as parseNumber, value as parseValue}
@@ -32,23 +34,20 @@ use Rattle.shell.specs.Lines.{Said, silence, text, farewell, handed, beginsHelp
 use Rattle.shell.specs.Answer.{bytesOf as saidBytes, named, saidAnswer, saidLeaves, runAnswer, runLeaves, Running}
 use Rattle.shell.specs.declared.answer.Ran.{Ran}
 use Rattle.shell.specs.declared.answer.Ran.the-variants.{NoRoom as RunNoRoom}
-use Rattle.rust.specs.Tree.{commandsOf}
+use Rattle.trees.specs.Commands.{baseTree, fsTree}
+use Rattle.rust.specs.Tree.{Commands, commandsOf}
+use Rattle.rust.specs.Base.{buildCommandTree}
 use Rattle.rust.specs.Parser.{UnknownCommand, UnknownOption, MissingValue, MissingRequiredOption, tokenize, parse}
 use Rattle.rust.specs.Help.{showHelp}
 use Rattle.rust.specs.Shell.{textIn, enter}
 use Rattle.rust.specs.Same.{errorFor, resultFor, errorNumber, replyFor, seenOf, seenFor, allPrinted}
-use Rattle.rust.specs.Calls.{Writes, SplitsAs, parseBytes, resultNumber, ParsesAs, HelpsAs, seenBytes, Says, RunsAs}
+use Rattle.rust.specs.Calls.{Writes, SplitsAs, parseBytes, resultNumber, ParsesAs, HelpsAs, seenBytes, Says, RunsAs, Fair, SameAsRust}
+use Rattle.rust.proofs.Supplied.{BuiltAs, base-built, fs-built}
 use Rattle.rust.proofs.Words.{tokenize-is}
 use Rattle.rust.proofs.Parsing.{same-parse}
 use Rattle.rust.proofs.Helping.{same-help}
 use Rattle.rust.proofs.Executing.{report-same}
 use Rattle.rust.proofs.Running.{same-run}
-
--- THE DOMAIN
-pub record Within (image line : List ℕ) (f : Forest) : Type 0 where
-  pub tree : StandsFor image f
-  pub short : length line ≤ 1024
-  pub formed : wellFormedLength line ≡ length line
 
 -- one choice for the answer and one for the buffer, by whether the bytes fit
 module _ {A : Type 0} where
@@ -160,42 +159,58 @@ words-as line out =
     writes b b out (Words (length b)) (WordsNoRoom (length b)) (λ r. r ≡ Words (length b)) (λ r. r ≡ WordsNoRoom (length b)) refl refl refl
 
 -- THE CALLS
-module _ (line : List ℕ) (short : length line ≤ 1024) (formed : wellFormedLength line ≡ length line) (out left : List ℕ) where
-  pub splits-as : (r : Tokens) → Tokenized line out r left → SplitsAs (tokenize line) out r left
+module _ (line : List ℕ) (fair : Fair line) where
+  not-long : ltb 1024 (length line) ≡ false
+  not-long = le-ltb 1024 (length line) (fair .short)
+
+  not-broken : ltb (wellFormedLength line) (length line) ≡ false
+  not-broken = let e = fair .formed in le-ltb (wellFormedLength line) (length line) (omega arith)
+
+  pub splits-as : (out left : List ℕ) (r : Tokens) → Tokenized line out r left → SplitsAs (tokenize line) out r left
   unfolding wordsAnswer wordsLeave
-  splits-as r p =
+  splits-as out left r p =
       rw (
         p .answer,
         p .bytes,
-        le-ltb 1024 (length line) short,
-        le-ltb (wellFormedLength line) (length line) (omega arith),
+        not-long,
+        not-broken,
         tokenize-is line,
         either (λ r. wordsLeft r (written line) out) (ltb (length out) (length (written line))) (WordsNoRoom (length (written line))) (Words (length (written line))),
       )
       (words-as line out)
 
-module _ (image line : List ℕ) (f : Forest) (w : Within image line f) (out left : List ℕ) where
+module _ (image : List ℕ) (f : Forest) (stands : StandsFor image f) where
   good : checkTree image ≡ Good
-  good = forest-good image f (w .tree)
+  good = forest-good image f stands
 
-  not-long : ltb 1024 (length line) ≡ false
-  not-long = le-ltb 1024 (length line) (w .short)
-
-  not-broken : ltb (wellFormedLength line) (length line) ≡ false
-  not-broken = let e = w .formed in le-ltb (wellFormedLength line) (length line) (omega arith)
-
-  pub parses-as : (r : Parsed) → Parsing image line out r left → ParsesAs (parse (commandsOf f) line) out r left
+  parses-as : (line out left : List ℕ) (r : Parsed) → Fair line → Parsing image line out r left → ParsesAs (parse (commandsOf f) line) out r left
   unfolding parseAnswer parseLeaves
-  parses-as r p = rw (p .answer, p .bytes, good, not-long, not-broken, same-parse image line f (w .tree)) (outcome-as (parseLine image line) out)
+  parses-as line out left r fair p = rw (p .answer, p .bytes, good, not-long line fair, not-broken line fair, same-parse image line f stands) (outcome-as (parseLine image line) out)
 
-  pub helps-as : (r : Helped) → Helping image line out r left → HelpsAs (showHelp (commandsOf f) (wordsBetween line)) out r left
+  helps-as : (line out left : List ℕ) (r : Helped) → Fair line → Helping image line out r left → HelpsAs (showHelp (commandsOf f) (wordsBetween line)) out r left
   unfolding answerFor answerIn leavesFor helpLine
-  helps-as r p = rw (p .answer, p .bytes, good, not-long, not-broken, same-help image f (w .tree) (wordsBetween line)) (reply-as (helpLine image line) out)
+  helps-as line out left r fair p = rw (p .answer, p .bytes, good, not-long line fair, not-broken line fair, same-help image f stands (wordsBetween line)) (reply-as (helpLine image line) out)
 
--- running takes ill-formed lines too, as the Rust does
-module _ (image line : List ℕ) (f : Forest) (stands : StandsFor image f) (short : length line ≤ 1024) (out left : List ℕ) where
-  pub runs-as : (printable : ℕ → Bool) → (beginsHelp line ≡ true → allPrinted printable (codesIn line) ≡ true)
-      → (r : Ran) → Running image line out r left → RunsAs (seenOf (enter printable (commandsOf f) line)) out r left
+  runs-as : (printable : ℕ → Bool) (line out left : List ℕ) (r : Ran) → length line ≤ 1024 → (beginsHelp line ≡ true → allPrinted printable (codesIn line) ≡ true)
+      → Running image line out r left → RunsAs (seenOf (enter printable (commandsOf f) line)) out r left
   unfolding runAnswer runLeaves
-  runs-as printable printed r p =
-      rw (p .answer, p .bytes, forest-good image f stands, le-ltb 1024 (length line) short, same-run image f stands printable line printed) (said-as (saidOf (framesOf image) line) out)
+  runs-as printable line out left r short printed p =
+      rw (p .answer, p .bytes, good, le-ltb 1024 (length line) short, same-run image f stands printable line printed) (said-as (saidOf (framesOf image) line) out)
+
+  -- an image that stands for a forest, and the Rust's tree for that forest
+  pub same-as-rust : SameAsRust image (commandsOf f)
+  same-as-rust = record { parses = parses-as; helps = helps-as; runs = runs-as }
+
+-- every image that the test finds good
+pub good-same : (image : List ℕ) → Bytes image → checkTree image ≡ Good → (f : Forest) × StandsFor image f × SameAsRust image (commandsOf f)
+good-same image b e = let g = good-forest image b e in (g .0, g .1, same-as-rust image (g .0) (g .1))
+
+-- the supplied images, and the trees that the Rust's own builders build
+built-same : (frames : List Frame) (tree : Commands) → BuiltAs frames tree → SameAsRust (flat frames) tree
+built-same frames tree b = rw (← b .built) (same-as-rust (flat frames) (b .forest) (b .stands))
+
+pub base-same : SameAsRust (flat baseTree) (buildCommandTree false)
+base-same = built-same baseTree (buildCommandTree false) base-built
+
+pub fs-same : SameAsRust (flat fsTree) (buildCommandTree true)
+fs-same = built-same fsTree (buildCommandTree true) fs-built

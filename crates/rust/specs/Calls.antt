@@ -1,26 +1,33 @@
 -- What the calls answer and leave, said by what the Rust does: the bytes that are written, the number of 01 beside them, and 9 where they don't fit.
 use Prim.Native.Nat.{ℕ, _<_, _≤_}
 use mathlib.Core.Path.{_≡_}
+use mathlib.Core.Bool.{Bool, true}
 use mathlib.Core.List.{List, []}
 use mathlib.Core.Option.{Option, none, some}
 use lib.ListN.{length}
 use Rattle.buffer.specs.Write.{over}
+use Rattle.text.specs.Decoding.{codesIn, wellFormedLength}
+use Rattle.text.specs.Apart.{wordsBetween}
 use Rattle.frame.specs.Framed.{frameOf}
 use Rattle.words.specs.Tokens.{framesOf}
 use Rattle.words.specs.declared.tokenizer.Tokens.{Tokens}
 use Rattle.words.specs.declared.tokenizer.Tokens.the-variants.{Words, NoRoom as WordsNoRoom}
 use Rattle.report.specs.Report.{faultOf}
-use Rattle.parse.specs.Answer.{number as parseNumber, value as parseValue}
+use Rattle.parse.specs.Answer.{Parsing, number as parseNumber, value as parseValue}
 use Rattle.parse.specs.declared.answer.Parsed.{Parsed}
 use Rattle.parse.specs.declared.answer.Parsed.the-variants.{NoRoom as ParseNoRoom}
-use Rattle.help.specs.Answer.{number as helpNumber, value as helpValue}
+use Rattle.help.specs.Answer.{Helping, number as helpNumber, value as helpValue}
 use Rattle.help.specs.declared.call.Helped.{Helped}
 use Rattle.help.specs.declared.call.Helped.the-variants.{NoWords, NoRoom as HelpNoRoom}
+use Rattle.shell.specs.Lines.{beginsHelp}
+use Rattle.shell.specs.Answer.{Running}
 use Rattle.shell.specs.declared.answer.Ran.{Ran}
 use Rattle.shell.specs.declared.answer.Ran.the-variants.{Nothing, Text, Exit, Handler, NoRoom as RunNoRoom}
-use Rattle.rust.specs.Parser.{ParsedCommand, Result, ok, err}
-use Rattle.rust.specs.Shell.{textIn}
-use Rattle.rust.specs.Same.{reportFor, errorNumber, Seen, quiet, output, handed, ended, crashed}
+use Rattle.rust.specs.Tree.{Commands}
+use Rattle.rust.specs.Parser.{ParsedCommand, Result, ok, err, parse}
+use Rattle.rust.specs.Help.{showHelp}
+use Rattle.rust.specs.Shell.{textIn, enter}
+use Rattle.rust.specs.Same.{reportFor, errorNumber, Seen, quiet, output, handed, ended, crashed, seenOf, allPrinted}
 
 -- bytes at the front of a buffer where they fit, and an answer that says so; else nothing, and the other answer
 pub record Writes (bytes out left : List ℕ) (fits short : Type 0) : Type 0 where
@@ -73,3 +80,17 @@ Says crashed r = ⊥
 
 abbrev pub RunsAs : Seen → List ℕ → Ran → List ℕ → Type 0
 RunsAs seen out r left = Writes (seenBytes seen) out left (Says seen r) (r ≡ RunNoRoom (length (seenBytes seen)))
+
+-- THE WHOLE: a line in the Rust's domain is well-formed and within the limit
+pub record Fair (line : List ℕ) : Type 0 where
+  pub short : length line ≤ 1024
+  pub formed : wellFormedLength line ≡ length line
+
+-- under an image the calls do what the Rust does under a tree of its own. Running takes ill-formed lines too, as the Rust does; in a help line each character
+-- outside ASCII is to be one that the Rust prints as it is.
+pub record SameAsRust (image : List ℕ) (tree : Commands) : Type 0 where
+  pub parses : (line out left : List ℕ) (r : Parsed) → Fair line → Parsing image line out r left → ParsesAs (parse tree line) out r left
+  pub helps : (line out left : List ℕ) (r : Helped) → Fair line → Helping image line out r left → HelpsAs (showHelp tree (wordsBetween line)) out r left
+  pub runs : (printable : ℕ → Bool) (line out left : List ℕ) (r : Ran) → length line ≤ 1024
+      → (beginsHelp line ≡ true → allPrinted printable (codesIn line) ≡ true) → Running image line out r left
+      → RunsAs (seenOf (enter printable tree line)) out r left

@@ -1,4 +1,4 @@
--- The Rust's `CommandParser` on values.
+-- The Rust's `CommandParser` on values. Its `chars` is `codesIn`, `char::is_whitespace` is `isWhiteSpace`, and `push(ch)` adds `encode ch`.
 use Prim.Native.Nat.{ℕ, suc}
 use mathlib.Core.Bool.{Bool, true, false, cond, not}
 use mathlib.Core.List.{List, [], _∷_, _++_}

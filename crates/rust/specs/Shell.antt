@@ -1,4 +1,5 @@
--- The Rust's `run_cmd_bytes`, `execute_command` and `handle_builtin_commands` on values: what they print, call and end.
+-- The Rust's `run_cmd_bytes`, `execute_command` and `handle_builtin_commands` on values: what they print, call and end. Its `trim` and `split_whitespace` are
+-- `trimmed` and `wordsBetween`.
 use Prim.Native.Nat.{ℕ, zero, suc, _/_, _%_}
 use mathlib.Core.Bool.{Bool, true, false, cond, not}
 use mathlib.Core.List.{List, [], _∷_, _++_}
@@ -26,11 +27,11 @@ pub data Effect : Type 0 where
   exits : List ℕ → Effect
   panics : Effect
 
--- str::from_utf8(bytes), .unwrap_or("") where it is not well-formed
+-- whether str::from_utf8(bytes) is Ok
 unfoldable pub isUtf8 : List ℕ → Bool
 isUtf8 bytes = not (ltb (wellFormedLength bytes) (length bytes))
 
--- for cmd in &parsed.command_path[1..] { current_node = current_node.subcommands.get(cmd).unwrap(); }, of which none panics
+-- for cmd in &parsed.command_path[1..] { current_node = current_node.subcommands.get(cmd).unwrap(); }, where an unwrap() that panics is none
 unfoldable pub along : CommandNode → List (List ℕ) → Option CommandNode
 along command [] = some command
 along command (cmd ∷ path) = ifSome (get cmd (subcommandsOf command)) (λ subcommand. along subcommand path) none
