@@ -81,13 +81,13 @@ module _ (prompt : List ℕ) (s : State) (b : ℕ) where
 
 module _ (prompt : List ℕ) where
   -- the next byte, where typing goes on or a sequence has begun
-  then-typing : (s : State) (b : ℕ) → (b ≡ 0x1B → ⊥) → (s .mode ≡ Typing) ⊎ (s .mode ≡ Sequence) → turnOf prompt s b .after .mode ≡ Typing
+  pub then-typing : (s : State) (b : ℕ) → (b ≡ 0x1B → ⊥) → (s .mode ≡ Typing) ⊎ (s .mode ≡ Sequence) → turnOf prompt s b .after .mode ≡ Typing
   unfolding turnOf turnIn Ends
   then-typing s b n (inl m) = ap (λ (x : Mode). turnIn x prompt s b .after .mode) m ∙ typing-stays prompt s b m n
   then-typing s b n (inr m) = ap (λ (x : Mode). turnIn x prompt s b .after .mode) m ∙ sequence-ends prompt (inMode s Typing) b refl
 
   -- one byte that is not ESC leads to one of these
-  after-one : (s : State) (b : ℕ) → (b ≡ 0x1B → ⊥) → (m : Mode) → s .mode ≡ m
+  pub after-one : (s : State) (b : ℕ) → (b ≡ 0x1B → ⊥) → (m : Mode) → s .mode ≡ m
       → (turnOf prompt s b .after .mode ≡ Typing) ⊎ (turnOf prompt s b .after .mode ≡ Sequence)
   unfolding turnOf turnIn escaped
   after-one s b n Typing m = inl (then-typing s b n (inl m))

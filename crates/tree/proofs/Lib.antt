@@ -6,4 +6,5 @@ pub mod Wholes
 pub mod Growing
 pub mod Planting
 pub mod Forests
+pub mod Firsts
 pub mod Examples

@@ -1,0 +1,110 @@
+-- What holds of keys as they are called: two bring typing back, a full line drops a byte, and each does to state and screen what the Rust's loop does.
+use Prim.Native.Nat.{ℕ, _≤_}
+use mathlib.Core.Path.{_≡_, refl, sym, ap, _∙_}
+use mathlib.Core.Bool.{Bool, true, false, cond}
+use mathlib.Core.List.{List, []}
+use mathlib.Core.Logic.{_⊎_, inl, inr}
+use native.Mathlib.Omega.{arith}
+use lib.ListN.{length}
+use borrow.Author.Tests.{le-ltb}
+use Rattle.buffer.specs.Write.{over}
+use Rattle.buffer.proofs.Choices.{then-is, else-is}
+use Rattle.history.specs.Answer.{entriesIn}
+use Rattle.history.specs.declared.past.History.{History}
+use Rattle.history.proofs.Layouts.{entries-layout}
+use Rattle.editor.specs.declared.line.Mode.{Mode}
+use Rattle.editor.specs.declared.line.Mode.the-variants.{Typing, Sequence}
+use Rattle.editor.specs.declared.line.Editor.{Editor}
+use Rattle.editor.specs.declared.drawing.Key.{Key}
+use Rattle.editor.specs.declared.drawing.Pressed.the-variants.{Dropped}
+use Rattle.editor.specs.Line.{limit, holding}
+use Rattle.editor.specs.Keys.{State, Turn, drops, turnOf}
+use Rattle.editor.specs.Answer.{stateOf, editorOf, historyOf, slotsOf, goodState, goodPrompt, turnAnswer, keyAnswer, refused, Pressing}
+use Rattle.editor.specs.Rust.{Loop, rustKey}
+use Rattle.editor.proofs.Lines.{line-held, good-line, length-of}
+use Rattle.editor.proofs.Seats.{good-parts, holds-history, holds-editor, holds-slots, over-nothing}
+use Rattle.editor.proofs.Always.{then-typing, after-one, full-drops}
+use Rattle.editor.proofs.Fine.{Fine, fine-of, turn-fine}
+use Rattle.editor.proofs.Original.{shellOf, loopOf, same-key}
+
+-- the state that the parts of a state within the rules hold is that state
+pub held-state : (s : State) → Fine s → stateOf (editorOf s) (historyOf s) (slotsOf s) ≡ s
+unfolding stateOf editorOf historyOf slotsOf entriesIn holding
+held-state s f = parts (line-held (s .line) (s .cursor) (s .mode)) (entries-layout (s .entries) (f .entries .short))
+  where
+    parts : {l m : List ℕ} {es fs : List (List ℕ)} → l ≡ m → es ≡ fs
+        → _≡_ {A = State} (record { line = l; cursor = s .cursor; mode = s .mode; entries = es; place = s .place }) (record { line = m; cursor = s .cursor; mode = s .mode; entries = fs; place = s .place })
+    parts p q = cc
+
+same-state : {e e′ : Editor} {h h′ : History} {slots slots′ : List ℕ} → e ≡ e′ → h ≡ h′ → slots ≡ slots′ → stateOf e h slots ≡ stateOf e′ h′ slots′
+same-state p q r = cc
+
+-- one key, as it is called
+module _ (e : Editor) (h : History) (slots prompt : List ℕ) (byte : ℕ) (line screen : List ℕ) (k : Key) (slots′ line′ screen′ : List ℕ)
+    (p : Pressing e h slots prompt byte line screen k slots′ line′ screen′) where
+  turn : Turn
+  turn = turnOf prompt (stateOf e h slots) byte
+
+  module _ (taken : refused (k .answer) ≡ false) where
+    mode-after : k .editor .mode ≡ turn .after .mode
+    unfolding turn editorOf holding
+    mode-after = ap (λ (x : Editor). x .mode) (p .editor ∙ else-is _ _ _ taken)
+
+    -- its state and its screen are those that the Rust's loop makes of the state before
+    pub as-rust : goodState e h slots ≡ true
+        → (shellOf (stateOf (k .editor) (k .history) slots′) ≡ rustKey prompt (shellOf (stateOf e h slots)) byte .after)
+        × (screen′ ≡ over (rustKey prompt (shellOf (stateOf e h slots)) byte .stdout) screen)
+    unfolding turn
+    as-rust g =
+        let f = fine-of e h slots g in
+        let r : rustKey prompt (shellOf (stateOf e h slots)) byte ≡ loopOf turn = same-key prompt (stateOf e h slots) f byte in
+        let s : stateOf (k .editor) (k .history) slots′ ≡ turn .after =
+        same-state (p .editor ∙ else-is _ _ _ taken) (p .history ∙ else-is _ _ _ taken) (p .held ∙ else-is _ _ _ taken)
+        ∙ held-state (turn .after) (turn-fine prompt (stateOf e h slots) byte f) in (
+          ap shellOf s ∙ ap (λ (l : Loop). l .after) (sym r),
+          p .shown ∙ else-is _ _ _ taken ∙ ap (λ (l : Loop). over (l .stdout) screen) (sym r),
+        )
+
+  -- a byte typed into a full line is answered dropped, and nothing changes: not the state, not a byte of any buffer
+  module _ (g : goodState e h slots ≡ true) (fair : goodPrompt prompt ≡ true) (room : limit ≤ length line)
+      (typing : e .mode ≡ Typing) (full : limit ≤ e .length) (shown : 0x20 ≤ byte) (not-del : byte ≡ 0x7F → ⊥) where
+    nothing-done : turn ≡ record { kind = drops; after = stateOf e h slots; screen = []; submitted = [] }
+    unfolding turn stateOf
+    nothing-done =
+        let n = length-of e (good-line e (good-parts e h slots g .0)) .1 in
+        full-drops prompt (stateOf e h slots) byte typing (rw n full) shown not-del
+
+    pub dropped : (k .answer ≡ Dropped) × (k .editor ≡ e) × (k .history ≡ h) × (slots′ ≡ slots) × (line′ ≡ line) × (screen′ ≡ screen)
+    unfolding turn keyAnswer turnAnswer
+    dropped =
+        let good = good-parts e h slots g in (
+          p .answer
+              ∙ ap (λ (t : Turn). keyAnswer (goodState e h slots) prompt t (length line) (length screen)) nothing-done
+              ∙ then-is _ _ _ g ∙ then-is _ _ _ fair ∙ else-is _ _ _ (le-ltb (length line) limit room) ∙ else-is _ _ _ (le-ltb (length screen) 0 (omega arith)),
+          p .editor ∙ stays (refused (k .answer)) e _ (ap (λ (t : Turn). editorOf (t .after)) nothing-done ∙ holds-editor e h slots (good .0)),
+          p .history ∙ stays (refused (k .answer)) h _ (ap (λ (t : Turn). historyOf (t .after)) nothing-done ∙ holds-history e h slots),
+          p .held ∙ stays (refused (k .answer)) slots _ (ap (λ (t : Turn). slotsOf (t .after)) nothing-done ∙ holds-slots e h slots (good .1)),
+          p .given ∙ stays (refused (k .answer)) line _ (ap (λ (t : Turn). over (t .submitted) line) nothing-done ∙ over-nothing line),
+          p .shown ∙ stays (refused (k .answer)) screen _ (ap (λ (t : Turn). over (t .screen) screen) nothing-done ∙ over-nothing screen),
+        )
+      where
+        stays : {A : Type 0} (r : Bool) (x y : A) → y ≡ x → cond r x y ≡ x
+        stays true x y q = refl
+        stays false x y q = q
+
+-- two keys in a row that are taken, neither of them ESC, bring typing back
+carried : (m n : Mode) → n ≡ m → (m ≡ Typing) ⊎ (m ≡ Sequence) → (n ≡ Typing) ⊎ (n ≡ Sequence)
+carried m n e (inl q) = inl (e ∙ q)
+carried m n e (inr q) = inr (e ∙ q)
+
+module _ (e : Editor) (h : History) (slots : List ℕ)
+    (prompt : List ℕ) (byte : ℕ) (line screen : List ℕ) (k : Key) (slots₁ line₁ screen₁ : List ℕ) (p : Pressing e h slots prompt byte line screen k slots₁ line₁ screen₁)
+    (prompt′ : List ℕ) (byte′ : ℕ) (line′ screen′ : List ℕ) (k′ : Key) (slots₂ line₂ screen₂ : List ℕ)
+    (q : Pressing (k .editor) (k .history) slots₁ prompt′ byte′ line′ screen′ k′ slots₂ line₂ screen₂) where
+  pub typing-back : refused (k .answer) ≡ false → refused (k′ .answer) ≡ false → (byte ≡ 0x1B → ⊥) → (byte′ ≡ 0x1B → ⊥) → k′ .editor .mode ≡ Typing
+  unfolding stateOf turn
+  typing-back t t′ n n′ =
+      let s : State = stateOf e h slots in
+      mode-after _ _ _ _ _ _ _ _ _ _ _ q t′
+      ∙ then-typing prompt′ (stateOf (k .editor) (k .history) slots₁) byte′ n′
+      (carried (turnOf prompt s byte .after .mode) _ (mode-after _ _ _ _ _ _ _ _ _ _ _ p t) (after-one prompt s byte n (s .mode) refl))
