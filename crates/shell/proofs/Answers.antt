@@ -1,11 +1,10 @@
 -- The laws of the call: no second answer; no other command matters; and the report of a handler is parse's report of the trimmed line.
-use Prim.Native.Nat.{ℕ, min}
+use Prim.Native.Nat.{ℕ}
 use mathlib.Core.Path.{_≡_, refl, sym, ap, _∙_}
 use mathlib.Core.Bool.{Bool, true, false, cond}
 use mathlib.Core.List.{List, [], _∷_}
 use lib.Dec.{ltb, eqb}
 use lib.ListN.{length}
-use Rattle.buffer.proofs.Choices.{then-is}
 use Rattle.text.specs.Decoding.{wellFormedLength}
 use Rattle.text.specs.Apart.{trimmed, blank}
 use Rattle.image.specs.Frames.{Frame}
@@ -16,7 +15,7 @@ use Rattle.tree.specs.declared.check.Checked.the-variants.{Good}
 use Rattle.words.specs.Tokens.{wordsOf}
 use Rattle.parse.specs.Commands.{Outcome, parsed, fault, parseWords, parseLine}
 use Rattle.parse.specs.Answer.{toldIn, onChecked}
-use Rattle.parse.proofs.Answers.{AgreeOn}
+use Rattle.parse.proofs.Answers.{AgreeOn, else-alike}
 use Rattle.message.specs.Messages.{illFormed, clearScreen, message}
 use Rattle.message.specs.declared.told.Told.the-variants.{NoHandler}
 use Rattle.layout.specs.Texts.{availableText}
@@ -24,7 +23,7 @@ use Rattle.help.specs.Answer.{Reply, said, unknown, wordless, helpIn, helpOf}
 use Rattle.shell.specs.Lines.{Said, silence, text, farewell, handed, builtinOf, onBuiltin, beginsHelp, helpWords, helpSaid, joined, carried, executeIn, execute, otherSaid, lineSaid, saidOf}
 use Rattle.shell.specs.Answer.{saidAnswer, saidLeaves, runAnswer, runLeaves, Running}
 use Rattle.shell.specs.declared.answer.Ran.{Ran}
-use Rattle.shell.specs.declared.answer.Ran.the-variants.{BadTree, LineTooLong}
+use Rattle.shell.specs.declared.answer.Ran.the-variants.{BadTree}
 use Rattle.shell.specs.declared.builtin.Builtin.{Builtin}
 use Rattle.shell.specs.declared.builtin.Builtin.the-variants.{Help, Exit, Clear, None}
 
@@ -61,40 +60,29 @@ module _ (frames others : List Frame) where
   builtin-alike Clear k s t e = refl
   builtin-alike None k s t e = e
 
-  said-alike : (line : List ℕ) → (builtinOf (trimmed line) ≡ Help → ⊥) → AgreeOn frames others (naming line) → saidOf frames line ≡ saidOf others line
+  -- what is asked of the trees for a line: nothing of one that is over-long or ill-formed, which names no command
+  abbrev pub Agreeing : List ℕ → Type 0
+  Agreeing line =
+      ltb 1024 (length line) ≡ false → ltb (wellFormedLength line) (length line) ≡ false → (builtinOf (trimmed line) ≡ Help → ⊥) × AgreeOn frames others (naming line)
+
+  said-alike : (line : List ℕ) → Agreeing line → ltb 1024 (length line) ≡ false → saidOf frames line ≡ saidOf others line
   unfolding saidOf lineSaid otherSaid naming
-  said-alike line k e =
-      ap (λ (s : Said). cond (ltb (wellFormedLength line) (length line)) (text 3 illFormed) s)
-      (builtin-alike (builtinOf (trimmed line)) k _ _ (choice-alike (beginsHelp line) (blank line) (helpWords line) (wordsOf (trimmed line)) e))
-
-  ill-alike : (line : List ℕ) → ltb (wellFormedLength line) (length line) ≡ true → saidOf frames line ≡ saidOf others line
-  unfolding saidOf
-  ill-alike line e = then-is _ _ _ e ∙ sym (then-is _ _ _ e)
-
-  none-agree : (words : List (List ℕ)) → words ≡ [] → AgreeOn frames others words
-  none-agree words e = rw e tt
+  said-alike line e l =
+      else-alike (ltb (wellFormedLength line) (length line)) _ _ _
+      (λ w. builtin-alike (builtinOf (trimmed line)) (e l w .0) _ _ (choice-alike (beginsHelp line) (blank line) (helpWords line) (wordsOf (trimmed line)) (e l w .1)))
 
 -- as the call has it, under two well-formed trees
 module _ (image other line : List ℕ) (g : checkTree image ≡ Good) (h : checkTree other ≡ Good) (out left right : List ℕ) (r q : Ran) (a : Running image line out r left) (b : Running other line out q right) where
   both-good : {A : Type 0} (bad : ℕ → A) (x y : A) → x ≡ y → onChecked (checkTree image) bad x ≡ onChecked (checkTree other) bad y
   both-good bad x y e = ap (λ (z : Checked). onChecked z bad x) g ∙ e ∙ sym (ap (λ (z : Checked). onChecked z bad y) h)
 
-  alike : saidOf (framesOf image) line ≡ saidOf (framesOf other) line → (r ≡ q) × (left ≡ right)
+  pub other-commands : Agreeing (framesOf image) (framesOf other) line → (r ≡ q) × (left ≡ right)
   unfolding runAnswer runLeaves
-  alike e = (
-    a .answer ∙ both-good (λ n. BadTree n) _ _ (ap (λ (s : Said). cond (ltb 1024 (length line)) (LineTooLong (min (length line) 65535)) (saidAnswer s (length out))) e) ∙ sym (b .answer),
-    a .bytes ∙ both-good (λ n. out) _ _ (ap (λ (s : Said). cond (ltb 1024 (length line)) out (saidLeaves s out)) e) ∙ sym (b .bytes),
-  )
-
-  pub other-commands : (builtinOf (trimmed line) ≡ Help → ⊥) → AgreeOn (framesOf image) (framesOf other) (naming line) → (r ≡ q) × (left ≡ right)
-  other-commands k e = alike (said-alike (framesOf image) (framesOf other) line k e)
-
-  -- ill-formed and wordless lines name none
-  pub ill-formed-alike : ltb (wellFormedLength line) (length line) ≡ true → (r ≡ q) × (left ≡ right)
-  ill-formed-alike e = alike (ill-alike (framesOf image) (framesOf other) line e)
-
-  pub wordless-alike : (builtinOf (trimmed line) ≡ Help → ⊥) → naming line ≡ [] → (r ≡ q) × (left ≡ right)
-  wordless-alike k e = other-commands k (none-agree (framesOf image) (framesOf other) (naming line) e)
+  other-commands e =
+      let same = said-alike (framesOf image) (framesOf other) line e in (
+        a .answer ∙ both-good (λ n. BadTree n) _ _ (else-alike (ltb 1024 (length line)) _ _ _ (λ l. ap (λ (s : Said). saidAnswer s (length out)) (same l))) ∙ sym (b .answer),
+        a .bytes ∙ both-good (λ n. out) _ _ (else-alike (ltb 1024 (length line)) _ _ _ (λ l. ap (λ (s : Said). saidLeaves s out) (same l))) ∙ sym (b .bytes),
+      )
 
 -- THE REPORT of a handler is parse's report of the trimmed line
 module _ (handler : ℕ) (report : List ℕ) where
