@@ -6,4 +6,3 @@ pub mod Tellings
 pub mod Lines
 pub mod Answers
 pub mod Bounds
-mod Examples

@@ -5,4 +5,3 @@ pub mod Standing
 pub mod Laying
 pub mod Answers
 pub mod Kept
-mod Examples

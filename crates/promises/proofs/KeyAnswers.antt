@@ -1,0 +1,230 @@
+-- Demand 1 for keys and history: each call's refusals in the order of 01, with number, value, and what stands in each lent buffer and state.
+use Prim.Native.Nat.{ℕ, min}
+use mathlib.Core.Path.{_≡_, refl, ap, _∙_}
+use mathlib.Core.Bool.{Bool, true, false, cond, not}
+use mathlib.Core.List.{List, [], _∷_}
+use lib.Dec.{ltb, eqb}
+use lib.ListN.{length}
+use Rattle.buffer.specs.Write.{over}
+use Rattle.text.specs.Decoding.{wellFormedLength}
+use Rattle.history.specs.Entries.{wellFormed}
+use Rattle.history.specs.Slots.{layout, good}
+use Rattle.history.specs.Answer.{atEnd, entriesAfter, addAnswer, historyBy, slotsBy, Addition, number as addedNumber, value as addedValue}
+use Rattle.history.specs.declared.past.History.{History}
+use Rattle.history.specs.declared.adding.Added.{Added}
+use Rattle.history.specs.declared.adding.Added.the-variants.{Done, BadState as BadHistory, TooLong, IllFormed}
+use Rattle.screen.specs.Redraw.{redraw, greatest, roomAnswer, Redraw, leavesBy as drawnLeaves, number as drawnNumber, value as drawnValue}
+use Rattle.screen.specs.declared.line.Redrawn.{Redrawn}
+use Rattle.editor.specs.declared.line.Editor.{Editor}
+use Rattle.editor.specs.declared.drawing.Key.{Key}
+use Rattle.editor.specs.declared.drawing.Pressed.{Pressed}
+use Rattle.editor.specs.declared.drawing.Pressed.the-variants.{BadState, BadPrompt, NoRoom}
+use Rattle.editor.specs.Line.{limit, freshEditor, goodLine}
+use Rattle.editor.specs.Keys.{Kind, shows, enters, drops, Turn, turnOf}
+use Rattle.editor.specs.Answer.{stateOf, editorOf, historyOf, slotsOf, goodState, goodPrompt, taken, turnAnswer, keyAnswer, refused, Pressing, number as pressedNumber, value as pressedValue}
+use Rattle.saved.specs.State.{savedOf, isState, editorIn, historyIn, goodSaved}
+use Rattle.saved.specs.Calls.{beginAnswer, isReady, Beginning, turnIn, pressAnswer, savedAfter, SavedKey, savedAnswer, stateBy, SavedAdd}
+use Rattle.saved.specs.declared.calls.Begun.{Begun}
+use Rattle.saved.specs.declared.calls.Begun.the-variants.{Ready, NoRoom as NoSpace}
+use Rattle.abi.specs.Calls.{freshNumber, freshValue}
+use Rattle.promises.proofs.Tables.{Told, told, row, first, lacks, either, telling, pair}
+
+-- ADD_COMMAND: 12, 13, 3. A refusal keeps the record and the slots.
+unfoldable pub addTable : History → List ℕ → List ℕ → Told (History × List ℕ)
+addTable h slots text =
+    first
+    (row 12 (not (good (h .count) (h .place) slots)) 0 (h, slots)
+    ∷ row 13 (ltb 255 (length text)) (length text) (h, slots)
+    ∷ row 3 (not (wellFormed text)) (wellFormedLength text) (h, slots)
+    ∷ [])
+    (told 0 0 (atEnd (length (entriesAfter h slots text)), layout (entriesAfter h slots text)))
+
+pub add-tells : (h : History) (slots text : List ℕ) (r : History) (a : Added) (left : List ℕ) → Addition h slots text r a left
+    → told (addedNumber a) (addedValue a) (r, left) ≡ addTable h slots text
+unfolding addTable first addAnswer
+add-tells h slots text r a left t =
+    telling addedNumber addedValue _ _ (r, left) _ (t .answer) (pair (t .state) (t .bytes))
+    ∙ by (good (h .count) (h .place) slots) (ltb 255 (length text)) (wellFormed text)
+  where
+    tells : Added → Told (History × List ℕ)
+    tells x = told (addedNumber x) (addedValue x) (historyBy x h (entriesAfter h slots text), slotsBy x slots (entriesAfter h slots text))
+
+    by : (g l w : Bool) → tells (cond g (cond l (TooLong (length text)) (cond w Done (IllFormed (wellFormedLength text)))) BadHistory)
+        ≡ cond (not g) (told 12 0 (h, slots)) (cond l (told 13 (length text) (h, slots)) (cond (not w) (told 3 (wellFormedLength text) (h, slots)) (tells Done)))
+    by true true w = refl
+    by true false true = refl
+    by true false false = refl
+    by false l w = refl
+
+-- CLEAR_LINE_AND_REDRAW: 9. A length needed that is above the greatest number of 64 bits is given as that one.
+unfoldable pub redrawTable : List ℕ → List ℕ → Told (List ℕ)
+redrawTable bytes out = first (row 9 (lacks bytes out) (min (length bytes) greatest) out ∷ []) (told 0 (length bytes) (over bytes out))
+
+pub redraw-tells : (prompt content : List ℕ) (cursor : ℕ) (out : List ℕ) (r : Redrawn) (left : List ℕ) → Redraw prompt content cursor out r left
+    → told (drawnNumber r) (drawnValue r) left ≡ redrawTable (redraw prompt content cursor) out
+unfolding redrawTable first roomAnswer
+redraw-tells prompt content cursor out r left t =
+    telling drawnNumber drawnValue _ _ _ _ (t .answer) (t .bytes) ∙ either tells (lacks (redraw prompt content cursor) out) _ _ _ _ refl refl
+  where
+    tells : Redrawn → Told (List ℕ)
+    tells x = told (drawnNumber x) (drawnValue x) (drawnLeaves x (redraw prompt content cursor) out)
+
+-- KEY: 12, 11, 9, a line buffer under 255 first, at every key. What a key holds and is lent:
+pub record Seat : Type 0 where
+  pub editor : Editor
+  pub history : History
+  pub slots : List ℕ
+  pub line : List ℕ
+  pub screen : List ℕ
+
+-- what a key that is taken leaves: the state after its turn, the line that it submits, the bytes that it shows
+abbrev pub seatAfter : Turn → List ℕ → List ℕ → Seat
+seatAfter t line screen =
+    record {
+      editor = editorOf (t .after);
+      history = historyOf (t .after);
+      slots = slotsOf (t .after);
+      line = over (t .submitted) line;
+      screen = over (t .screen) screen;
+    }
+
+abbrev pub keyRows : {L : Type 0} → Bool → List ℕ → Turn → List ℕ → List ℕ → L → L → Told L
+keyRows is prompt t line screen kept after =
+    first
+    (row 12 (not is) 0 kept
+    ∷ row 11 (not (goodPrompt prompt)) (length prompt) kept
+    ∷ row 9 (ltb (length line) limit) limit kept
+    ∷ row 9 (lacks (t .screen) screen) (length (t .screen)) kept
+    ∷ [])
+    (told 0 (pressedValue (taken t (t .kind))) after)
+
+unfoldable pub keyTable : Seat → List ℕ → ℕ → Told Seat
+keyTable s prompt byte =
+    let t : Turn = turnOf prompt (stateOf (s .editor) (s .history) (s .slots)) byte in
+    keyRows (goodState (s .editor) (s .history) (s .slots)) prompt t (s .line) (s .screen) s (seatAfter t (s .line) (s .screen))
+
+-- a key's answer tells what its rows tell: a refusal keeps all
+abbrev keyTells : {L : Type 0} → L → L → Pressed → Told L
+keyTells kept after x = told (pressedNumber x) (pressedValue x) (cond (refused x) kept after)
+
+key-rows : {L : Type 0} (is : Bool) (prompt : List ℕ) (t : Turn) (line screen : List ℕ) (kept after : L)
+    → keyTells kept after (keyAnswer is prompt t (length line) (length screen)) ≡ keyRows is prompt t line screen kept after
+unfolding first keyAnswer turnAnswer
+key-rows is prompt t line screen kept after = by is (goodPrompt prompt) (ltb (length line) limit) (lacks (t .screen) screen) (t .kind)
+  where
+    by : (g p l s : Bool) (k : Kind)
+        → keyTells kept after (cond g (cond p (cond l (NoRoom limit) (cond s (NoRoom (length (t .screen))) (taken t k))) (BadPrompt (length prompt))) BadState)
+        ≡ cond (not g) (told 12 0 kept) (cond (not p) (told 11 (length prompt) kept) (cond l (told 9 limit kept) (cond s (told 9 (length (t .screen)) kept) (told 0 (pressedValue (taken t k)) after))))
+    by true true true s k = refl
+    by true true false true k = refl
+    by true true false false shows = refl
+    by true true false false enters = refl
+    by true true false false drops = refl
+    by true false l s k = refl
+    by false p l s k = refl
+
+pub key-tells : (s : Seat) (prompt : List ℕ) (byte : ℕ) (k : Key) (slots line screen : List ℕ)
+    → Pressing (s .editor) (s .history) (s .slots) prompt byte (s .line) (s .screen) k slots line screen
+    → told (pressedNumber (k .answer)) (pressedValue (k .answer)) (record { editor = k .editor; history = k .history; slots = slots; line = line; screen = screen }) ≡ keyTable s prompt byte
+unfolding keyTable
+key-tells s prompt byte k slots line screen p =
+    let t : Turn = turnOf prompt (stateOf (s .editor) (s .history) (s .slots)) byte in
+    ap (told (pressedNumber (k .answer)) (pressedValue (k .answer))) (chosen (refused (k .answer)) s (seatAfter t (s .line) (s .screen)) (p .editor) (p .history) (p .held) (p .given) (p .shown))
+    ∙ ap (keyTells s (seatAfter t (s .line) (s .screen))) (p .answer)
+    ∙ key-rows (goodState (s .editor) (s .history) (s .slots)) prompt t (s .line) (s .screen) s (seatAfter t (s .line) (s .screen))
+  where
+    parts : {e e′ : Editor} {h h′ : History} {x y z x′ y′ z′ : List ℕ} → e ≡ e′ → h ≡ h′ → x ≡ x′ → y ≡ y′ → z ≡ z′
+        → _≡_ {A = Seat} (record { editor = e; history = h; slots = x; line = y; screen = z }) (record { editor = e′; history = h′; slots = x′; line = y′; screen = z′ })
+    parts p q u v w = cc
+
+    chosen : (r : Bool) (a b : Seat) {e : Editor} {h : History} {x y z : List ℕ}
+        → e ≡ cond r (a .editor) (b .editor) → h ≡ cond r (a .history) (b .history) → x ≡ cond r (a .slots) (b .slots) → y ≡ cond r (a .line) (b .line) → z ≡ cond r (a .screen) (b .screen)
+        → _≡_ {A = Seat} (record { editor = e; history = h; slots = x; line = y; screen = z }) (cond r a b)
+    chosen true a b p q u v w = parts p q u v w
+    chosen false a b p q u v w = parts p q u v w
+
+-- PRESS, the same on a saved state, with all that it is lent: state, slots, line buffer, screen
+abbrev pub Lent : Type 0
+Lent = List ℕ × List ℕ × List ℕ × List ℕ
+
+abbrev pub lentAfter : Turn → List ℕ → List ℕ → Lent
+lentAfter t line screen = (savedAfter (t .after), slotsOf (t .after), over (t .submitted) line, over (t .screen) screen)
+
+unfoldable pub pressTable : List ℕ → List ℕ → List ℕ → ℕ → List ℕ → List ℕ → Told Lent
+pressTable state slots prompt byte line screen =
+    let t : Turn = turnIn state slots prompt byte in keyRows (goodSaved state slots) prompt t line screen (state, slots, line, screen) (lentAfter t line screen)
+
+pub press-tells : (state slots prompt : List ℕ) (byte : ℕ) (line screen : List ℕ) (r : Pressed) (state′ slots′ line′ screen′ : List ℕ)
+    → SavedKey state slots prompt byte line screen r state′ slots′ line′ screen′
+    → told (pressedNumber r) (pressedValue r) (state′, slots′, line′, screen′) ≡ pressTable state slots prompt byte line screen
+unfolding pressTable pressAnswer
+press-tells state slots prompt byte line screen r state′ slots′ line′ screen′ p =
+    let t : Turn = turnIn state slots prompt byte in
+    let kept : Lent = (state, slots, line, screen) in
+    ap (told (pressedNumber r) (pressedValue r)) (chosen (refused r) kept (lentAfter t line screen) (p .kept) (p .held) (p .given) (p .shown))
+    ∙ ap (keyTells kept (lentAfter t line screen)) (p .answer)
+    ∙ key-rows (goodSaved state slots) prompt t line screen kept (lentAfter t line screen)
+  where
+    parts : {a b c d a′ b′ c′ d′ : List ℕ} → a ≡ a′ → b ≡ b′ → c ≡ c′ → d ≡ d′ → _≡_ {A = Lent} (a, b, c, d) (a′, b′, c′, d′)
+    parts p q u v = cc
+
+    chosen : (u : Bool) (x y : Lent) {a b c d : List ℕ} → a ≡ cond u (x .0) (y .0) → b ≡ cond u (x .1) (y .1) → c ≡ cond u (x .2) (y .2) → d ≡ cond u (x .3) (y .3)
+        → _≡_ {A = Lent} (a, b, c, d) (cond u x y)
+    chosen true x y p q v w = parts p q v w
+    chosen false x y p q v w = parts p q v w
+
+-- ADD on a saved state: 12 also for a bad line, 13, 3
+unfoldable pub savedAddTable : List ℕ → List ℕ → List ℕ → Told (List ℕ × List ℕ)
+savedAddTable state slots text =
+    let es : List (List ℕ) = entriesAfter (historyIn state) slots text in
+    first
+    (row 12 (not (goodSaved state slots)) 0 (state, slots)
+    ∷ row 13 (ltb 255 (length text)) (length text) (state, slots)
+    ∷ row 3 (not (wellFormed text)) (wellFormedLength text) (state, slots)
+    ∷ [])
+    (told 0 0 (savedOf (editorIn state) (atEnd (length es)), layout es))
+
+pub saved-add-tells : (state slots text : List ℕ) (r : Added) (state′ slots′ : List ℕ) → SavedAdd state slots text r state′ slots′
+    → told (addedNumber r) (addedValue r) (state′, slots′) ≡ savedAddTable state slots text
+unfolding savedAddTable first savedAnswer addAnswer goodSaved goodState
+saved-add-tells state slots text r state′ slots′ p =
+    ap (told (addedNumber r) (addedValue r)) (pair (p .kept) (p .held))
+    ∙ ap tells (p .answer)
+    ∙ by (isState state) (goodLine (editorIn state)) (good (historyIn state .count) (historyIn state .place) slots) (ltb 255 (length text)) (wellFormed text)
+  where
+    tells : Added → Told (List ℕ × List ℕ)
+    tells x =
+        told (addedNumber x) (addedValue x)
+        (stateBy x state (length (entriesAfter (historyIn state) slots text)), slotsBy x slots (entriesAfter (historyIn state) slots text))
+
+    by : (s g h l w : Bool) → tells (cond s (cond g (cond h (cond l (TooLong (length text)) (cond w Done (IllFormed (wellFormedLength text)))) BadHistory) BadHistory) BadHistory)
+        ≡ cond (not (cond s (cond g h false) false)) (told 12 0 (state, slots)) (cond l (told 13 (length text) (state, slots)) (cond (not w) (told 3 (wellFormedLength text) (state, slots)) (tells Done)))
+    by true true true true w = refl
+    by true true true false true = refl
+    by true true true false false = refl
+    by true true false l w = refl
+    by true false h l w = refl
+    by false g h l w = refl
+
+-- BEGIN: 9, the state's buffer first; each has exactly one right length
+unfoldable pub beginTable : List ℕ → List ℕ → Told (List ℕ × List ℕ)
+beginTable state slots =
+    first
+    (row 9 (not (eqb (length state) 260)) 260 (state, slots)
+    ∷ row 9 (not (eqb (length slots) 25600)) 25600 (state, slots)
+    ∷ [])
+    (told 0 0 (savedOf freshEditor (atEnd 0), layout []))
+
+pub begin-tells : (state slots : List ℕ) (r : Begun) (state′ slots′ : List ℕ) → Beginning state slots r state′ slots′
+    → told (freshNumber r) (freshValue r) (state′, slots′) ≡ beginTable state slots
+unfolding beginTable first beginAnswer
+begin-tells state slots r state′ slots′ p =
+    ap (told (freshNumber r) (freshValue r)) (pair (p .kept) (p .held)) ∙ ap tells (p .answer) ∙ by (eqb (length state) 260) (eqb (length slots) 25600)
+  where
+    tells : Begun → Told (List ℕ × List ℕ)
+    tells x = told (freshNumber x) (freshValue x) (cond (isReady x) (savedOf freshEditor (atEnd 0)) state, cond (isReady x) (layout []) slots)
+
+    by : (a b : Bool) → tells (cond a (cond b Ready (NoSpace 25600)) (NoSpace 260)) ≡ cond (not a) (told 9 260 (state, slots)) (cond (not b) (told 9 25600 (state, slots)) (tells Ready))
+    by true true = refl
+    by true false = refl
+    by false b = refl

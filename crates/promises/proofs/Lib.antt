@@ -1,0 +1,9 @@
+-- The promises, each in a file to be read from top to bottom: demand 1 (Answers, KeyAnswers, OneAnswer, Lasting), 2 (SameAsRust), 3 (OtherCommands), and the marked examples.
+pub mod Tables
+pub mod Answers
+pub mod KeyAnswers
+pub mod OneAnswer
+pub mod Lasting
+pub mod SameAsRust
+pub mod OtherCommands
+pub mod Marked
