@@ -1,10 +1,11 @@
--- What holds of keys as they are called: two bring typing back, a full line drops a byte, and each does to state and screen what the Rust's loop does.
+-- What holds of keys as they are called: two bring typing back, a full line drops a byte, the value counts the bytes shown, and each does what the Rust's loop does.
 use Prim.Native.Nat.{ℕ, _≤_}
 use mathlib.Core.Path.{_≡_, refl, sym, ap, _∙_}
 use mathlib.Core.Bool.{Bool, true, false, cond}
 use mathlib.Core.List.{List, []}
 use mathlib.Core.Logic.{_⊎_, inl, inr}
 use native.Mathlib.Omega.{arith}
+use lib.Dec.{eqb, ltb}
 use lib.ListN.{length}
 use borrow.Author.Tests.{le-ltb}
 use Rattle.buffer.specs.Write.{over}
@@ -13,13 +14,13 @@ use Rattle.history.specs.Answer.{entriesIn}
 use Rattle.history.specs.declared.past.History.{History}
 use Rattle.history.proofs.Layouts.{entries-layout}
 use Rattle.editor.specs.declared.line.Mode.{Mode}
-use Rattle.editor.specs.declared.line.Mode.the-variants.{Typing, Sequence}
+use Rattle.editor.specs.declared.line.Mode.the-variants.{Typing, Escape, Sequence}
 use Rattle.editor.specs.declared.line.Editor.{Editor}
 use Rattle.editor.specs.declared.drawing.Key.{Key}
 use Rattle.editor.specs.declared.drawing.Pressed.the-variants.{Dropped}
 use Rattle.editor.specs.Line.{limit, holding}
-use Rattle.editor.specs.Keys.{State, Turn, drops, turnOf}
-use Rattle.editor.specs.Answer.{stateOf, editorOf, historyOf, slotsOf, goodState, goodPrompt, turnAnswer, keyAnswer, refused, Pressing}
+use Rattle.editor.specs.Keys.{State, Turn, drops, inMode, enter, erase, insert, typed, escaped, up, onPlace, down, right, left, sequenced, turnIn, turnOf}
+use Rattle.editor.specs.Answer.{stateOf, editorOf, historyOf, slotsOf, goodState, goodPrompt, taken, turnAnswer, keyAnswer, refused, Pressing, value}
 use Rattle.editor.specs.Rust.{Loop, rustKey}
 use Rattle.editor.proofs.Lines.{line-held, good-line, length-of}
 use Rattle.editor.proofs.Seats.{good-parts, holds-history, holds-editor, holds-slots, over-nothing}
@@ -45,10 +46,10 @@ module _ (e : Editor) (h : History) (slots prompt : List ℕ) (byte : ℕ) (line
   turn : Turn
   turn = turnOf prompt (stateOf e h slots) byte
 
-  module _ (taken : refused (k .answer) ≡ false) where
+  module _ (is : refused (k .answer) ≡ false) where
     mode-after : k .editor .mode ≡ turn .after .mode
     unfolding turn editorOf holding
-    mode-after = ap (λ (x : Editor). x .mode) (p .editor ∙ else-is _ _ _ taken)
+    mode-after = ap (λ (x : Editor). x .mode) (p .editor ∙ else-is _ _ _ is)
 
     -- its state and its screen are those that the Rust's loop makes of the state before
     pub as-rust : goodState e h slots ≡ true
@@ -59,10 +60,10 @@ module _ (e : Editor) (h : History) (slots prompt : List ℕ) (byte : ℕ) (line
         let f = fine-of e h slots g in
         let r : rustKey prompt (shellOf (stateOf e h slots)) byte ≡ loopOf turn = same-key prompt (stateOf e h slots) f byte in
         let s : stateOf (k .editor) (k .history) slots′ ≡ turn .after =
-        same-state (p .editor ∙ else-is _ _ _ taken) (p .history ∙ else-is _ _ _ taken) (p .held ∙ else-is _ _ _ taken)
+        same-state (p .editor ∙ else-is _ _ _ is) (p .history ∙ else-is _ _ _ is) (p .held ∙ else-is _ _ _ is)
         ∙ held-state (turn .after) (turn-fine prompt (stateOf e h slots) byte f) in (
           ap shellOf s ∙ ap (λ (l : Loop). l .after) (sym r),
-          p .shown ∙ else-is _ _ _ taken ∙ ap (λ (l : Loop). over (l .stdout) screen) (sym r),
+          p .shown ∙ else-is _ _ _ is ∙ ap (λ (l : Loop). over (l .stdout) screen) (sym r),
         )
 
   -- a byte typed into a full line is answered dropped, and nothing changes: not the state, not a byte of any buffer
@@ -91,6 +92,49 @@ module _ (e : Editor) (h : History) (slots prompt : List ℕ) (byte : ℕ) (line
         stays : {A : Type 0} (r : Bool) (x y : A) → y ≡ x → cond r x y ≡ x
         stays true x y q = refl
         stays false x y q = q
+
+-- the value of a key that is taken is the number of bytes that it shows
+Counts : Turn → Type 0
+Counts t = value (taken t (t .kind)) ≡ length (t .screen)
+
+either : (b : Bool) (t u : Turn) → Counts t → Counts u → Counts (cond b t u)
+either true t u p q = p
+either false t u p q = q
+
+module _ (prompt : List ℕ) where
+  typed-counts : (s : State) (b : ℕ) → Counts (typed prompt s b)
+  unfolding typed enter erase insert Counts
+  typed-counts s b =
+      either (eqb b 0x0D) _ _ entered
+      (either (eqb b 0x0A) _ _ entered
+      (either (eqb b 0x08) _ _ erased
+      (either (eqb b 0x7F) _ _ erased
+      (either (eqb b 0x1B) _ _ refl (either (ltb b 0x20) _ _ refl (either (ltb (length (s .line)) limit) _ _ refl refl))))))
+    where
+      entered : Counts (enter s)
+      entered = either (eqb (length (s .line)) 0) _ _ refl refl
+
+      erased : Counts (erase prompt s)
+      erased = either (eqb (s .cursor) 0) _ _ refl refl
+
+  sequenced-counts : (s : State) (b : ℕ) → Counts (sequenced prompt s b)
+  unfolding sequenced up down right left Counts
+  sequenced-counts s b =
+      either (eqb b 0x41) _ _ (either (eqb (s .place) 0) _ _ refl refl)
+      (either (eqb b 0x42) _ _ (either (ltb (onPlace s) (length (s .entries))) _ _ refl refl)
+      (either (eqb b 0x43) _ _ (either (ltb (s .cursor) (length (s .line))) _ _ refl refl)
+      (either (eqb b 0x44) _ _ (either (eqb (s .cursor) 0) _ _ refl refl)
+      refl)))
+
+  mode-counts : (m : Mode) (s : State) (b : ℕ) → Counts (turnIn m prompt s b)
+  unfolding turnIn escaped Counts
+  mode-counts Typing s b = typed-counts s b
+  mode-counts Escape s b = refl
+  mode-counts Sequence s b = sequenced-counts (inMode s Typing) b
+
+  pub shown-counted : (s : State) (b : ℕ) → value (taken (turnOf prompt s b) (turnOf prompt s b .kind)) ≡ length (turnOf prompt s b .screen)
+  unfolding turnOf Counts
+  shown-counted s b = mode-counts (s .mode) s b
 
 -- two keys in a row that are taken, neither of them ESC, bring typing back
 carried : (m n : Mode) → n ≡ m → (m ≡ Typing) ⊎ (m ≡ Sequence) → (n ≡ Typing) ⊎ (n ≡ Sequence)

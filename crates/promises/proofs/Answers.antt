@@ -1,5 +1,5 @@
 -- Demand 1 for lines and trees: each call's refusals in the order of 01, with number, value, and what stands in the lent buffer.
-use Prim.Native.Nat.{ℕ, min}
+use Prim.Native.Nat.{ℕ, _≤_, min}
 use mathlib.Core.Path.{_≡_, refl, ap, _∙_}
 use mathlib.Core.Bool.{Bool, true, false, cond}
 use mathlib.Core.List.{List, [], _∷_}
@@ -14,17 +14,21 @@ use Rattle.quote.specs.Given.{listed, Judged, bad, fine, judge}
 use Rattle.quote.specs.Answer.{quoteLine, lineAnswer, quoteAnswer, lineOf, quoteLeaves, Quotation, leavesBy as quotedLeaves, number as quotedNumber, value as quotedValue}
 use Rattle.quote.specs.declared.quoter.Quoted.{Quoted}
 use Rattle.image.specs.Frames.{Frame}
-use Rattle.tree.specs.Images.{framesOf}
-use Rattle.tree.specs.Rules.{checkTree}
+use Rattle.tree.specs.Images.{items, framesOf}
+use Rattle.tree.specs.Rules.{start, checkTree, judge as judgeTree}
+use Rattle.tree.specs.Forest.{Forest}
 use Rattle.tree.specs.Answer.{number as treeNumber, value as treeValue}
 use Rattle.tree.specs.declared.check.Checked.{Checked}
 use Rattle.tree.specs.declared.check.Checked.the-variants.{Good, BadFrame}
+use Rattle.tree.proofs.Firsts.{FirstBad, first-bad}
+use Rattle.tree.proofs.Forests.{StandsFor, good-forest, forest-good}
 use Rattle.lookup.specs.Subtrees.{subtree}
 use Rattle.parse.specs.Commands.{Outcome, parsed, fault, parseLine}
 use Rattle.parse.specs.Answer.{toldIn, namedAs, outcomeAnswer, outcomeLeaves, onChecked, parseAnswer, parseLeaves, Parsing, number as parsedNumber, value as parsedValue}
 use Rattle.parse.specs.declared.answer.Parsed.{Parsed}
 use Rattle.parse.specs.declared.answer.Parsed.the-variants.{BadTree, NoRoom}
 use Rattle.parse.proofs.Answers.{Numbered, report, four, five, six, seven, numbered}
+use Rattle.frame.specs.Text.{Bytes}
 use Rattle.frame.specs.Framed.{frameOf}
 use Rattle.layout.specs.Texts.{helpText}
 use Rattle.message.specs.Messages.{goodbye}
@@ -93,21 +97,39 @@ quote-tells words out r left t = telling quotedNumber quotedValue _ _ _ _ (t .an
     by (bad n) e = rw e
     by (fine ws) e = rw e (either (tells (quoteLine ws)) (tooLong (quoteLine ws)) _ _ _ _ refl (either (tells (quoteLine ws)) (lacks (quoteLine ws) out) _ _ _ _ refl refl))
 
--- CHECK_TREE: 1. Over the byte limit the frame is 0; otherwise it is the first that breaks a rule (tree's law `first-bad`).
+-- CHECK_TREE: 1. Over the byte limit the frame is 0, and that is tested first.
 abbrev pub isBadTree : Checked → Bool
 isBadTree Good = false
 isBadTree (BadFrame n) = true
 
 unfoldable pub checkTable : List ℕ → Told (Unit {0})
-checkTable image = first (row 1 (isBadTree (checkTree image)) (treeValue (checkTree image)) tt ∷ []) (told 0 0 tt)
+checkTable image =
+    first
+    (row 1 (ltb 32768 (length image)) 0 tt
+    ∷ row 1 (isBadTree (judgeTree start 0 (items image))) (treeValue (judgeTree start 0 (items image))) tt
+    ∷ [])
+    (told 0 0 tt)
 
 pub check-tells : (image : List ℕ) (r : Checked) → r ≡ checkTree image → told (treeNumber r) (treeValue r) tt ≡ checkTable image
-unfolding checkTable first
-check-tells image r e = ap (λ (x : Checked). told (treeNumber x) (treeValue x) tt) e ∙ by (checkTree image)
+unfolding checkTable first checkTree
+check-tells image r e = ap tells e ∙ either tells (ltb 32768 (length image)) _ _ _ _ refl (by (judgeTree start 0 (items image)))
   where
-    by : (c : Checked) → _≡_ {A = Told (Unit {0})} (told (treeNumber c) (treeValue c) tt) (cond (isBadTree c) (told 1 (treeValue c) tt) (told 0 0 tt))
+    tells : Checked → Told (Unit {0})
+    tells c = told (treeNumber c) (treeValue c) tt
+
+    by : (c : Checked) → tells c ≡ cond (isBadTree c) (told 1 (treeValue c) tt) (told 0 0 tt)
     by Good = refl
     by (BadFrame n) = refl
+
+-- that frame is the first that breaks a rule: all before it obey, and it does not; and an image that is not refused is the flattening of a forest, as is no other
+pub first-frame : (image : List ℕ) (n : ℕ) → length image ≤ 32768 → checkTree image ≡ BadFrame n → FirstBad start 0 (items image) n
+first-frame = first-bad
+
+pub a-forest : (image : List ℕ) → Bytes image → checkTree image ≡ Good → (forest : Forest) × StandsFor image forest
+a-forest = good-forest
+
+pub every-forest : (image : List ℕ) (forest : Forest) → StandsFor image forest → checkTree image ≡ Good
+every-forest = forest-good
 
 -- PARSE: 1, 2, 3, 4 to 7, 9. Faults 4 to 7 write their frame, and where it doesn't fit 9 is answered instead: so 9 is asked before them.
 abbrev pub isFault : ℕ → Outcome → Bool

@@ -22,12 +22,13 @@ use Rattle.editor.specs.declared.drawing.Pressed.the-variants.{BadState, BadPro
 use Rattle.editor.specs.Line.{limit, freshEditor, goodLine}
 use Rattle.editor.specs.Keys.{Kind, shows, enters, drops, Turn, turnOf}
 use Rattle.editor.specs.Answer.{stateOf, editorOf, historyOf, slotsOf, goodState, goodPrompt, taken, turnAnswer, keyAnswer, refused, Pressing, number as pressedNumber, value as pressedValue}
+use Rattle.editor.proofs.Called.{shown-counted}
 use Rattle.saved.specs.State.{savedOf, isState, editorIn, historyIn, goodSaved}
 use Rattle.saved.specs.Calls.{beginAnswer, isReady, Beginning, turnIn, pressAnswer, savedAfter, SavedKey, savedAnswer, stateBy, SavedAdd}
 use Rattle.saved.specs.declared.calls.Begun.{Begun}
 use Rattle.saved.specs.declared.calls.Begun.the-variants.{Ready, NoRoom as NoSpace}
 use Rattle.abi.specs.Calls.{freshNumber, freshValue}
-use Rattle.promises.proofs.Tables.{Told, told, row, first, lacks, either, telling, pair}
+use Rattle.promises.proofs.Tables.{Told, told, Row, row, first, lacks, either, telling, pair}
 
 -- ADD_COMMAND: 12, 13, 3. A refusal keeps the record and the slots.
 unfoldable pub addTable : History → List ℕ → List ℕ → Told (History × List ℕ)
@@ -88,15 +89,17 @@ seatAfter t line screen =
       screen = over (t .screen) screen;
     }
 
-abbrev pub keyRows : {L : Type 0} → Bool → List ℕ → Turn → List ℕ → List ℕ → L → L → Told L
-keyRows is prompt t line screen kept after =
-    first
-    (row 12 (not is) 0 kept
+abbrev pub keyRefusals : {L : Type 0} → Bool → List ℕ → Turn → List ℕ → List ℕ → L → List (Row L)
+keyRefusals is prompt t line screen kept =
+    row 12 (not is) 0 kept
     ∷ row 11 (not (goodPrompt prompt)) (length prompt) kept
     ∷ row 9 (ltb (length line) limit) limit kept
     ∷ row 9 (lacks (t .screen) screen) (length (t .screen)) kept
-    ∷ [])
-    (told 0 (pressedValue (taken t (t .kind))) after)
+    ∷ []
+
+-- the value of a key that is taken is the number of bytes that it shows
+abbrev pub keyRows : {L : Type 0} → Bool → List ℕ → Turn → List ℕ → List ℕ → L → L → Told L
+keyRows is prompt t line screen kept after = first (keyRefusals is prompt t line screen kept) (told 0 (length (t .screen)) after)
 
 unfoldable pub keyTable : Seat → List ℕ → ℕ → Told Seat
 keyTable s prompt byte =
@@ -107,10 +110,12 @@ keyTable s prompt byte =
 abbrev keyTells : {L : Type 0} → L → L → Pressed → Told L
 keyTells kept after x = told (pressedNumber x) (pressedValue x) (cond (refused x) kept after)
 
-key-rows : {L : Type 0} (is : Bool) (prompt : List ℕ) (t : Turn) (line screen : List ℕ) (kept after : L)
+key-rows : {L : Type 0} (is : Bool) (prompt : List ℕ) (t : Turn) (line screen : List ℕ) (kept after : L) → pressedValue (taken t (t .kind)) ≡ length (t .screen)
     → keyTells kept after (keyAnswer is prompt t (length line) (length screen)) ≡ keyRows is prompt t line screen kept after
 unfolding first keyAnswer turnAnswer
-key-rows is prompt t line screen kept after = by is (goodPrompt prompt) (ltb (length line) limit) (lacks (t .screen) screen) (t .kind)
+key-rows is prompt t line screen kept after counts =
+    by is (goodPrompt prompt) (ltb (length line) limit) (lacks (t .screen) screen) (t .kind)
+    ∙ ap (λ (n : ℕ). first (keyRefusals is prompt t line screen kept) (told 0 n after)) counts
   where
     by : (g p l s : Bool) (k : Kind)
         → keyTells kept after (cond g (cond p (cond l (NoRoom limit) (cond s (NoRoom (length (t .screen))) (taken t k))) (BadPrompt (length prompt))) BadState)
@@ -132,6 +137,7 @@ key-tells s prompt byte k slots line screen p =
     ap (told (pressedNumber (k .answer)) (pressedValue (k .answer))) (chosen (refused (k .answer)) s (seatAfter t (s .line) (s .screen)) (p .editor) (p .history) (p .held) (p .given) (p .shown))
     ∙ ap (keyTells s (seatAfter t (s .line) (s .screen))) (p .answer)
     ∙ key-rows (goodState (s .editor) (s .history) (s .slots)) prompt t (s .line) (s .screen) s (seatAfter t (s .line) (s .screen))
+    (shown-counted prompt (stateOf (s .editor) (s .history) (s .slots)) byte)
   where
     parts : {e e′ : Editor} {h h′ : History} {x y z x′ y′ z′ : List ℕ} → e ≡ e′ → h ≡ h′ → x ≡ x′ → y ≡ y′ → z ≡ z′
         → _≡_ {A = Seat} (record { editor = e; history = h; slots = x; line = y; screen = z }) (record { editor = e′; history = h′; slots = x′; line = y′; screen = z′ })
@@ -157,13 +163,13 @@ pressTable state slots prompt byte line screen =
 pub press-tells : (state slots prompt : List ℕ) (byte : ℕ) (line screen : List ℕ) (r : Pressed) (state′ slots′ line′ screen′ : List ℕ)
     → SavedKey state slots prompt byte line screen r state′ slots′ line′ screen′
     → told (pressedNumber r) (pressedValue r) (state′, slots′, line′, screen′) ≡ pressTable state slots prompt byte line screen
-unfolding pressTable pressAnswer
+unfolding pressTable pressAnswer turnIn
 press-tells state slots prompt byte line screen r state′ slots′ line′ screen′ p =
     let t : Turn = turnIn state slots prompt byte in
     let kept : Lent = (state, slots, line, screen) in
     ap (told (pressedNumber r) (pressedValue r)) (chosen (refused r) kept (lentAfter t line screen) (p .kept) (p .held) (p .given) (p .shown))
     ∙ ap (keyTells kept (lentAfter t line screen)) (p .answer)
-    ∙ key-rows (goodSaved state slots) prompt t line screen kept (lentAfter t line screen)
+    ∙ key-rows (goodSaved state slots) prompt t line screen kept (lentAfter t line screen) (shown-counted prompt (stateOf (editorIn state) (historyIn state) slots) byte)
   where
     parts : {a b c d a′ b′ c′ d′ : List ℕ} → a ≡ a′ → b ≡ b′ → c ≡ c′ → d ≡ d′ → _≡_ {A = Lent} (a, b, c, d) (a′, b′, c′, d′)
     parts p q u v = cc
