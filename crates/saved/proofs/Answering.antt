@@ -1,30 +1,27 @@
 -- Laws of the calls on a saved state: what each way through the code answers and leaves.
 use Prim.Native.Nat.{ℕ, _-_, _≤_}
 use mathlib.Core.Path.{_≡_, refl, sym, ap, _∙_}
-use mathlib.Core.Bool.{Bool, true, false, cond}
+use mathlib.Core.Bool.{Bool, true, false}
 use mathlib.Core.List.{List, [], _∷_, _++_, append-nil}
 use native.Mathlib.Omega.{arith}
 use types.Run.{OneOf, miss}
 use denote.Enum.Declared.{tagOf}
 use lib.ListN.{length}
-use borrow.Author.Tests.{eq-eqb, ne-eqb, ltb-false}
-use lib.Dec.{ltb}
+use borrow.Author.Tests.{eq-eqb, ne-eqb}
 use Rattle.buffer.proofs.Choices.{then-is, else-is, true-is-not-false}
 use Rattle.buffer.proofs.Lists.{drop-end}
 use Rattle.buffer.proofs.Lending.{overAt-front}
 use Rattle.buffer.specs.Write.{over, overAt}
-use Rattle.history.specs.Slots.{zeros, layout, entriesOf, good}
-use Rattle.history.specs.Answer.{atEnd, entriesIn, entriesAfter, addAnswer, historyBy, slotsBy, Addition}
+use Rattle.history.specs.Slots.{zeros, layout, good}
+use Rattle.history.specs.Answer.{atEnd, entriesAfter, addAnswer, historyBy, slotsBy, Addition}
 use Rattle.history.specs.declared.past.History.{History}
 use Rattle.history.specs.declared.adding.Added.{Added}
 use Rattle.history.specs.declared.adding.Added.the-variants.{Done, BadState as BadHistory, TooLong, IllFormed}
 use Rattle.history.proofs.adding.Added.{the-type}
-use Rattle.history.proofs.Layouts.{length-zeros, length-entries}
-use Rattle.history.proofs.States.{good-has, good-short}
-use Rattle.history.proofs.Kept.{Entries, entries-good, added-entries}
+use Rattle.history.proofs.Layouts.{length-zeros}
+use Rattle.history.proofs.Kept.{Entries, entries-good}
+use Rattle.history.proofs.Called.{done-has, entries-after}
 use Rattle.editor.proofs.Fine.{stays-good}
-use Rattle.history.specs.Entries.{wellFormed}
-use Rattle.text.specs.Decoding.{wellFormedLength}
 use Rattle.editor.specs.declared.line.Editor.{Editor}
 use Rattle.editor.specs.declared.drawing.Key.{Key}
 use Rattle.editor.specs.declared.drawing.Pressed.the-variants.{BadState}
@@ -71,32 +68,6 @@ fresh-small = (omega arith, omega arith, omega arith, omega arith)
 
 pub fresh-bytes : (e : Editor) (h : History) → e ≡ freshEditor → h ≡ atEnd 0 → Fits e h
 fresh-bytes e h p q = rw (p, q) fresh-small
-
--- a text that is added is short and well-formed, and the state good
-pub record Taken (h : History) (slots text : List ℕ) : Type 0 where
-  pub is-good : good (h .count) (h .place) slots ≡ true
-  pub short : length text ≤ 255
-  pub formed : wellFormed text ≡ true
-
-pub done-has : (h : History) (slots text : List ℕ) → addAnswer h slots text ≡ Done → Taken h slots text
-unfolding addAnswer
-done-has h slots text d = by (good (h .count) (h .place) slots) (ltb 255 (length text)) (wellFormed text) refl refl refl d
-  where
-    by : (a b w : Bool) → good (h .count) (h .place) slots ≡ a → ltb 255 (length text) ≡ b → wellFormed text ≡ w
-        → cond a (cond b (TooLong (length text)) (cond w Done (IllFormed (wellFormedLength text)))) BadHistory ≡ Done → Taken h slots text
-    by true false true p q r e = record { is-good = p; short = ltb-false _ _ q; formed = r }
-    by true false false p q r e = absurd (let z : _≡_ {A = ℕ} 0 1 = cc in omega arith)
-    by true true w p q r e = absurd (let z : _≡_ {A = ℕ} 0 1 = cc in omega arith)
-    by false b w p q r e = absurd (let z : _≡_ {A = ℕ} 0 1 = cc in omega arith)
-
-pub entries-after : (h : History) (slots text : List ℕ) → Taken h slots text → Entries (entriesAfter h slots text)
-unfolding entriesAfter entriesIn
-entries-after h slots text t =
-    let g = good-has (h .count) (h .place) slots (t .is-good) in
-    let n = length-entries (h .count) slots in
-    let k = g .counted in
-    added-entries (entriesOf (h .count) slots) text
-    (record { short = good-short (h .count) (h .place) slots g; few = omega arith; is-sound = g .is-sound }) (t .short) (t .formed)
 
 -- a text added
 module _ (state slots text : List ℕ) where

@@ -13,6 +13,7 @@ use Rattle.history.specs.declared.adding.Added.{Added}
 use Rattle.history.specs.declared.adding.Added.the-variants.{Done, BadState as BadHistory, TooLong, IllFormed}
 use Rattle.history.proofs.States.{holds}
 use Rattle.history.proofs.Kept.{Entries, entries-good}
+use Rattle.history.proofs.Called.{done-has, entries-after}
 use Rattle.editor.specs.declared.line.Editor.{Editor}
 use Rattle.editor.specs.declared.drawing.Pressed.{Pressed}
 use Rattle.editor.specs.Line.{freshEditor}
@@ -24,7 +25,6 @@ use Rattle.editor.proofs.Fine.{fine-of, fine-good, turn-fine, never-bad}
 use Rattle.saved.specs.State.{savedOf, isState, editorIn, historyIn, goodSaved}
 use Rattle.saved.specs.Calls.{turnIn, savedAfter, SavedKey, savedAnswer, stateBy, SavedAdd}
 use Rattle.saved.proofs.Savings.{good-saved}
-use Rattle.saved.proofs.Answering.{done-has, entries-after}
 
 -- what is good is good when it is saved
 pub saved-good : (e : Editor) (h : History) (slots : List ℕ) → goodState e h slots ≡ true → goodSaved (savedOf e h) slots ≡ true
