@@ -1,5 +1,6 @@
 -- Demand 1, no second answer: two outcomes that both satisfy a call's contract are one, in the answer, in each state, and in every byte of every lent buffer.
--- The calls whose contract is the single equation `r ≡ ..` (decode, check_tree, find_node and their like) are the case of `one`.
+-- The calls whose contract is the single equation `r ≡ ..` (decode, check_tree, find_node and their like) are the case of `one`. The inner calls that leave something open are
+-- listed in docs/CONTRACTS.md.
 use Prim.Native.Nat.{ℕ}
 use mathlib.Core.Path.{_≡_, sym, ap, _∙_}
 use mathlib.Core.Bool.{cond}

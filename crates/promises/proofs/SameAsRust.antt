@@ -1,13 +1,15 @@
 -- Demand 2, same as the Rust: each call does what the Rust's function does, which stands as a function on values, beside its lines, in the specs/Rust of the crate.
 -- Well-formed text and white space are Unicode's, and a quoted list of words splits back into that list.
 use Prim.Native.Nat.{ℕ, _≤_}
-use mathlib.Core.Path.{_≡_, sym, ap, _∙_}
+use mathlib.Core.Path.{_≡_}
 use mathlib.Core.Bool.{true, false}
-use mathlib.Core.List.{List, []}
+use mathlib.Core.List.{List, [], _++_}
 use lib.ListN.{length, take}
 use Rattle.buffer.specs.Write.{over}
-use Rattle.text.specs.Unicode.{WellFormed}
-use Rattle.text.specs.Decoding.{wellFormedLength}
+use Rattle.text.specs.Unicode.{Scalar, encode, WellFormed}
+use Rattle.text.specs.Decoding.{decodeFirst, wellFormedLength}
+use Rattle.text.specs.declared.utf8.Decoded.the-variants.{Character}
+use Rattle.text.proofs.Encoding.{SoundOf, decode-sound, decode-complete}
 use Rattle.text.proofs.Prefix.{prefix-well-formed, prefix-longest, whole-is, is-whole}
 use Rattle.frame.specs.Text.{Bytes}
 use Rattle.words.specs.Tokens.{wordsOf}
@@ -16,20 +18,21 @@ use Rattle.words.specs.declared.tokenizer.Tokens.the-variants.{Words}
 use Rattle.quote.specs.Given.{listed, fine, judge}
 use Rattle.quote.specs.Answer.{quoteLine}
 use Rattle.quote.proofs.Return.{given-back, call-back}
-use Rattle.history.specs.Answer.{atEnd, entriesIn, entriesAfter, addAnswer, historyBy, slotsBy, Addition}
-use Rattle.history.specs.Rust.{new, addCommand}
+use Rattle.history.specs.Slots.{good}
+use Rattle.history.specs.Answer.{entriesIn, Addition}
+use Rattle.history.specs.Steps.{back, onward}
+use Rattle.history.specs.Rust.{new, addCommand, previous, next}
 use Rattle.history.specs.declared.past.History.{History}
-use Rattle.history.specs.declared.adding.Added.{Added}
 use Rattle.history.specs.declared.adding.Added.the-variants.{Done}
-use Rattle.history.proofs.Layouts.{entries-layout}
-use Rattle.history.proofs.Original.{original, fresh-is, add-is}
+use Rattle.history.proofs.Original.{original, fresh-is}
+use Rattle.history.proofs.Called.{stepIn, add-as-rust, previous-as-rust, next-as-rust}
+use Rattle.screen.specs.Redraw.{redraw}
 use Rattle.editor.specs.declared.line.Editor.{Editor}
 use Rattle.editor.specs.declared.drawing.Key.{Key}
 use Rattle.editor.specs.Answer.{stateOf, goodState, refused, Pressing}
-use Rattle.editor.specs.Rust.{rustKey}
-use Rattle.editor.proofs.Original.{shellOf}
+use Rattle.editor.specs.Rust.{clearLineAndRedraw, rustKey}
+use Rattle.editor.proofs.Original.{shellOf, same-redraw}
 use Rattle.editor.proofs.Called.{as-rust}
-use Rattle.saved.proofs.Answering.{done-has, entries-after}
 
 -- HISTORY (002): `CommandHistory::new(100)`, and its add_command on the entries and the place that record and slots hold
 pub history-new : original [] 0 ≡ new 100
@@ -37,20 +40,18 @@ history-new = fresh-is
 
 pub add-command : (h : History) (slots text : List ℕ) (r : History) (left : List ℕ) → Addition h slots text r Done left
     → addCommand (original (entriesIn h slots) (h .place)) text ≡ original (entriesIn r left) (r .place)
-unfolding entriesAfter entriesIn
-add-command h slots text r left a =
-    let es : List (List ℕ) = entriesAfter h slots text in
-    let done : addAnswer h slots text ≡ Done = sym (a .answer) in
-    let short = entries-after h slots text (done-has h slots text done) .short in
-    let record-is : r ≡ atEnd (length es) = a .state ∙ ap (λ (x : Added). historyBy x h es) done in
-    let held : entriesIn r left ≡ es = holds record-is (a .bytes ∙ ap (λ (x : Added). slotsBy x slots es) done) ∙ entries-layout es short in
-    add-is (entriesIn h slots) (h .place) text ∙ same (sym held) (ap (λ (x : History). x .place) (sym record-is))
-  where
-    holds : {r q : History} {s t : List ℕ} → r ≡ q → s ≡ t → entriesIn r s ≡ entriesIn q t
-    holds p q = cc
+add-command = add-as-rust
 
-    same : {es fs : List (List ℕ)} {n m : ℕ} → es ≡ fs → n ≡ m → original es n ≡ original fs m
-    same p q = cc
+-- its previous and next: the place that a step leads to, and the entry of the number that it recalls, in a good state
+pub step-back : (h : History) (slots : List ℕ) → good (h .count) (h .place) slots ≡ true → previous (original (entriesIn h slots) (h .place)) ≡ stepIn (entriesIn h slots) (back h)
+step-back = previous-as-rust
+
+pub step-on : (h : History) (slots : List ℕ) → good (h .count) (h .place) slots ≡ true → next (original (entriesIn h slots) (h .place)) ≡ stepIn (entriesIn h slots) (onward h)
+step-on = next-as-rust
+
+-- its clear_line_and_redraw: the bytes that a redraw shows
+pub redraws : (prompt content : List ℕ) (cursor : ℕ) → clearLineAndRedraw prompt content cursor ≡ redraw prompt content cursor
+redraws = same-redraw
 
 -- THE LINE EDITOR (001, with 002's previous, next and clear_line_and_redraw): a key that is taken in a good state leaves the line, cursor, mode and history, and
 -- writes the bytes, that one turn of the Rust's loop does. (The loop's prompt after Enter is the caller's.)
@@ -60,7 +61,14 @@ pub key : (e : Editor) (h : History) (slots prompt : List ℕ) (byte : ℕ) (lin
     × (screen′ ≡ over (rustKey prompt (shellOf (stateOf e h slots)) byte .stdout) screen)
 key = as-rust
 
--- UNICODE: the prefix that is found is well-formed, and no longer one is; a text is wholly found exactly if it is well-formed
+-- UNICODE: a character is read from its encoding, whatever follows, and what is read as a character begins with the encoding of a scalar value; the prefix that is
+-- found is well-formed, and no longer one is; a text is wholly found exactly if it is well-formed
+pub read-back : (n : ℕ) (t : List ℕ) → Scalar n → decodeFirst (encode n ++ t) ≡ Character n (length (encode n))
+read-back = decode-complete
+
+pub read-sound : (s : List ℕ) → SoundOf s (decodeFirst s)
+read-sound = decode-sound
+
 pub longest-prefix : (s : List ℕ) → WellFormed (take (wellFormedLength s) s) × ((n : ℕ) → n ≤ length s → WellFormed (take n s) → n ≤ wellFormedLength s)
 longest-prefix s = (prefix-well-formed s, prefix-longest s)
 
