@@ -3,6 +3,7 @@ use Prim.Native.Nat.{ℕ}
 use mathlib.Core.Path.{_≡_}
 use mathlib.Core.Bool.{cond}
 use mathlib.Core.List.{List, []}
+use lib.Dec.{eqb}
 use lib.ListN.{length}
 use Rattle.buffer.specs.Write.{over}
 use Rattle.words.specs.Answer.{answerFor, leavesFor, number, value}
@@ -21,9 +22,8 @@ use Rattle.tree.specs.Rules.{checkTree}
 use Rattle.tree.specs.Answer.{number as treeNumber, value as treeValue}
 use Rattle.parse.specs.Answer.{parseAnswer, parseLeaves, number as parseNumber, value as parseValue}
 use Rattle.help.specs.Answer.{answerFor as helpAnswer, leavesFor as helpLeaves, number as helpNumber, value as helpValue}
-use Rattle.shell.specs.Answer.{runAnswer, runLeaves}
+use Rattle.shell.specs.Answer.{runAnswer, runLeaves, number as runNumber, value as runValue, kind as runKind, beside}
 use Rattle.shell.specs.declared.answer.Ran.{Ran}
-use Rattle.shell.specs.declared.answer.Ran.the-variants.{Nothing, Text, Exit, Handler, BadTree, LineTooLong, NoRoom as NoPlace}
 use Rattle.abi.specs.Packed.{answered, plain}
 
 pub record WordsCall (line out : List ℕ) (r : ℕ) (left : List ℕ) : Type 0 where
@@ -95,16 +95,11 @@ pub record HelpCall (image line out : List ℕ) (r : ℕ) (left : List ℕ) : Ty
   pub answer : r ≡ plain (helpNumber (helpAnswer image line (length out))) (helpValue (helpAnswer image line (length out)))
   pub bytes : left ≡ helpLeaves image line out
 
--- running a line has three kinds of answer beside nothing, 0: 1 a text, and its number stands where a refusal's does; 2 the end, with its text;
--- 3 a handler, beside the report for it
+-- running a line has three kinds of answer beside nothing, 0: 1 a text, 2 the end, 3 a handler. The number beside a text stands where a refusal's
+-- does, and a handler is the second value
 unfoldable pub runTold : Ran → ℕ
-runTold Nothing = plain 0 0
-runTold (Text number length) = answered number length 1 0
-runTold (Exit length) = answered 0 length 2 0
-runTold (Handler handler length) = answered 0 length 3 handler
-runTold (BadTree frame) = plain 1 frame
-runTold (LineTooLong length) = plain 2 length
-runTold (NoPlace needed) = plain 9 needed
+runTold told =
+    answered (cond (eqb (runKind told) 1) (beside told) (runNumber told)) (runValue told) (runKind told) (cond (eqb (runKind told) 3) (beside told) 0)
 
 pub record RunCall (image line out : List ℕ) (r : ℕ) (left : List ℕ) : Type 0 where
   pub answer : r ≡ runTold (runAnswer image line (length out))
