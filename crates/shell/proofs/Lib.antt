@@ -7,4 +7,5 @@ pub mod Lines
 pub mod Bare
 pub mod Answers
 pub mod Bounds
+pub mod Numbers
 mod Examples
