@@ -40,6 +40,7 @@ use Rattle.shell.specs.Lines.{Said, silence, text, farewell, handed, saidOf}
 use Rattle.shell.specs.Answer.{named, saidAnswer, saidLeaves, runAnswer, runLeaves, Running, kind, beside, bytesOf as saidBytes, number as ranNumber, value as ranValue}
 use Rattle.shell.specs.declared.answer.Ran.{Ran}
 use Rattle.shell.specs.declared.answer.Ran.the-variants.{BadTree as BadFrameRan, NoRoom as NoRoomRan}
+use Rattle.shell.proofs.Numbers.{Fitting, texts-fit}
 use Rattle.promises.proofs.Tables.{Told, told, row, first, lacks, either, split, telling}
 
 -- a line over 1,024 bytes, and one that is ill-formed
@@ -289,3 +290,7 @@ run-tells image line out r left t =
     (split endedBy (tooLong line) _ _ out _ _ _ refl
     (split endedBy (lacks (saidBytes s) out) (NoRoomRan (length (saidBytes s))) (named s (length (saidBytes s))) out (over (saidBytes s) out) _ _ refl
     (said-tells s out)))
+
+-- what it refuses otherwise, its 3 to 8 and a help line's 4, answers text: the number beside a text and the Rust's message go together (`Beside`)
+pub run-texts : (image line : List ℕ) → Fitting (saidOf (framesOf image) line)
+run-texts = texts-fit
