@@ -38,6 +38,10 @@ named words line = cond (tooLong line) [] (cond (illFormed line) [] (words line)
 abbrev pub Agree : List ℕ → List ℕ → List (List ℕ) → Type 0
 Agree image other words = AgreeOn (framesOf image) (framesOf other) words
 
+-- so a line that names none answers alike under all well-formed trees
+pub nameless : (image other : List ℕ) (words : List (List ℕ)) → words ≡ [] → Agree image other words
+nameless image other words e = rw e tt
+
 -- what is asked only of a line that is neither over-long nor ill-formed
 asked : (P : List (List ℕ) → Type 0) (l w : Bool) (words : List (List ℕ)) → P (cond l [] (cond w [] words)) → l ≡ false → w ≡ false → P words
 asked P true w words p a b = absurd (true-is-not-false a)
