@@ -1,0 +1,91 @@
+// What is printed, gathered in a buffer before it is written.
+use libc::STDOUT_FILENO;
+use session::Printing;
+use session::Session;
+
+// Where the console is: the session, whether it is over, and how many bytes wait at the front of the output's buffer.
+pub struct Console {
+    pub session: Session,
+    pub over: bool,
+    pub waiting: usize,
+}
+
+impl Console {
+    pub fn start() -> Console {
+        Console {
+            session: Session::fresh(),
+            over: false,
+            waiting: 0,
+        }
+    }
+
+    // The same at its end.
+    pub fn closed(self) -> Console {
+        let session = self.session;
+        Console {
+            session,
+            over: true,
+            waiting: self.waiting,
+        }
+    }
+
+    // Writes what waits. An output that is closed ends the console.
+    pub fn flush(self, out: &[u8]) -> Console {
+        let session = self.session;
+        let over = self.over;
+        let waiting = self.waiting;
+        if waiting <= out.len() {
+            let is_written = io::write_all(STDOUT_FILENO, &out[..waiting]);
+            return Console {
+                session,
+                over: over || !is_written,
+                waiting: 0,
+            };
+        }
+        Console {
+            session,
+            over: true,
+            waiting: 0,
+        }
+    }
+
+    // Writes what waits if behind it there is no room for what one key may print.
+    pub fn with_room(self, out: &[u8]) -> Console {
+        if self.waiting <= 131072 {
+            return self;
+        }
+        self.flush(out)
+    }
+}
+
+// The place behind n bytes at a place, within the buffer.
+fn behind(at: usize, n: usize, out: &[u8]) -> usize {
+    if out.len() < at {
+        return at;
+    }
+    if out.len() - at < n {
+        return at;
+    }
+    at + n
+}
+
+// The console after a key or a line that printed at a place of out.
+pub fn after(session: Session, answer: Printing, out: &[u8], at: usize) -> Console {
+    match answer {
+        Printing::Goes(n) => Console {
+            session,
+            over: false,
+            waiting: behind(at, n, out),
+        },
+        Printing::Ends(n) => Console {
+            session,
+            over: true,
+            waiting: behind(at, n, out),
+        },
+        _ => Console {
+            session,
+            over: true,
+            waiting: at,
+        },
+    }
+}

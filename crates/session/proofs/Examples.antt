@@ -1,0 +1,53 @@
+-- The session of 01, computed from the definitions.
+use Prim.Native.Nat.{ℕ}
+use mathlib.Core.Path.{_≡_, refl}
+use mathlib.Core.List.{List, [], _∷_, _++_}
+use Rattle.text.specs.Unicode.{encode, encodeAll}
+use Rattle.text.specs.Decoding.{leastSecond, greatestSecond, within, decodeTwo, decodeThree, decodeFour, table, decodeFirst, letter, letterHead, letterFirst, piecesFrom, piecesOf, bytesAll, codesOf, codesIn, wellFormedLength}
+use Rattle.text.specs.Space.{whiteSpace, among, isWhiteSpace, lowWhite, gap}
+use Rattle.text.specs.Apart.{runOf, behindRun, trimEnd, trimmed, allWhite, blank, wordsAfter, wordsBetween, nextWord}
+use Rattle.buffer.specs.Compare.{order, sameBytes}
+use Rattle.frame.specs.Text.{Bytes, number, numberOf, textOf, readText}
+use Rattle.frame.specs.Framed.{frameOf, frameFirst}
+use Rattle.frame.specs.Series.{textsFrom, textsIn, runs}
+use Rattle.frame.specs.House.{houseLine, ended, digitsOf, readDigits, readHouse, houseLeaves, writeHouse, lineLeaves}
+use Rattle.frame.specs.Hex.{digitOf, hexOf, digitValue, pairOf, unhex, firstBad}
+use Rattle.image.specs.Frames.{text, perhaps, encode as encodeImage}
+use Rattle.image.specs.Reading.{span, nodeLengths, definitionLengths, nodeFirst, optionFirst, flagFirst, headFirst, perhapsIn, nodeIn, optionIn, flagIn, definedIn, frameFirst as frameFirstImage, readFirst}
+use Rattle.image.specs.Limits.{allShown, isName, isNote, isShort, definable, fair}
+use Rattle.tree.specs.Images.{itemsFrom, items, framesIn, framesOf, flat}
+use Rattle.tree.specs.Rules.{rises, follows, obeys, after, judge, obeyAll, checkTree}
+use Rattle.lookup.specs.Subtrees.{upTo, onFrom, subtree, treeNamed}
+use Rattle.words.specs.Tokens.{turnOf, tokensFrom, tokens, wordsOf, framesOf as framesOfWords}
+use Rattle.table.specs.Map.{put, look, has, among as amongTable, putWithin}
+use Rattle.scan.specs.Meanings.{definitionsOf, definitionsAt, firstName, meaning, isOption}
+use Rattle.scan.specs.Forms.{beforeEquals, longForm, formOf}
+use Rattle.scan.specs.Arguments.{withOption, withFlag, withPositional, shortSteps, args}
+use Rattle.report.specs.Report.{optionFrame, flagFrame, reportOf, faultOf, dashed, reportAnswer, reportLeaves}
+use Rattle.parse.specs.Commands.{descend, isMissing, missingRequired, concluded, parseIn, parseWords, parseLine}
+use Rattle.parse.specs.Answer.{toldIn, outcomeAnswer, outcomeLeaves, parseAnswer, parseLeaves}
+use Rattle.ink.specs.Ascii.{ascii}
+use Rattle.shell.specs.Lines.{builtinOf, beginsHelp, helpWords, faultMessage, joined, handlerOf, carried, executeIn, execute, otherSaid, lineSaid, saidOf}
+use Rattle.screen.specs.Decimal.{digitsIn, decimal, valueBehind, valueOf}
+use Rattle.screen.specs.Redraw.{moveBack, redraw, roomAnswer}
+use Rattle.history.specs.Entries.{mostEntries, newestIs, isNew, withRoom, added, wellFormed, usable, sound}
+use Rattle.editor.specs.Line.{limit, padded, holding, lineOf, freshEditor, goodLine, inserted, erased, content}
+use Rattle.editor.specs.Keys.{redrawn, enter, erase, insert, typed, escaped, up, onPlace, down, right, left, sequenced, turnIn, turnOf as turnOfEditor, afterKeys}
+use Rattle.session.specs.Prints.{wide, frameOf as frameOfSession, linesOf, shown, prompt, answered, leaves, keyPrints, keyEnds}
+use Rattle.session.specs.Lines.{beginning, formOf as formOfSession, lineForm, grows, takeForm, takeLine, pressKey, pressKeys, onTaking, lineCourse, session}
+
+input : List (List ℕ)
+input = ascii "01000002036c6f67104368616e6765206c6f67206c6576656c0b6c6f67205b4c4556454c5d\n" ∷ ascii "206c6f670d\n" ∷ []
+
+output : List ℕ
+output =
+    ascii "220d1b5b324b61787669736f723a24206c\n"
+    ++ (ascii "220d1b5b324b61787669736f723a24206c6f\n"
+    ++ (ascii "220d1b5b324b61787669736f723a24206c6f67\n"
+    ++ (ascii "220a\n"
+    ++ (ascii "2100021100036c6f67\n"
+    ++ ascii "2261787669736f723a2420\n"))))
+
+in-full : linesOf (session beginning input) ≡ output
+unfolding encode encodeAll leastSecond greatestSecond within decodeTwo decodeThree decodeFour table decodeFirst letter letterHead letterFirst piecesFrom piecesOf bytesAll codesOf codesIn wellFormedLength whiteSpace among isWhiteSpace lowWhite gap runOf behindRun trimEnd trimmed allWhite blank wordsAfter wordsBetween nextWord order sameBytes Bytes number numberOf textOf readText frameOf frameFirst textsFrom textsIn runs houseLine ended digitsOf readDigits readHouse houseLeaves writeHouse lineLeaves digitOf hexOf digitValue pairOf unhex firstBad text perhaps encodeImage span nodeLengths definitionLengths nodeFirst optionFirst flagFirst headFirst perhapsIn nodeIn optionIn flagIn definedIn frameFirstImage readFirst allShown isName isNote isShort definable fair itemsFrom items framesIn framesOf flat rises follows obeys after judge obeyAll checkTree upTo onFrom subtree treeNamed turnOf tokensFrom tokens wordsOf framesOfWords put look has amongTable putWithin definitionsOf definitionsAt firstName meaning isOption beforeEquals longForm formOf withOption withFlag withPositional shortSteps args optionFrame flagFrame reportOf faultOf dashed reportAnswer reportLeaves descend isMissing missingRequired concluded parseIn parseWords parseLine toldIn outcomeAnswer outcomeLeaves parseAnswer parseLeaves ascii builtinOf beginsHelp helpWords faultMessage joined handlerOf carried executeIn execute otherSaid lineSaid saidOf digitsIn decimal valueBehind valueOf moveBack redraw roomAnswer mostEntries newestIs isNew withRoom added wellFormed usable sound limit padded holding lineOf freshEditor goodLine inserted erased content redrawn enter erase insert typed escaped up onPlace down right left sequenced turnIn turnOfEditor afterKeys wide frameOfSession linesOf shown prompt answered leaves keyPrints keyEnds formOfSession lineForm grows takeForm takeLine pressKey pressKeys onTaking lineCourse session input output
+in-full = refl

@@ -1,0 +1,8 @@
+-- Laws of the crate `session`.
+pub mod Marks
+pub mod Printings
+pub mod Runs
+pub mod Screens
+pub mod Turns
+pub mod Takings
+pub mod Examples

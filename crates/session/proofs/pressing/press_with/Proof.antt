@@ -1,0 +1,76 @@
+-- `session::pressing::press_with` meets its contract: what the editor answered is printed.
+use mathlib.Core.Path.{sym, _∙_}
+use Rattle.ink.specs.Ascii.{ascii}
+use Rattle.session.specs.Prints.{prompt}
+use Rattle.session.proofs.Turns.{press-ready, press-back, press-done}
+use lib.ListN.{length-set}
+use native.Mathlib.Omega.{arith}
+use borrow.Author.Needs.{needs}
+use Rattle.session.proofs.pressing.press_with.Statement.{statement}
+use Rattle.session.proofs.pressing.press_with.Tie as tie
+
+slice-write-screen : tie.Need-slice-write-screen
+slice-write-screen c = search needs
+
+slice-aggregate-key : tie.Need-slice-aggregate-key
+slice-aggregate-key c = search needs
+
+sub-key : tie.Need-sub-key
+sub-key c = omega (arith, length-set (c .before .before .before .before .before .before .before .before .before .args .screen .now) 0 0x22, c .before .before .before .before .before .before .before .before .before .pre .1)
+
+part-key-start : tie.Need-part-key-start
+part-key-start c = omega (arith, length-set (c .before .before .before .before .before .before .before .before .before .args .screen .now) 0 0x22, c .before .before .before .before .before .before .before .before .before .pre .1)
+
+part-key-end : tie.Need-part-key-end
+part-key-end c = search needs
+
+key-requires : tie.Need-key-requires
+key-requires c κs = search needs
+
+part-requires : tie.Need-part-requires
+part-requires c κs = search needs
+
+after-requires : tie.Need-after-requires
+after-requires c κs = search needs
+
+print-pressed-requires : tie.Need-print-pressed-requires
+unfolding prompt ascii
+print-pressed-requires c κs =
+    let r = press-ready (c .before .before .before .before .before .before .before .before .before .before .before .before .before .before .before .before .before .before .before .before .before .before .args .session) (c .before .before .before .before .before .before .before .before .before .before .before .before .before .before .before .before .before .before .before .before .before .before .args .slots .now) (c .before .before .before .before .before .before .before .before .before .before .before .before .before .before .before .before .before .before .before .before .before .before .args .line .now) (c .before .before .before .before .before .before .before .before .before .before .before .before .before .before .before .before .before .before .before .before .before .before .args .screen .now) _ _ _ _ _ (c .before .before .before .before .before .before .before .before .before .before .before .before .before .before .before .before .before .before .before .before .before .before .pre .0) (c .before .before .before .before .before .before .before .before .before .before .before .before .before .before .before .before .before .before .before .before .before .before .pre .1) (c .before .before .before .before .before .before .before .before .before .before .before .key .ensures) in
+    (r .0, r .1, c .before .before .before .before .before .before .before .before .before .before .before .before .before .before .before .before .before .before .before .before .before .before .pre .2)
+
+same-length : tie.Need-same-length
+same-length c = search needs
+
+same-length-2 : tie.Need-same-length-2
+same-length-2 c = search needs
+
+same-length-3 : tie.Need-same-length-3
+unfolding prompt ascii
+same-length-3 c = press-back (c .before .before .before .before .before .before .before .before .before .before .before .before .before .before .before .before .before .before .before .before .before .before .before .before .before .args .session) (c .before .before .before .before .before .before .before .before .before .before .before .before .before .before .before .before .before .before .before .before .before .before .before .before .before .args .slots .now) (c .before .before .before .before .before .before .before .before .before .before .before .before .before .before .before .before .before .before .before .before .before .before .before .before .before .args .line .now) (c .before .before .before .before .before .before .before .before .before .before .before .before .before .before .before .before .before .before .before .before .before .before .before .before .before .args .screen .now) _ _ _ _ _ (c .before .before .before .before .before .before .before .before .before .before .before .before .before .before .before .before .before .before .before .before .before .before .before .before .before .pre .0) (c .before .before .before .before .before .before .before .before .before .before .before .before .before .before .before .before .before .before .before .before .before .before .before .before .before .pre .1) (c .before .before .before .before .before .before .before .before .before .before .before .before .before .before .key .ensures) ∙ sym (c .before .before .before .before .before .before .before .before .before .before .before .before .before .before .before .before .before .before .before .before .before .before .before .before .before .pre .1)
+
+same-length-4 : tie.Need-same-length-4
+same-length-4 c = search needs
+
+returns : tie.Need-returns
+unfolding prompt ascii
+returns c = press-done (c .before .before .before .before .before .before .before .before .before .before .before .before .before .before .before .before .before .before .before .before .before .before .before .before .before .args .session) (c .before .before .before .before .before .before .before .before .before .before .before .before .before .before .before .before .before .before .before .before .before .before .before .before .before .args .slots .now) (c .before .before .before .before .before .before .before .before .before .before .before .before .before .before .before .before .before .before .before .before .before .before .before .before .before .args .line .now) (c .before .before .before .before .before .before .before .before .before .before .before .before .before .before .before .before .before .before .before .before .before .before .before .before .before .args .screen .now) _ _ _ _ _ (c .before .before .before .before .before .before .before .before .before .before .before .before .before .before .before .before .before .before .before .before .before .before .before .before .before .pre .0) (c .before .before .before .before .before .before .before .before .before .before .before .before .before .before .before .before .before .before .before .before .before .before .before .before .before .pre .1) (c .before .before .before .before .before .before .before .before .before .before .before .before .before .before .key .ensures) (c .before .before .before .before .before .before .before .before .before .before .before .before .before .before .before .before .before .before .before .before .before .before .before .before .before .args .image .now) _ (c .before .before .before .before .before .before .before .before .before .before .before .before .before .before .before .before .before .before .before .before .before .before .before .before .before .args .out .now) _ _ _ (c .before .before .before .before .before .before .before .before .before .before .before .before .before .before .before .before .before .before .before .before .before .before .before .before .before .pre .2) (c .before .before .before .before .before .before .before .part .ensures) (c .before .before .before .before .before .before .after .ensures) (c .before .before .print-pressed .ensures)
+
+pub press-with-spec : {M : Type 1} → statement M
+press-with-spec =
+    tie.close
+    (tie.spec
+    slice-write-screen
+    slice-aggregate-key
+    sub-key
+    part-key-start
+    part-key-end
+    key-requires
+    part-requires
+    after-requires
+    print-pressed-requires
+    same-length
+    same-length-2
+    same-length-3
+    same-length-4
+    returns)

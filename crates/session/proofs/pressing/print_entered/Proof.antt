@@ -1,0 +1,24 @@
+-- `session::pressing::print_entered` meets its contract.
+use Rattle.session.proofs.Turns.{feed-room, entered}
+use borrow.Author.Needs.{needs}
+use Rattle.session.proofs.pressing.print_entered.Statement.{statement}
+use Rattle.session.proofs.pressing.print_entered.Tie as tie
+
+slice-aggregate-print : tie.Need-slice-aggregate-print
+slice-aggregate-print c = search needs
+
+print-requires : tie.Need-print-requires
+print-requires c κs = search needs
+
+run-line-requires : tie.Need-run-line-requires
+run-line-requires c κs = feed-room (c .before .before .before .before .before .before .before .before .before .args .out .now) _ _ (c .before .before .before .before .before .before .before .before .before .pre) (c .before .before .before .print .ensures)
+
+same-length : tie.Need-same-length
+same-length c = search needs
+
+returns : tie.Need-returns
+returns c = λ good short. entered (c .before .before .before .before .before .before .before .before .before .before .before .before .args .out .now) _ _ (c .before .before .before .before .before .before .before .before .before .before .before .before .pre) (c .before .before .before .before .before .before .print .ensures) _ _ _ _ (c .before .before .run-line .ensures good short)
+
+pub print-entered-spec : {M : Type 1} → statement M
+print-entered-spec =
+    tie.close (tie.spec slice-aggregate-print print-requires run-line-requires same-length returns)

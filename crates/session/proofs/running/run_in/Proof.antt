@@ -1,0 +1,54 @@
+-- `session::running::run_in` meets its contract: what the line says stands behind the place of its kind.
+use Rattle.frame.specs.Text.{Bytes}
+use Rattle.session.proofs.Runs.{run-back, run-ready, run-says}
+use native.Mathlib.Omega.{arith}
+use lib.ListN.{length-set}
+use borrow.Author.Needs.{needs}
+use Rattle.session.proofs.running.run_in.Statement.{statement}
+use Rattle.session.proofs.running.run_in.Tie as tie
+
+slice-write-text : tie.Need-slice-write-text
+slice-write-text c = search needs
+
+sub-run : tie.Need-sub-run
+sub-run c = omega (arith, length-set (c .before .before .before .before .args .text .now) 2 0x22, c .before .before .before .before .pre .0)
+
+part-run-start : tie.Need-part-run-start
+part-run-start c = omega (arith, length-set (c .before .before .before .before .args .text .now) 2 0x22, c .before .before .before .before .pre .0)
+
+part-run-end : tie.Need-part-run-end
+part-run-end c = search needs
+
+run-requires : tie.Need-run-requires
+run-requires c κs = search needs
+
+print-ran-requires : tie.Need-print-ran-requires
+print-ran-requires c κs =
+    let r = run-ready (c .before .before .before .before .before .before .before .before .before .before .args .text .now) _ (c .before .before .before .before .before .before .before .before .before .before .pre .0) _ _ _ (c .before .before .before .before .run .ensures) in
+    (r .0, r .1, r .2, c .before .before .before .before .before .before .before .before .before .before .pre .1)
+
+same-length : tie.Need-same-length
+same-length c =
+    let back = run-back (c .before .before .before .before .before .before .before .before .before .before .before .before .before .before .before .args .text .now) _ (c .before .before .before .before .before .before .before .before .before .before .before .before .before .before .before .pre .0) _ _ _ (c .before .before .before .before .before .before .before .before .before .run .ensures) in
+    search needs
+
+same-length-2 : tie.Need-same-length-2
+same-length-2 c = search needs
+
+returns : tie.Need-returns
+unfolding Bytes
+returns c = λ good short. c .before .before .before .before .print-ran .ensures _ (run-says (c .before .before .before .before .before .before .before .before .before .before .before .before .before .before .before .args .text .now) _ (c .before .before .before .before .before .before .before .before .before .before .before .before .before .before .before .pre .0) _ _ _ (c .before .before .before .before .before .before .before .before .before .run .ensures) (λ i. c .before .before .before .before .before .before .before .before .before .before .before .before .before .before .shared-slice-known .given i .fits) good short)
+
+pub run-in-spec : {M : Type 1} → statement M
+run-in-spec =
+    tie.close
+    (tie.spec
+    slice-write-text
+    sub-run
+    part-run-start
+    part-run-end
+    run-requires
+    print-ran-requires
+    same-length
+    same-length-2
+    returns)

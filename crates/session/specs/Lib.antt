@@ -1,0 +1,5 @@
+-- Definitions of the crate `session`: what a session prints for a key and for a line, where it stands, and what its calls answer and leave.
+pub mod Prints
+pub mod Lines
+pub mod Held
+pub mod Calls
