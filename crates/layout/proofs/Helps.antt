@@ -16,7 +16,8 @@ use Rattle.image.specs.declared.head.Head.the-variants.{Node, Option, Flag, Bad
 use Rattle.image.proofs.head.Head.{the-type}
 use Rattle.image.proofs.Views.{view}
 use Rattle.tree.specs.Images.{framesOf}
-use Rattle.lookup.proofs.Seeks.{frames-read, frames-broken, frames-ended}
+use Rattle.tree.proofs.Items.{frames-read}
+use Rattle.lookup.proofs.Seeks.{frames-broken, frames-ended}
 use Rattle.ink.specs.Ascii.{ascii}
 use Rattle.ink.specs.Inks.{Inked}
 use Rattle.layout.specs.Texts.{spaced, usageLine, about, lists, helpText}

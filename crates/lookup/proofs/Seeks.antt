@@ -2,7 +2,7 @@
 use Prim.Native.Nat.{ℕ, _+_, _<_, _≤_}
 use mathlib.Core.Path.{_≡_, refl, sym, ap, _∙_}
 use mathlib.Core.Bool.{Bool, true, false, cond}
-use mathlib.Core.List.{List, [], _∷_}
+use mathlib.Core.List.{List, []}
 use native.Mathlib.Omega.{arith}
 use lib.ListN.{length, drop, length-drop}
 use lib.Seq.{drop-drop}
@@ -12,17 +12,13 @@ use Rattle.image.specs.Frames.{Frame, encode}
 use Rattle.image.specs.Reading.{Read, read, broken, ended, readFirst}
 use Rattle.image.proofs.Encoding.{read-within, read-size, read-ended}
 use Rattle.tree.specs.Images.{framesIn, framesOf}
-use Rattle.tree.proofs.Items.{bytes-drop, items-read, items-broken, items-none}
+use Rattle.tree.proofs.Items.{bytes-drop, items-broken, items-none, frames-read}
 use Rattle.lookup.specs.Spots.{later, placeOf, spot}
 use Rattle.lookup.specs.Searches.{hitOr, lookBy}
 use Rattle.lookup.specs.declared.seek.Spot.{Spot}
 use Rattle.lookup.specs.declared.seek.Spot.the-variants.{At, Nothing}
 use Rattle.lookup.specs.declared.look.Look.{Look}
 use Rattle.lookup.specs.declared.look.Look.the-variants.{Hit, Pass, Stop}
-
-pub frames-read : (s : List ℕ) (f : Frame) (n : ℕ) → readFirst s ≡ read f n → framesOf s ≡ f ∷ framesOf (drop n s)
-unfolding framesOf framesIn
-frames-read s f n e = rw (items-read s f n e)
 
 pub frames-broken : (s : List ℕ) → readFirst s ≡ broken → framesOf s ≡ []
 unfolding framesOf framesIn

@@ -18,7 +18,7 @@ use Rattle.image.specs.declared.head.Head.the-variants.{Node as HeadNode, Optio
 use Rattle.image.proofs.head.Head.{the-type}
 use Rattle.image.proofs.Encoding.{read-within, read-ended}
 use Rattle.tree.specs.Images.{items, framesIn, framesOf}
-use Rattle.tree.proofs.Items.{items-read, items-broken, items-none, items-end}
+use Rattle.tree.proofs.Items.{items-broken, items-none, frames-read, frames-end}
 use Rattle.lookup.specs.Searches.{isNode}
 use Rattle.lookup.specs.Subtrees.{upTo}
 use Rattle.table.specs.Map.{Map}
@@ -27,10 +27,6 @@ use Rattle.scan.specs.Meanings.{definitionsOf, definitionsAt}
 use Rattle.parse.specs.Commands.{lacking, isMissing, missingRequired}
 
 -- the frames of bytes, by what they begin with
-pub frames-read : (s : List ℕ) (f : Frame) (n : ℕ) → readFirst s ≡ read f n → framesOf s ≡ f ∷ framesOf (drop n s)
-unfolding framesOf framesIn
-frames-read s f n e = ap framesIn (items-read s f n e)
-
 pub frames-none : (s : List ℕ) (head : Head) → headFirst s ≡ head → OneOf (3 ∷ 4 ∷ []) (tagOf the-type head) → framesOf s ≡ []
 unfolding framesOf framesIn readFirst
 frames-none s (HeadNode d h t) e k = absurd (miss (3 ∷ 4 ∷ []) 0 tt k)
@@ -38,10 +34,6 @@ frames-none s (HeadOption r c t) e k = absurd (miss (3 ∷ 4 ∷ []) 1 tt k)
 frames-none s (HeadFlag c t) e k = absurd (miss (3 ∷ 4 ∷ []) 2 tt k)
 frames-none s Bad e k = ap framesIn (items-broken s (ap (readBy s) e))
 frames-none s End e k = ap (λ (l : List ℕ). framesIn (items l)) (read-ended s (ap (readBy s) e)) ∙ ap framesIn items-none
-
-pub frames-end : (s : List ℕ) (at : ℕ) → length s ≤ at → framesOf (drop at s) ≡ []
-unfolding framesOf framesIn
-frames-end s at h = ap framesIn (items-end s at h)
 
 module _ (image : List ℕ) (at : ℕ) where
   -- a definition, and those behind it

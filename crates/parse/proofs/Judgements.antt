@@ -1,9 +1,9 @@
 -- What a verdict rests on: the scan's stand, the command that was reached, and the limits of its node, within which a table holds what the map holds.
-use Prim.Native.Nat.{ℕ, suc, _+_, _-_, _≤_}
+use Prim.Native.Nat.{ℕ, suc, _+_, _≤_}
 use mathlib.Core.Path.{_≡_, refl, sym, ap, _∙_}
 use mathlib.Core.Bool.{Bool, true, false, cond}
 use mathlib.Core.List.{List, [], _∷_, _++_}
-use mathlib.Core.Option.{Option, some}
+use mathlib.Core.Option.{Option}
 use native.Mathlib.Omega.{arith}
 use borrow.Author.Tests.{leb-true}
 use lib.Dec.{leb}
@@ -16,16 +16,16 @@ use Rattle.frame.specs.Series.{textsFrom, textsIn}
 use Rattle.image.specs.Frames.{Perhaps, Frame, node, option, flag}
 use Rattle.image.specs.Limits.{both, fair}
 use Rattle.image.proofs.Fields.{both-first, both-second, both-true}
-use Rattle.tree.specs.Images.{framesOf, flat}
+use Rattle.tree.specs.Images.{framesOf}
 use Rattle.tree.specs.Rules.{Seen, start, isLess, follows, obeys, after, obeyAll, checkTree}
+use Rattle.tree.specs.Commands.{Holds}
+use Rattle.tree.specs.declared.command.Span.{Span}
 use Rattle.tree.specs.Forest.{Forest, bare, grown, flatten, optionsIn, flagsIn, definitionsOnly, modest, orderly}
 use Rattle.tree.specs.declared.check.Checked.the-variants.{Good}
 use Rattle.tree.proofs.Wholes.{frames-flat, WellFormed, good-well-formed}
 use Rattle.tree.proofs.Planting.{obeys-forest}
 use Rattle.lookup.specs.Searches.{isNode}
-use Rattle.lookup.specs.Nodes.{findNode}
 use Rattle.lookup.specs.Subtrees.{upTo, subtree, treeNamed}
-use Rattle.lookup.specs.declared.node.Part.the-variants.{Between, Nowhere}
 use Rattle.lookup.proofs.Lookups.{subtree-named, child-named, named-orderly}
 use Rattle.table.specs.Held.{partOf, mapOf}
 use Rattle.table.specs.Map.{put}
@@ -38,12 +38,13 @@ use Rattle.scan.specs.declared.standing.Scan.{Scan}
 use Rattle.scan.proofs.Steps.{stand-by}
 use Rattle.scan.proofs.Room.{options-few, flags-few, args-same}
 use Rattle.parse.specs.Commands.{Reached, onSubtree, descend, missingRequired, Outcome, parsed, fault, onMissing, outcomeOf, concluded, parseIn, parseWords, emptyCommand}
-use Rattle.parse.specs.Held.{partAt, outcomeBy, outcomeIn, numberOf, Within, allFair, Sound, Descended, Judging}
+use Rattle.parse.specs.Held.{partAt, outcomeBy, outcomeIn, numberOf, Named, Within, allFair, Sound, Descended, Judging}
 use Rattle.parse.specs.declared.command.Place.{Place}
 use Rattle.parse.specs.declared.judging.Verdict.{Verdict}
 use Rattle.parse.specs.declared.judging.Judged.{Judged}
 use Rattle.scan.proofs.Walks.{word-within}
-use Rattle.parse.proofs.Descents.{all-fit, fair-subtree, sound-flat, found-in, found-some, path-more, path-whole, words-more}
+use Rattle.parse.proofs.Descents.{all-fit, fair-subtree, sound-flat, path-more, path-whole, words-more}
+use Rattle.parse.proofs.Named.{held-none, held-some}
 
 -- THE VERDICT on a scan
 module _ (words part : List ℕ) (s : Scan) (defs : List Frame) (path : List (List ℕ)) (rest : List ℕ) where
@@ -237,37 +238,43 @@ module _ (words image : List ℕ) (kind n : ℕ) (b : Bytes words) (s : length w
   pub whole-first : Whole (take (3 + n) words)
   whole-first = path-whole words 0 kind n b s e whole-nothing
 
-  pub first-unknown : findNode image 0 first ≡ Nowhere → fault 4 first ≡ parseWords (framesOf image) (textsIn words)
+  abbrev command : List Frame
+  command = subtree 0 first (framesOf image)
+
+  held : (part : Span) → Named words image part → Holds image command part
+  unfolding Named
+  held part m = m first later texts-first
+
+  pub first-unknown : (part : Span) → Named words image part → part .start ≡ part .end → fault 4 first ≡ parseWords (framesOf image) (textsIn words)
   unfolding parseWords parseIn
-  first-unknown f =
-      let h = rw f at (found-in image 0 first (good-sound image bi good)) in
-      sym (ap (parseWords (framesOf image)) texts-first ∙ ap (λ (fs : List Frame). parseIn fs first later) h)
+  first-unknown part m o =
+      sym (ap (parseWords (framesOf image)) texts-first ∙ ap (λ (fs : List Frame). parseIn fs first later) (held-none image command part (held part m) o))
 
   -- it names a command
-  module _ (top bottom : ℕ) (f : findNode image 0 first ≡ Between top bottom) where
-    abbrev command : List Frame
-    command = subtree 0 first (framesOf image)
-
+  module _ (part : Span) (named : Named words image part) (apart : part .start ≡ part .end → ⊥) where
     abbrev place : Place
-    place = record { start = top; end = bottom; at = 3 + n }
+    place = record { start = part .start; end = part .end; at = 3 + n }
 
-    holds : (top ≤ bottom) × (bottom ≤ length image) × (partAt image place ≡ flat command)
-    holds = rw f at (found-in image 0 first (good-sound image bi good))
+    holds : Holds image command part
+    holds = held part named
+
+    there : (g : Frame) × ((l : List Frame) × (command ≡ g ∷ l))
+    there = held-some image command part holds apart
 
     command-fair : allFair command ≡ true
     command-fair = fair-subtree 0 first (framesOf image) (good-sound image bi good .fair)
 
     pub first-within : Within words image place
-    first-within = record { order = holds .0; inside = holds .1; passed = word-within words 0 kind n e }
+    first-within = record { order = holds .order; inside = holds .inside; passed = word-within words 0 kind n e }
 
     pub first-sound : Sound (partAt image place)
-    first-sound = rw (holds .2) (sound-flat command command-fair)
+    first-sound = rw (holds .bytes) (sound-flat command command-fair)
 
     abbrev reached : Reached
     reached = descend 1 (framesOf (partAt image place)) (textsIn (take (3 + n) words)) later
 
     frames-first : framesOf (partAt image place) ≡ command
-    frames-first = ap framesOf (holds .2) ∙ frames-flat command (all-fit command command-fair)
+    frames-first = ap framesOf (holds .bytes) ∙ frames-flat command (all-fit command command-fair)
 
     reached-is : reached ≡ descend 1 command (first ∷ []) later
     reached-is = ap (λ (fs : List Frame). descend 1 fs (textsIn (take (3 + n) words)) later) frames-first ∙ ap (λ (p : List (List ℕ)). descend 1 command p later) path-first
@@ -281,11 +288,10 @@ module _ (words image : List ℕ) (kind n : ℕ) (b : Bytes words) (s : length w
     pub first-judged : concluded stored reached ≡ parseWords (framesOf image) (textsIn words)
     unfolding parseWords
     first-judged =
-        let some = found-some image 0 first top bottom bi f in
-        let m = subtree-modest image bi good first later (first ∷ []) (some .0) (some .1 .0) (some .1 .1) in
+        let m = subtree-modest image bi good first later (first ∷ []) (there .0) (there .1 .0) (there .1 .1) in
         ap (concluded stored) reached-is
         ∙ sym (concluded-same (descend 1 command (first ∷ []) later) m)
-        ∙ says (some .0) (some .1 .0) (some .1 .1)
+        ∙ says (there .0) (there .1 .0) (there .1 .1)
         ∙ sym (ap (parseWords (framesOf image)) texts-first)
 
     -- and the descent from the top of the tree leads to the same command
@@ -297,8 +303,7 @@ module _ (words image : List ℕ) (kind n : ℕ) (b : Bytes words) (s : length w
 
     pub first-frames : reached .frames ≡ descend 0 (framesOf image) [] (textsIn words) .frames
     first-frames =
-        let some = found-some image 0 first top bottom bi f in
-        ap (λ (r : Reached). r .frames) (reached-is ∙ from-top (some .0) (some .1 .0) (some .1 .1))
+        ap (λ (r : Reached). r .frames) (reached-is ∙ from-top (there .0) (there .1 .0) (there .1 .1))
         ∙ sym (ap (λ (l : List (List ℕ)). descend 0 (framesOf image) [] l .frames) texts-first)
 
 -- a judgement told in other words

@@ -26,7 +26,7 @@ use Rattle.tree.specs.Rules.{checkTree}
 use Rattle.tree.specs.declared.check.Checked.{Checked}
 use Rattle.tree.specs.declared.check.Checked.the-variants.{Good, BadFrame}
 use Rattle.parse.specs.Commands.{Outcome, parseWords, parseLine}
-use Rattle.parse.specs.Answer.{outcomeAnswer, outcomeLeaves, Telling, onChecked, parseAnswer, parseLeaves, Parsing}
+use Rattle.parse.specs.Answer.{outcomeAnswer, outcomeLeaves, Telling, onChecked, Worded, parseAnswer, parseLeaves, Parsing}
 use Rattle.parse.specs.declared.answer.Parsed.{Parsed}
 use Rattle.parse.specs.declared.answer.Parsed.the-variants.{BadTree, LineTooLong, IllFormed}
 
@@ -96,44 +96,58 @@ module _ (line words left : List ℕ) (t : Tokens) (k : Tokenized line words t l
       let q = x .3 in
       omega arith
 
--- THE CALL under a well-formed tree
-module _ (image line out : List ℕ) (good : checkTree image ≡ Good) where
-  as-good : {A : Type 0} (bad : ℕ → A) (a : A) → onChecked (checkTree image) bad a ≡ a
-  as-good bad a = ap (λ (x : Checked). onChecked x bad a) good
+-- THE CALL: the image's refusal goes before the line's
+checked-same : {A : Type 0} (x : Checked) (a : A) → a ≡ onChecked x (λ n. a) a
+checked-same Good a = refl
+checked-same (BadFrame n) a = refl
 
-  pub line-long : (n : ℕ) → LineTold line (TooLong n) → Parsing image line out (LineTooLong n) out
+module _ (image line out : List ℕ) (r : Parsed) where
+  pub line-long : (n : ℕ) → LineTold line (TooLong n) → r ≡ onChecked (checkTree image) (λ m. BadTree m) (LineTooLong n) → Parsing image line out r out
   unfolding parseAnswer parseLeaves
-  line-long n x =
+  line-long n x e =
       record {
-        answer = ap LineTooLong (x .1) ∙ sym (as-good _ _ ∙ then-is _ _ _ (x .0));
-        bytes = sym (as-good _ _ ∙ then-is _ _ _ (x .0));
+        answer = e ∙ ap (onChecked (checkTree image) (λ m. BadTree m)) (ap LineTooLong (x .1) ∙ sym (then-is _ _ _ (x .0)));
+        bytes = checked-same (checkTree image) out ∙ ap (onChecked (checkTree image) (λ m. out)) (sym (then-is _ _ _ (x .0)));
       }
 
-  pub line-ill : (n : ℕ) → LineTold line (Ill n) → Parsing image line out (IllFormed n) out
+  pub line-ill : (n : ℕ) → LineTold line (Ill n) → r ≡ onChecked (checkTree image) (λ m. BadTree m) (IllFormed n) → Parsing image line out r out
   unfolding parseAnswer parseLeaves
-  line-ill n x =
+  line-ill n x e =
       record {
-        answer = ap IllFormed (x .2) ∙ sym (as-good _ _ ∙ else-is _ _ _ (x .0) ∙ then-is _ _ _ (x .1));
-        bytes = sym (as-good _ _ ∙ else-is _ _ _ (x .0) ∙ then-is _ _ _ (x .1));
+        answer = e ∙ ap (onChecked (checkTree image) (λ m. BadTree m)) (ap IllFormed (x .2) ∙ sym (else-is _ _ _ (x .0) ∙ then-is _ _ _ (x .1)));
+        bytes = checked-same (checkTree image) out ∙ ap (onChecked (checkTree image) (λ m. out)) (sym (else-is _ _ _ (x .0) ∙ then-is _ _ _ (x .1)));
       }
 
-  pub line-parsed : (n : ℕ) (words : List ℕ) (r : Parsed) (left : List ℕ) → LineTold line (Words n) → words ≡ written line → Telling (parseWords (framesOf image) (textsIn words)) out r left
-      → Parsing image line out r left
+  pub line-parsed : (n : ℕ) (words left : List ℕ) → LineTold line (Words n) → words ≡ written line → Worded image words out r left → Parsing image line out r left
   unfolding parseAnswer parseLeaves parseLine
-  line-parsed n words r left x e t =
+  line-parsed n words left x e t =
       let o : parseWords (framesOf image) (textsIn words) ≡ parseWords (framesOf image) (wordsOf line) = ap (λ (s : List ℕ). parseWords (framesOf image) (textsIn s)) e ∙ ap (parseWords (framesOf image)) (line-texts line (x .2)) in
       record {
-        answer = t .answer ∙ ap (λ (y : Outcome). outcomeAnswer y (length out)) o ∙ sym (as-good _ _ ∙ else-is _ _ _ (x .0) ∙ else-is _ _ _ (x .1));
-        bytes = t .bytes ∙ ap (λ (y : Outcome). outcomeLeaves y out) o ∙ sym (as-good _ _ ∙ else-is _ _ _ (x .0) ∙ else-is _ _ _ (x .1));
+        answer = t .answer ∙ ap (onChecked (checkTree image) (λ m. BadTree m)) (ap (λ (y : Outcome). outcomeAnswer y (length out)) o ∙ sym (else-is _ _ _ (x .0) ∙ else-is _ _ _ (x .1)));
+        bytes = t .bytes ∙ ap (onChecked (checkTree image) (λ m. out)) (ap (λ (y : Outcome). outcomeLeaves y out) o ∙ sym (else-is _ _ _ (x .0) ∙ else-is _ _ _ (x .1)));
       }
 
-as-bad : {A : Type 0} (x : Checked) (n : ℕ) (bad : ℕ → A) (a : A) → x ≡ BadFrame n → onChecked x bad a ≡ bad n
-as-bad x n bad a e = ap (λ (y : Checked). onChecked y bad a) e
+-- the words under a bad tree, and under a good one
+as-checked : {A : Type 0} (x y : Checked) (bad : ℕ → A) (a : A) → x ≡ y → onChecked x bad a ≡ onChecked y bad a
+as-checked x y bad a e = ap (λ (z : Checked). onChecked z bad a) e
 
-pub tree-bad : (image line out : List ℕ) (n : ℕ) → checkTree image ≡ BadFrame n → Parsing image line out (BadTree n) out
-unfolding parseAnswer parseLeaves
-tree-bad image line out n e =
-    record { answer = sym (as-bad (checkTree image) n (λ m. BadTree m) _ e); bytes = sym (as-bad (checkTree image) n (λ m. out) _ e) }
+pub words-bad : (image words out : List ℕ) (n : ℕ) → checkTree image ≡ BadFrame n → Worded image words out (BadTree n) out
+words-bad image words out n e =
+    record { answer = sym (as-checked (checkTree image) (BadFrame n) (λ m. BadTree m) _ e); bytes = sym (as-checked (checkTree image) (BadFrame n) (λ m. out) _ e) }
+
+pub words-told : (image words out : List ℕ) (r : Parsed) (left : List ℕ) → checkTree image ≡ Good → Telling (parseWords (framesOf image) (textsIn words)) out r left → Worded image words out r left
+words-told image words out r left e t =
+    record {
+      answer = t .answer ∙ sym (as-checked (checkTree image) Good (λ m. BadTree m) _ e);
+      bytes = t .bytes ∙ sym (as-checked (checkTree image) Good (λ m. out) _ e);
+    }
+
+-- a refusal of the line
+pub refused-bad : (image : List ℕ) (n : ℕ) (p : Parsed) → checkTree image ≡ BadFrame n → BadTree n ≡ onChecked (checkTree image) (λ m. BadTree m) p
+refused-bad image n p e = sym (as-checked (checkTree image) (BadFrame n) (λ m. BadTree m) p e)
+
+pub refused-good : (image : List ℕ) (p : Parsed) → checkTree image ≡ Good → p ≡ onChecked (checkTree image) (λ m. BadTree m) p
+refused-good image p e = sym (as-checked (checkTree image) Good (λ m. BadTree m) p e)
 
 -- an outcome told in other words
 pub told-same : (a b : Outcome) (out left : List ℕ) (r : Parsed) → a ≡ b → Telling a out r left → Telling b out r left

@@ -7,13 +7,15 @@ use lib.Dec.{ltb, eqb}
 use lib.ListN.{length}
 use Rattle.buffer.specs.Write.{over}
 use Rattle.text.specs.Decoding.{wellFormedLength}
+use Rattle.frame.specs.Series.{textsIn}
+use Rattle.tree.specs.Images.{framesOf}
 use Rattle.tree.specs.Rules.{checkTree}
 use Rattle.tree.specs.declared.check.Checked.{Checked}
 use Rattle.tree.specs.declared.check.Checked.the-variants.{Good, BadFrame}
 use Rattle.report.specs.Report.{reportOf, faultOf}
 use Rattle.report.specs.declared.answer.Reported.{Reported}
 use Rattle.report.specs.declared.answer.Reported.the-variants.{Report as Whole, NoRoom as TooShort}
-use Rattle.parse.specs.Commands.{Outcome, parsed, fault, parseLine}
+use Rattle.parse.specs.Commands.{Outcome, parsed, fault, parseWords, parseLine}
 use Rattle.parse.specs.declared.answer.Parsed.{Parsed}
 use Rattle.parse.specs.declared.answer.Parsed.the-variants.{Report, BadTree, LineTooLong, IllFormed, UnknownCommand, UnknownOption, MissingValue, MissingRequired, NoRoom}
 
@@ -53,6 +55,11 @@ pub record Telling (o : Outcome) (out : List ℕ) (r : Parsed) (left : List ℕ)
 abbrev pub onChecked : {A : Type 0} → Checked → (ℕ → A) → A → A
 onChecked Good bad good = good
 onChecked (BadFrame n) bad good = bad n
+
+-- the words of a line told under a tree that may be bad
+pub record Worded (image words out : List ℕ) (r : Parsed) (left : List ℕ) : Type 0 where
+  pub answer : r ≡ onChecked (checkTree image) (λ n. BadTree n) (outcomeAnswer (parseWords (framesOf image) (textsIn words)) (length out))
+  pub bytes : left ≡ onChecked (checkTree image) (λ n. out) (outcomeLeaves (parseWords (framesOf image) (textsIn words)) out)
 
 unfoldable pub parseAnswer : List ℕ → List ℕ → ℕ → Parsed
 parseAnswer image line room =

@@ -9,6 +9,9 @@ use Rattle.frame.specs.Series.{textsIn}
 use Rattle.image.specs.Frames.{Frame}
 use Rattle.image.specs.Limits.{both, fair}
 use Rattle.tree.specs.Images.{framesOf, flat}
+use Rattle.tree.specs.Commands.{Holds}
+use Rattle.tree.specs.declared.command.Span.{Span}
+use Rattle.lookup.specs.Subtrees.{subtree}
 use Rattle.table.specs.Held.{partOf}
 use Rattle.scan.specs.Arguments.{Found}
 use Rattle.scan.specs.Held.{toldOf, foundOf}
@@ -41,6 +44,10 @@ outcomeBy words part path found (MissingRequired name) = fault 7 (partOf part (n
 unfoldable pub outcomeIn : List ℕ → List ℕ → List ℕ → Judged → Outcome
 outcomeIn words image rest j =
     outcomeBy words (partAt image (j .place)) (textsIn (take (j .place .at) words)) (foundOf words (partAt image (j .place)) rest (j .scan)) (j .verdict)
+
+-- a part of the image that is the command which the first word names
+unfoldable pub Named : List ℕ → List ℕ → Span → Type 0
+Named words image s = (w : List ℕ) (l : List (List ℕ)) → textsIn words ≡ w ∷ l → Holds image (subtree 0 w (framesOf image)) s
 
 -- a place within the image and the words
 pub record Within (words image : List ℕ) (place : Place) : Type 0 where

@@ -7,13 +7,12 @@ use frame::Framed;
 use frame::read_frame;
 use image::Head;
 use image::head_of;
-use lookup::Part as Found;
-use lookup::find_node;
 use scan::Progress;
 use scan::Scan;
 use scan::Told;
 use scan::parse_args;
 use table::Part;
+use tree::Span;
 ghost use mathlib.Core.Path.{_≡_};
 ghost use mathlib.Core.List.{List, []};
 ghost use Prim.Native.Nat.{ℕ, _≤_};
@@ -25,7 +24,7 @@ ghost use Rattle.tree.specs.declared.check.Checked.the-variants.{Good};
 ghost use Rattle.scan.specs.Meanings.{definitionsOf, definitionsAt};
 ghost use Rattle.scan.specs.Held.{stored, foundOf, standOf};
 ghost use Rattle.parse.specs.Commands.{Reached, descend, outcomeOf, concluded, parseWords};
-ghost use Rattle.parse.specs.Held.{outcomeBy, Within, Descended, Judging};
+ghost use Rattle.parse.specs.Held.{outcomeBy, Within, Descended, Named, Judging};
 
 // Texts are told by where they stand: a word in the words, a name in the command's part of the image.
 pub enum Verdict {
@@ -113,22 +112,23 @@ fn judge_arguments<'a>(words: &'a [u8], image: &'a [u8], place: Place, rest: &mu
     }
 }
 
-// What the words of a line say under a well-formed tree; positional words are kept in `rest`.
-pub fn judge<'a>(words: &'a [u8], image: &'a [u8], rest: &mut [u8]) -> Judged
-    requires { ⌜ (length (now words) ≤ 4096) × (length (now words) ≤ length (now rest)) × (checkTree (now image) ≡ Good) ⌝ }
+// What the words of a line say under a well-formed tree, in which their command lies in a part; positional words are kept in `rest`.
+pub fn judge<'a>(words: &'a [u8], image: &'a [u8], command: Span, rest: &mut [u8]) -> Judged
+    requires { ⌜ (length (now words) ≤ 4096) × (length (now words) ≤ length (now rest)) × (checkTree (now image) ≡ Good) × Named (now words) (now image) command ⌝ }
     ensures { λ r. ⌜ Judging (now (words .entry)) (now (image .entry)) (now (rest .entry)) (now (rest .exit)) r (parseWords (framesOf (now (image .entry))) (textsIn (now (words .entry)))) (descend 0 (framesOf (now (image .entry))) [] (textsIn (now (words .entry))) .frames) ⌝ }
 {
     let Framed::Frame { kind: _, length } = read_frame(words, 0) else {
         return without_command(Verdict::NoWords);
     };
-    let behind = 3 + length;
-    let Found::Between { start, end } = find_node(image, 0, &words[3..behind]) else {
+    let start = command.start;
+    let end = command.end;
+    if start == end {
         return without_command(Verdict::UnknownCommand(Part { start: 3, length }));
-    };
+    }
     let first = Place {
         start,
         end,
-        at: behind,
+        at: 3 + length,
     };
     judge_arguments(words, image, find_command(words, image, first), rest)
 }

@@ -8,6 +8,7 @@ mod required;
 
 pub use answer::Parsed;
 pub use command::Place;
+pub use command::command_of;
 pub use fault::dashes_of;
 pub use fault::number_of;
 pub use fault::text_of;

@@ -1,6 +1,7 @@
-// `parse`: the image is tested, the line split into words, the words are judged, and the report or the fault is written.
+// `parse`: the line is split into words, the image tested, the words are judged, and the report or the fault is written.
 use super::answer::Parsed;
 use super::answer::answer;
+use super::command::first_word;
 use super::fault::EMPTY;
 use super::fault::dashes_of;
 use super::fault::number_of;
@@ -10,7 +11,9 @@ use super::judging::judge;
 use report::write_fault;
 use report::write_report;
 use tree::Checked;
+use tree::Span;
 use tree::check_tree;
+use tree::survey;
 use words::Tokens;
 use words::tokenize;
 ghost use mathlib.Core.Path.{_≡_};
@@ -21,8 +24,9 @@ ghost use Rattle.tree.specs.Images.{framesOf};
 ghost use Rattle.tree.specs.Rules.{checkTree};
 ghost use Rattle.tree.specs.declared.check.Checked.the-variants.{Good};
 ghost use Rattle.parse.specs.Commands.{parseWords};
-ghost use Rattle.parse.specs.Answer.{Telling, Parsing};
-ghost use Rattle.parse.specs.Held.{outcomeIn, Within};
+ghost use Rattle.parse.specs.Answer.{Telling, onChecked, Worded, Parsing};
+ghost use Rattle.parse.specs.Held.{outcomeIn, Named, Within};
+ghost use Rattle.parse.specs.declared.answer.Parsed.the-variants.{BadTree};
 
 // Writes what was judged: a report, or the frame of a fault.
 fn tell<'a>(words: &'a [u8], image: &'a [u8], judged: Judged, rest: &[u8], out: &mut [u8]) -> Parsed
@@ -64,36 +68,52 @@ fn tell<'a>(words: &'a [u8], image: &'a [u8], judged: Judged, rest: &[u8], out: 
     )
 }
 
-// The words of a line under a well-formed tree.
-fn parse_words<'a>(words: &'a [u8], image: &'a [u8], out: &mut [u8]) -> Parsed
-    requires { ⌜ (length (now words) ≤ 4096) × (checkTree (now image) ≡ Good) ⌝ }
+// The words of a line under a well-formed tree, in which their command lies in a part.
+fn parse_command<'a>(words: &'a [u8], image: &'a [u8], command: Span, out: &mut [u8]) -> Parsed
+    requires { ⌜ (length (now words) ≤ 4096) × (checkTree (now image) ≡ Good) × Named (now words) (now image) command ⌝ }
     ensures { λ r. ⌜ Telling (parseWords (framesOf (now (image .entry))) (textsIn (now (words .entry)))) (now (out .entry)) r (now (out .exit)) ⌝ }
 {
     let mut rest = [0u8; 4096];
-    let judged = judge(words, image, &mut rest);
+    let judged = judge(words, image, command, &mut rest);
     tell(words, image, judged, &rest, out)
 }
 
-// A line under a well-formed tree. Its words always find room: four bytes for each byte of a line.
-fn parse_line(image: &[u8], line: &[u8], out: &mut [u8]) -> Parsed
-    requires { ⌜ checkTree (now image) ≡ Good ⌝ }
+// The words of a line. The image is tested, and passing its frames tells where the command is.
+fn parse_words<'a>(words: &'a [u8], image: &'a [u8], out: &mut [u8]) -> Parsed
+    requires { ⌜ length (now words) ≤ 4096 ⌝ }
+    ensures { λ r. ⌜ Worded (now (image .entry)) (now (words .entry)) (now (out .entry)) r (now (out .exit)) ⌝ }
+{
+    let surveyed = survey(image, first_word(words));
+    let checked = surveyed.checked;
+    match checked {
+        Checked::BadFrame(n) => Parsed::BadTree(n),
+        Checked::Good => {
+            let command = surveyed.command;
+            parse_command(words, image, command, out)
+        }
+    }
+}
+
+// A refusal of the line, which that of the image goes before.
+fn unless_bad(image: &[u8], refusal: Parsed) -> Parsed
+    ensures { λ r. ⌜ r ≡ onChecked (checkTree (now (image .entry))) (λ n. BadTree n) refusal ⌝ }
+{
+    match check_tree(image) {
+        Checked::BadFrame(n) => Parsed::BadTree(n),
+        Checked::Good => refusal,
+    }
+}
+
+// The report of a line's command, at the front of out; or a refusal, of which 4 to 7 write a frame with their text. The words of a line always find
+// room: four bytes for each byte of it.
+pub fn parse(image: &[u8], line: &[u8], out: &mut [u8]) -> Parsed
     ensures { λ r. ⌜ Parsing (now (image .entry)) (now (line .entry)) (now (out .entry)) r (now (out .exit)) ⌝ }
 {
     let mut words = [0u8; 4096];
     match tokenize(line, &mut words) {
         Tokens::Words(n) => parse_words(&words[..n], image, out),
-        Tokens::LineTooLong(n) => Parsed::LineTooLong(n),
-        Tokens::IllFormed(n) => Parsed::IllFormed(n),
+        Tokens::LineTooLong(n) => unless_bad(image, Parsed::LineTooLong(n)),
+        Tokens::IllFormed(n) => unless_bad(image, Parsed::IllFormed(n)),
         Tokens::NoRoom(n) => Parsed::NoRoom(n),
-    }
-}
-
-// The report of a line's command, at the front of out; or a refusal, of which 4 to 7 write a frame with their text.
-pub fn parse(image: &[u8], line: &[u8], out: &mut [u8]) -> Parsed
-    ensures { λ r. ⌜ Parsing (now (image .entry)) (now (line .entry)) (now (out .entry)) r (now (out .exit)) ⌝ }
-{
-    match check_tree(image) {
-        Checked::BadFrame(n) => Parsed::BadTree(n),
-        Checked::Good => parse_line(image, line, out),
     }
 }

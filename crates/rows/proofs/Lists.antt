@@ -14,8 +14,8 @@ use Rattle.image.specs.Frames.{Perhaps, absent, present, Frame, node, option, f
 use Rattle.image.specs.Reading.{Read, read, broken, ended, readFirst}
 use Rattle.image.proofs.Encoding.{length-text, read-within, read-size}
 use Rattle.tree.specs.Images.{framesOf}
-use Rattle.tree.proofs.Items.{bytes-drop}
-use Rattle.lookup.proofs.Seeks.{frames-read, frames-broken, frames-ended, frames-none}
+use Rattle.tree.proofs.Items.{bytes-drop, frames-read}
+use Rattle.lookup.proofs.Seeks.{frames-broken, frames-ended, frames-none}
 use Rattle.ink.specs.Ascii.{ascii}
 use Rattle.ink.specs.Inks.{Inked, InkedFrom, Countable}
 use Rattle.rows.specs.Rows.{blanks, padded, shortThen, shownAs, requiredMark, entry, optionRow, flagRow, nodeRow, rowOf, endsList, rows, titled}

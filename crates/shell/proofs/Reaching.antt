@@ -13,7 +13,8 @@ use Rattle.image.proofs.head.Head.{the-type}
 use Rattle.tree.specs.Images.{framesOf}
 use Rattle.lookup.specs.Subtrees.{subtree}
 use Rattle.parse.specs.Commands.{onSubtree, Reached, descend, fault, parseIn, parseWords}
-use Rattle.parse.proofs.Definitions.{frames-read, frames-none}
+use Rattle.tree.proofs.Items.{frames-read}
+use Rattle.parse.proofs.Definitions.{frames-none}
 use Rattle.shell.specs.Lines.{handlerOf, carried, executeIn, execute}
 
 -- THE HANDLER of the node that bytes begin with

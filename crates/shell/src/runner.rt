@@ -22,6 +22,7 @@ use message::show_ill_formed;
 use message::show_message;
 use message::show_unknown_help;
 use parse::Judged;
+use parse::command_of;
 use parse::dashes_of;
 use parse::judge;
 use parse::number_of;
@@ -120,7 +121,8 @@ fn execute_words<'a>(words: &'a [u8], image: &'a [u8], out: &mut [u8]) -> Ran
     ensures { λ r. ⌜ Answered (execute (framesOf (now (image .entry))) (textsIn (now (words .entry)))) (now (out .entry)) r (now (out .exit)) ⌝ }
 {
     let mut rest = [0u8; 4096];
-    let judged = judge(words, image, &mut rest);
+    let command = command_of(words, image);
+    let judged = judge(words, image, command, &mut rest);
     let verdict = judged.verdict;
     if number_of(verdict) != 0 {
         return tell_fault(words, image, judged, out);

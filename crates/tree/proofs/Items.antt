@@ -13,7 +13,7 @@ use Rattle.frame.specs.Text.{Bytes}
 use Rattle.image.specs.Frames.{Frame}
 use Rattle.image.specs.Reading.{headFirst, Read, read, broken, ended, readFirst}
 use Rattle.image.proofs.Encoding.{read-within, read-ended}
-use Rattle.tree.specs.Images.{Item, whole, torn, itemsFrom, items}
+use Rattle.tree.specs.Images.{Item, whole, torn, itemsFrom, items, framesIn, framesOf}
 use Rattle.tree.specs.Rules.{Seen, start, obeys, after, judge, checkTree}
 use Rattle.tree.specs.Steps.{startWalk, seenBy, Sound, passed, stepBy}
 use Rattle.tree.specs.declared.walk.Walk.{Walk}
@@ -56,6 +56,15 @@ items-none = refl
 
 pub items-end : (s : List ℕ) (at : ℕ) → length s ≤ at → items (drop at s) ≡ []
 items-end s at h = rw (drop-end s at h) items-none
+
+-- the frames of bytes
+pub frames-read : (s : List ℕ) (f : Frame) (n : ℕ) → readFirst s ≡ read f n → framesOf s ≡ f ∷ framesOf (drop n s)
+unfolding framesOf framesIn
+frames-read s f n e = ap framesIn (items-read s f n e)
+
+pub frames-end : (s : List ℕ) (at : ℕ) → length s ≤ at → framesOf (drop at s) ≡ []
+unfolding framesOf framesIn
+frames-end s at h = ap framesIn (items-end s at h)
 
 -- a frame that obeys, one that does not, and bytes that are none
 module _ (seen : Seen) (n : ℕ) (s : List ℕ) where

@@ -73,6 +73,10 @@ module _ (image : List ℕ) (at : ℕ) where
       by Bad q r = cc
       by End q r = cc
 
+-- the same of a head that was read
+pub head-name : (image : List ℕ) (at d h : ℕ) (t : Lengths) → Node d h t ≡ headFirst (drop at image) → take (t .name) (drop 5 (drop at image)) ≡ nameAt image (at + 4)
+head-name image at d h t e = name-lies image at t (view (drop at image) (Node d h t) (sym e) .texts)
+
 -- the walk past a frame that lies at its place and obeys
 pub passes : (image : List ℕ) (walk : Walk) → Sound walk → (f : Frame) (size : ℕ) → readFirst (drop (walk .at) image) ≡ read f size
     → obeys (seenBy image walk) f ≡ true → Past image walk f size (passed walk f size)

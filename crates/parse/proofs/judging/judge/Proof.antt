@@ -1,13 +1,9 @@
 -- `parse::judging::judge` meets its contract: the first word names the command, and what its part says is what the image says.
-use Prim.Native.Nat.{_-_}
 use mathlib.Core.Path.{sym, _∙_}
 use native.Mathlib.Omega.{arith}
-use lib.ListN.{length}
 use Rattle.frame.specs.Text.{Bytes}
 use Rattle.frame.proofs.Series.{texts-stop}
-use Rattle.table.specs.Held.{partOf}
 use Rattle.scan.proofs.Walks.{word-within}
-use Rattle.parse.proofs.Descents.{found-as, name-part}
 use Rattle.parse.proofs.Judgements.{good-short, whole-first, first-unknown, first-within, first-sound, first-judged, first-frames, judged-as, judged-without, no-words}
 use borrow.Author.Needs.{needs}
 use Rattle.parse.proofs.judging.judge.Statement.{statement}
@@ -27,33 +23,6 @@ returns c =
     let w = c .without-command .ensures in
     judged-without (c .before .before .before .before .before .before .args .words .now) (c .before .before .before .before .before .before .args .image .now) (c .before .before .before .before .before .before .args .rest .now) _ _ _ _ (w .0) (w .1) (w .2) (λ part path found. no-words (c .before .before .before .before .before .before .args .words .now) (c .before .before .before .before .before .before .args .image .now) (texts-stop _ _ (sym (c .before .before .read-frame .ensures)) (c .before .match .keys2))) (λ z. omega arith)
 
-add-behind : tie.Need-add-behind
-add-behind c =
-    let h = word-within (c .before .before .before .before .before .before .before .args .words .now) 0 _ (c .before .length .given .0 .1 .0) (sym (c .before .before .before .read-frame .ensures) ∙ c .before .length .given .1) in
-    let z = c .before .before .before .before .before .before .before .pre .0 in
-    omega arith
-
-sub-find-node : tie.Need-sub-find-node
-sub-find-node c = search needs
-
-part-find-node-start : tie.Need-part-find-node-start
-part-find-node-start c = search needs
-
-part-find-node-end : tie.Need-part-find-node-end
-part-find-node-end c =
-    let h = word-within (c .before .before .before .before .before .before .before .args .words .now) 0 _ (c .before .length .given .0 .1 .0) (sym (c .before .before .before .read-frame .ensures) ∙ c .before .length .given .1) in
-    let z = c .before .before .before .before .before .before .before .pre .0 in
-    omega arith
-
-find-node-requires : tie.Need-find-node-requires
-find-node-requires c κs = search needs
-
-enum-known-start : tie.Need-enum-known-start
-enum-known-start c = search needs
-
-enum-told : tie.Need-enum-told
-enum-told c = search needs
-
 without-command-requires-2 : tie.Need-without-command-requires-2
 without-command-requires-2 c κs = search needs
 
@@ -61,23 +30,29 @@ returns-2 : tie.Need-returns-2
 unfolding Bytes
 returns-2 c =
     let w = c .without-command2 .ensures in
-    judged-without (c .before .before .before .before .before .before .before .before .before .before .before .before .args .words .now) (c .before .before .before .before .before .before .before .before .before .before .before .before .args .image .now) (c .before .before .before .before .before .before .before .before .before .before .before .before .args .rest .now) _ _ _ _ (w .0) (w .1) (w .2) (λ part path found. first-unknown (c .before .before .before .before .before .before .before .before .before .before .before .before .args .words .now) (c .before .before .before .before .before .before .before .before .before .before .before .before .args .image .now) _ (c .before .before .before .before .before .before .length .given .0 .1 .0) (λ i. c .before .before .before .before .before .before .before .before .before .before .before .shared-slice-known .given i .fits) (c .before .before .before .before .before .before .before .before .before .before .before .before .pre .0) (sym (c .before .before .before .before .before .before .before .before .read-frame .ensures) ∙ c .before .before .before .before .before .before .length .given .1) (λ i. c .before .before .before .before .before .before .before .before .before .before .shared-slice-known2 .given i .fits) (c .before .before .before .before .before .before .before .before .before .before .before .before .pre .2) (found-as (c .before .before .before .before .before .before .before .before .before .before .before .before .args .image .now) 0 _ (partOf (c .before .before .before .before .before .before .before .before .before .before .before .before .args .words .now) 3 (c .before .before .before .before .before .before .length .given .0 .1 .0)) _ _ (name-part (c .before .before .before .before .before .before .before .before .before .before .before .before .args .words .now) 3 (c .before .before .before .before .before .before .length .given .0 .1 .0)) (c .before .before .before .find-node .ensures) (c .before .enum-told .given .1))) (λ z. omega arith)
+    judged-without (c .before .before .before .before .before .before .before .before .before .args .words .now) (c .before .before .before .before .before .before .before .before .before .args .image .now) (c .before .before .before .before .before .before .before .before .before .args .rest .now) _ _ _ _ (w .0) (w .1) (w .2) (λ part path found. first-unknown (c .before .before .before .before .before .before .before .before .before .args .words .now) (c .before .before .before .before .before .before .before .before .before .args .image .now) _ (c .before .before .before .length .given .0 .1 .0) (λ i. c .before .before .before .before .before .before .before .before .shared-slice-known .given i .fits) (c .before .before .before .before .before .before .before .before .before .pre .0) (sym (c .before .before .before .before .before .read-frame .ensures) ∙ c .before .before .before .length .given .1) (λ i. c .before .before .before .before .before .before .before .shared-slice-known2 .given i .fits) (c .before .before .before .before .before .before .before .before .before .pre .2) (c .before .before .before .before .before .before .before .before .before .args .command) (c .before .before .before .before .before .before .before .before .before .pre .3) (c .before .if1 .taken)) (λ z. omega arith)
+
+add-t14 : tie.Need-add-t14
+add-t14 c =
+    let h = word-within (c .before .before .before .before .before .before .before .before .args .words .now) 0 _ (c .before .before .length .given .0 .1 .0) (sym (c .before .before .before .before .read-frame .ensures) ∙ c .before .before .length .given .1) in
+    let z = c .before .before .before .before .before .before .before .before .pre .0 in
+    omega arith
 
 find-command-requires : tie.Need-find-command-requires
 unfolding Bytes
 find-command-requires c κs =
-    ((first-within (c .before .before .before .before .before .before .before .before .before .before .before .before .args .words .now) (c .before .before .before .before .before .before .before .before .before .before .before .before .args .image .now) _ (c .before .before .before .before .before .before .length .given .0 .1 .0) (λ i. c .before .before .before .before .before .before .before .before .before .before .before .shared-slice-known .given i .fits) (c .before .before .before .before .before .before .before .before .before .before .before .before .pre .0) (sym (c .before .before .before .before .before .before .before .before .read-frame .ensures) ∙ c .before .before .before .before .before .before .length .given .1) (λ i. c .before .before .before .before .before .before .before .before .before .before .shared-slice-known2 .given i .fits) (c .before .before .before .before .before .before .before .before .before .before .before .before .pre .2) _ _ (found-as (c .before .before .before .before .before .before .before .before .before .before .before .before .args .image .now) 0 _ (partOf (c .before .before .before .before .before .before .before .before .before .before .before .before .args .words .now) 3 (c .before .before .before .before .before .before .length .given .0 .1 .0)) _ _ (name-part (c .before .before .before .before .before .before .before .before .before .before .before .before .args .words .now) 3 (c .before .before .before .before .before .before .length .given .0 .1 .0)) (c .before .before .before .find-node .ensures) (c .before .start .given .1)), first-sound (c .before .before .before .before .before .before .before .before .before .before .before .before .args .words .now) (c .before .before .before .before .before .before .before .before .before .before .before .before .args .image .now) _ (c .before .before .before .before .before .before .length .given .0 .1 .0) (λ i. c .before .before .before .before .before .before .before .before .before .before .before .shared-slice-known .given i .fits) (c .before .before .before .before .before .before .before .before .before .before .before .before .pre .0) (sym (c .before .before .before .before .before .before .before .before .read-frame .ensures) ∙ c .before .before .before .before .before .before .length .given .1) (λ i. c .before .before .before .before .before .before .before .before .before .before .shared-slice-known2 .given i .fits) (c .before .before .before .before .before .before .before .before .before .before .before .before .pre .2) _ _ (found-as (c .before .before .before .before .before .before .before .before .before .before .before .before .args .image .now) 0 _ (partOf (c .before .before .before .before .before .before .before .before .before .before .before .before .args .words .now) 3 (c .before .before .before .before .before .before .length .given .0 .1 .0)) _ _ (name-part (c .before .before .before .before .before .before .before .before .before .before .before .before .args .words .now) 3 (c .before .before .before .before .before .before .length .given .0 .1 .0)) (c .before .before .before .find-node .ensures) (c .before .start .given .1)), whole-first (c .before .before .before .before .before .before .before .before .before .before .before .before .args .words .now) (c .before .before .before .before .before .before .before .before .before .before .before .before .args .image .now) _ (c .before .before .before .before .before .before .length .given .0 .1 .0) (λ i. c .before .before .before .before .before .before .before .before .before .before .before .shared-slice-known .given i .fits) (c .before .before .before .before .before .before .before .before .before .before .before .before .pre .0) (sym (c .before .before .before .before .before .before .before .before .read-frame .ensures) ∙ c .before .before .before .before .before .before .length .given .1) (λ i. c .before .before .before .before .before .before .before .before .before .before .shared-slice-known2 .given i .fits) (c .before .before .before .before .before .before .before .before .before .before .before .before .pre .2)), (c .before .before .before .before .before .before .before .before .before .before .before .before .pre .0, good-short (c .before .before .before .before .before .before .before .before .before .before .before .before .args .image .now) (λ i. c .before .before .before .before .before .before .before .before .before .before .shared-slice-known2 .given i .fits) (c .before .before .before .before .before .before .before .before .before .before .before .before .pre .2)))
+    ((first-within (c .before .before .before .before .before .before .before .before .args .words .now) (c .before .before .before .before .before .before .before .before .args .image .now) _ (c .before .before .length .given .0 .1 .0) (λ i. c .before .before .before .before .before .before .before .shared-slice-known .given i .fits) (c .before .before .before .before .before .before .before .before .pre .0) (sym (c .before .before .before .before .read-frame .ensures) ∙ c .before .before .length .given .1) (λ i. c .before .before .before .before .before .before .shared-slice-known2 .given i .fits) (c .before .before .before .before .before .before .before .before .pre .2) (c .before .before .before .before .before .before .before .before .args .command) (c .before .before .before .before .before .before .before .before .pre .3) (c .if1 .left), first-sound (c .before .before .before .before .before .before .before .before .args .words .now) (c .before .before .before .before .before .before .before .before .args .image .now) _ (c .before .before .length .given .0 .1 .0) (λ i. c .before .before .before .before .before .before .before .shared-slice-known .given i .fits) (c .before .before .before .before .before .before .before .before .pre .0) (sym (c .before .before .before .before .read-frame .ensures) ∙ c .before .before .length .given .1) (λ i. c .before .before .before .before .before .before .shared-slice-known2 .given i .fits) (c .before .before .before .before .before .before .before .before .pre .2) (c .before .before .before .before .before .before .before .before .args .command) (c .before .before .before .before .before .before .before .before .pre .3) (c .if1 .left), whole-first (c .before .before .before .before .before .before .before .before .args .words .now) (c .before .before .before .before .before .before .before .before .args .image .now) _ (c .before .before .length .given .0 .1 .0) (λ i. c .before .before .before .before .before .before .before .shared-slice-known .given i .fits) (c .before .before .before .before .before .before .before .before .pre .0) (sym (c .before .before .before .before .read-frame .ensures) ∙ c .before .before .length .given .1) (λ i. c .before .before .before .before .before .before .shared-slice-known2 .given i .fits) (c .before .before .before .before .before .before .before .before .pre .2)), (c .before .before .before .before .before .before .before .before .pre .0, good-short (c .before .before .before .before .before .before .before .before .args .image .now) (λ i. c .before .before .before .before .before .before .shared-slice-known2 .given i .fits) (c .before .before .before .before .before .before .before .before .pre .2)))
 
 judge-arguments-requires : tie.Need-judge-arguments-requires
 unfolding Bytes
-judge-arguments-requires c κs = (c .before .before .before .before .before .before .before .before .before .before .before .before .before .before .pre .0, good-short (c .before .before .before .before .before .before .before .before .before .before .before .before .before .before .args .image .now) (λ i. c .before .before .before .before .before .before .before .before .before .before .before .before .shared-slice-known2 .given i .fits) (c .before .before .before .before .before .before .before .before .before .before .before .before .before .before .pre .2), c .before .before .before .before .before .before .before .before .before .before .before .before .before .before .pre .1, c .before .find-command .ensures .within)
+judge-arguments-requires c κs = (c .before .before .before .before .before .before .before .before .before .before .pre .0, good-short (c .before .before .before .before .before .before .before .before .before .before .args .image .now) (λ i. c .before .before .before .before .before .before .before .before .shared-slice-known2 .given i .fits) (c .before .before .before .before .before .before .before .before .before .before .pre .2), c .before .before .before .before .before .before .before .before .before .before .pre .1, c .before .find-command .ensures .within)
 
 same-length : tie.Need-same-length
 same-length c = search needs
 
 returns-3 : tie.Need-returns-3
 unfolding Bytes
-returns-3 c = judged-as _ _ _ _ _ _ _ _ _ (first-judged (c .before .before .before .before .before .before .before .before .before .before .before .before .before .before .before .before .before .args .words .now) (c .before .before .before .before .before .before .before .before .before .before .before .before .before .before .before .before .before .args .image .now) _ (c .before .before .before .before .before .before .before .before .before .before .before .length .given .0 .1 .0) (λ i. c .before .before .before .before .before .before .before .before .before .before .before .before .before .before .before .before .shared-slice-known .given i .fits) (c .before .before .before .before .before .before .before .before .before .before .before .before .before .before .before .before .before .pre .0) (sym (c .before .before .before .before .before .before .before .before .before .before .before .before .before .read-frame .ensures) ∙ c .before .before .before .before .before .before .before .before .before .before .before .length .given .1) (λ i. c .before .before .before .before .before .before .before .before .before .before .before .before .before .before .before .shared-slice-known2 .given i .fits) (c .before .before .before .before .before .before .before .before .before .before .before .before .before .before .before .before .before .pre .2) _ _ (found-as (c .before .before .before .before .before .before .before .before .before .before .before .before .before .before .before .before .before .args .image .now) 0 _ (partOf (c .before .before .before .before .before .before .before .before .before .before .before .before .before .before .before .before .before .args .words .now) 3 (c .before .before .before .before .before .before .before .before .before .before .before .length .given .0 .1 .0)) _ _ (name-part (c .before .before .before .before .before .before .before .before .before .before .before .before .before .before .before .before .before .args .words .now) 3 (c .before .before .before .before .before .before .before .before .before .before .before .length .given .0 .1 .0)) (c .before .before .before .before .before .before .before .before .find-node .ensures) (c .before .before .before .before .before .before .start .given .1))) (first-frames (c .before .before .before .before .before .before .before .before .before .before .before .before .before .before .before .before .before .args .words .now) (c .before .before .before .before .before .before .before .before .before .before .before .before .before .before .before .before .before .args .image .now) _ (c .before .before .before .before .before .before .before .before .before .before .before .length .given .0 .1 .0) (λ i. c .before .before .before .before .before .before .before .before .before .before .before .before .before .before .before .before .shared-slice-known .given i .fits) (c .before .before .before .before .before .before .before .before .before .before .before .before .before .before .before .before .before .pre .0) (sym (c .before .before .before .before .before .before .before .before .before .before .before .before .before .read-frame .ensures) ∙ c .before .before .before .before .before .before .before .before .before .before .before .length .given .1) (λ i. c .before .before .before .before .before .before .before .before .before .before .before .before .before .before .before .shared-slice-known2 .given i .fits) (c .before .before .before .before .before .before .before .before .before .before .before .before .before .before .before .before .before .pre .2) _ _ (found-as (c .before .before .before .before .before .before .before .before .before .before .before .before .before .before .before .before .before .args .image .now) 0 _ (partOf (c .before .before .before .before .before .before .before .before .before .before .before .before .before .before .before .before .before .args .words .now) 3 (c .before .before .before .before .before .before .before .before .before .before .before .length .given .0 .1 .0)) _ _ (name-part (c .before .before .before .before .before .before .before .before .before .before .before .before .before .before .before .before .before .args .words .now) 3 (c .before .before .before .before .before .before .before .before .before .before .before .length .given .0 .1 .0)) (c .before .before .before .before .before .before .before .before .find-node .ensures) (c .before .before .before .before .before .before .start .given .1))) (c .before .before .judge-arguments .ensures _ (c .before .before .before .before .find-command .ensures))
+returns-3 c = judged-as _ _ _ _ _ _ _ _ _ (first-judged (c .before .before .before .before .before .before .before .before .before .before .before .before .before .args .words .now) (c .before .before .before .before .before .before .before .before .before .before .before .before .before .args .image .now) _ (c .before .before .before .before .before .before .before .length .given .0 .1 .0) (λ i. c .before .before .before .before .before .before .before .before .before .before .before .before .shared-slice-known .given i .fits) (c .before .before .before .before .before .before .before .before .before .before .before .before .before .pre .0) (sym (c .before .before .before .before .before .before .before .before .before .read-frame .ensures) ∙ c .before .before .before .before .before .before .before .length .given .1) (λ i. c .before .before .before .before .before .before .before .before .before .before .before .shared-slice-known2 .given i .fits) (c .before .before .before .before .before .before .before .before .before .before .before .before .before .pre .2) (c .before .before .before .before .before .before .before .before .before .before .before .before .before .args .command) (c .before .before .before .before .before .before .before .before .before .before .before .before .before .pre .3) (c .before .before .before .before .before .if1 .left)) (first-frames (c .before .before .before .before .before .before .before .before .before .before .before .before .before .args .words .now) (c .before .before .before .before .before .before .before .before .before .before .before .before .before .args .image .now) _ (c .before .before .before .before .before .before .before .length .given .0 .1 .0) (λ i. c .before .before .before .before .before .before .before .before .before .before .before .before .shared-slice-known .given i .fits) (c .before .before .before .before .before .before .before .before .before .before .before .before .before .pre .0) (sym (c .before .before .before .before .before .before .before .before .before .read-frame .ensures) ∙ c .before .before .before .before .before .before .before .length .given .1) (λ i. c .before .before .before .before .before .before .before .before .before .before .before .shared-slice-known2 .given i .fits) (c .before .before .before .before .before .before .before .before .before .before .before .before .before .pre .2) (c .before .before .before .before .before .before .before .before .before .before .before .before .before .args .command) (c .before .before .before .before .before .before .before .before .before .before .before .before .before .pre .3) (c .before .before .before .before .before .if1 .left)) (c .before .before .judge-arguments .ensures _ (c .before .before .before .before .find-command .ensures))
 
 pub judge-spec : {M : Type 1} → statement M
 judge-spec =
@@ -87,15 +62,9 @@ judge-spec =
     enum-known-length
     without-command-requires
     returns
-    add-behind
-    sub-find-node
-    part-find-node-start
-    part-find-node-end
-    find-node-requires
-    enum-known-start
-    enum-told
     without-command-requires-2
     returns-2
+    add-t14
     find-command-requires
     judge-arguments-requires
     same-length

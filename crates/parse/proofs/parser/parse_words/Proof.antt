@@ -1,42 +1,46 @@
--- `parse::parser::parse_words` meets its contract: what is told is what was judged.
-use Prim.Native.Nat.{_≤_}
-use lib.ListN.{length}
-use Rattle.frame.specs.Text.{Bytes}
-use Rattle.parse.proofs.Judgements.{good-short}
-use Rattle.parse.proofs.Lines.{told-same}
+-- `parse::parser::parse_words` meets its contract: the image test answers first, and what it notes is the command of the first word.
+use mathlib.Core.Path.{sym, _∙_}
+use Rattle.parse.proofs.Named.{named-surveyed}
+use Rattle.parse.proofs.Lines.{words-bad, words-told}
 use borrow.Author.Needs.{needs}
 use Rattle.parse.proofs.parser.parse_words.Statement.{statement}
 use Rattle.parse.proofs.parser.parse_words.Tie as tie
 
-slice-aggregate-judge : tie.Need-slice-aggregate-judge
-slice-aggregate-judge c = search needs
+first-word-requires : tie.Need-first-word-requires
+first-word-requires c κs = search needs
 
-judge-requires : tie.Need-judge-requires
-judge-requires c κs = search needs
+survey-requires : tie.Need-survey-requires
+survey-requires c κs = search needs
 
-slice-aggregate-tell : tie.Need-slice-aggregate-tell
-slice-aggregate-tell c = search needs
+enum-known-checked : tie.Need-enum-known-checked
+enum-known-checked c = search needs
 
-tell-requires : tie.Need-tell-requires
-unfolding Bytes
-tell-requires c κs =
-    let j = c .before .before .before .judge .ensures in
-    let l : length (c .before .before .before .judge .last .1 .1 .0) ≤ 4096 = search needs in
-    (j .within, j .kept, l, c .before .before .before .before .before .before .before .before .pre .0, good-short (c .before .before .before .before .before .before .before .before .args .image .now) (λ i. c .before .before .before .before .before .before .shared-slice-known2 .given i .fits) (c .before .before .before .before .before .before .before .before .pre .1))
+enum-told : tie.Need-enum-told
+enum-told c = search needs
+
+parse-command-requires : tie.Need-parse-command-requires
+parse-command-requires c κs =
+    let good = sym (c .before .before .before .before .survey .ensures .checked) ∙ c .before .before .enum-told .given .1 in
+    (c .before .before .before .before .before .before .before .before .before .pre, good, named-surveyed (c .before .before .before .before .before .before .before .before .before .args .words .now) (c .before .before .before .before .before .before .before .before .before .args .image .now) _ _ (c .before .before .before .before .before .first-word .ensures) (c .before .before .before .before .survey .ensures) good)
+
+returns : tie.Need-returns
+returns c = words-bad (c .before .before .before .before .before .before .before .before .args .image .now) (c .before .before .before .before .before .before .before .before .args .words .now) (c .before .before .before .before .before .before .before .before .args .out .now) _ (sym (c .before .before .before .survey .ensures .checked) ∙ c .before .checked .given .1)
 
 same-length : tie.Need-same-length
 same-length c = search needs
 
-returns : tie.Need-returns
-returns c = told-same _ _ _ _ _ (c .before .before .before .before .before .before .judge .ensures .outcome) (c .before .before .tell .ensures)
+returns-2 : tie.Need-returns-2
+returns-2 c = words-told (c .before .before .before .before .before .before .before .before .before .before .before .before .args .image .now) (c .before .before .before .before .before .before .before .before .before .before .before .before .args .words .now) (c .before .before .before .before .before .before .before .before .before .before .before .before .args .out .now) _ _ (sym (c .before .before .before .before .before .before .before .survey .ensures .checked) ∙ c .before .before .before .before .before .enum-told .given .1) (c .before .before .parse-command .ensures)
 
 pub parse-words-spec : {M : Type 1} → statement M
 parse-words-spec =
     tie.close
     (tie.spec
-    slice-aggregate-judge
-    judge-requires
-    slice-aggregate-tell
-    tell-requires
+    first-word-requires
+    survey-requires
+    enum-known-checked
+    enum-told
+    parse-command-requires
+    returns
     same-length
-    returns)
+    returns-2)

@@ -9,6 +9,9 @@ use borrow.Author.Needs.{needs}
 use Rattle.shell.proofs.runner.execute_words.Statement.{statement}
 use Rattle.shell.proofs.runner.execute_words.Tie as tie
 
+command-of-requires : tie.Need-command-of-requires
+command-of-requires c κs = search needs
+
 slice-aggregate-judge : tie.Need-slice-aggregate-judge
 slice-aggregate-judge c = search needs
 
@@ -20,13 +23,13 @@ number-of-requires c κs = search needs
 
 tell-fault-requires : tie.Need-tell-fault-requires
 unfolding Bytes
-tell-fault-requires c κs = (c .before .before .before .before .judge .ensures .within, c .before .before .before .before .before .before .before .before .before .pre .0, good-short (c .before .before .before .before .before .before .before .before .before .args .image .now) (λ i. c .before .before .before .before .before .before .before .shared-slice-known2 .given i .fits) (c .before .before .before .before .before .before .before .before .before .pre .1), λ q. c .before .if1 .taken (c .before .before .number-of .ensures ∙ q))
+tell-fault-requires c κs = (c .before .before .before .before .judge .ensures .within, c .before .before .before .before .before .before .before .before .before .before .pre .0, good-short (c .before .before .before .before .before .before .before .before .before .before .args .image .now) (λ i. c .before .before .before .before .before .before .before .before .shared-slice-known2 .given i .fits) (c .before .before .before .before .before .before .before .before .before .before .pre .1), λ q. c .before .if1 .taken (c .before .before .number-of .ensures ∙ q))
 
 same-length : tie.Need-same-length
 same-length c = search needs
 
 returns : tie.Need-returns
-returns c = said-same _ _ _ _ _ (words-carried (c .before .before .before .before .before .before .before .before .before .before .before .before .args .words .now) (c .before .before .before .before .before .before .before .before .before .before .before .before .args .image .now) _ _ _ (c .before .before .before .before .before .before .before .judge .ensures .outcome) refl) (c .before .before .tell-fault .ensures _ _)
+returns c = said-same _ _ _ _ _ (words-carried (c .before .before .before .before .before .before .before .before .before .before .before .before .before .args .words .now) (c .before .before .before .before .before .before .before .before .before .before .before .before .before .args .image .now) _ _ _ (c .before .before .before .before .before .before .before .judge .ensures .outcome) refl) (c .before .before .tell-fault .ensures _ _)
 
 sub-handler-of : tie.Need-sub-handler-of
 sub-handler-of c = search needs
@@ -53,12 +56,13 @@ returns-2 : tie.Need-returns-2
 returns-2 c =
     let j = c .before .before .before .before .before .before .before .before .before .before .before .judge .ensures in
     let h = c .before .before .before .before .before .handler-of .ensures ∙ ap handlerOf (j .command (sym (c .before .before .before .before .before .before .before .before .before .number-of .ensures) ∙ c .before .before .before .before .before .before .before .before .if1 .left)) in
-    said-same _ _ _ _ _ (words-carried (c .before .before .before .before .before .before .before .before .before .before .before .before .before .before .before .before .args .words .now) (c .before .before .before .before .before .before .before .before .before .before .before .before .before .before .before .before .args .image .now) _ _ _ (j .outcome) h) (c .before .before .tell-command .ensures)
+    said-same _ _ _ _ _ (words-carried (c .before .before .before .before .before .before .before .before .before .before .before .before .before .before .before .before .before .args .words .now) (c .before .before .before .before .before .before .before .before .before .before .before .before .before .before .before .before .before .args .image .now) _ _ _ (j .outcome) h) (c .before .before .tell-command .ensures)
 
 pub execute-words-spec : {M : Type 1} → statement M
 execute-words-spec =
     tie.close
     (tie.spec
+    command-of-requires
     slice-aggregate-judge
     judge-requires
     number-of-requires

@@ -1,0 +1,24 @@
+-- `parse::parser::unless_bad` meets its contract: the image test answers first.
+use mathlib.Core.Path.{sym, _∙_}
+use Rattle.parse.proofs.Lines.{refused-bad, refused-good}
+use borrow.Author.Needs.{needs}
+use Rattle.parse.proofs.parser.unless_bad.Statement.{statement}
+use Rattle.parse.proofs.parser.unless_bad.Tie as tie
+
+check-tree-requires : tie.Need-check-tree-requires
+check-tree-requires c κs = search needs
+
+enum-known-n : tie.Need-enum-known-n
+enum-known-n c = search needs
+
+enum-told : tie.Need-enum-told
+enum-told c = search needs
+
+returns : tie.Need-returns
+returns c = refused-bad (c .before .before .before .before .before .args .image .now) _ _ (sym (c .before .before .before .check-tree .ensures) ∙ c .before .n .given .1)
+
+returns-2 : tie.Need-returns-2
+returns-2 c = refused-good (c .before .before .before .before .args .image .now) _ (sym (c .before .before .check-tree .ensures) ∙ c .enum-told .given .1)
+
+pub unless-bad-spec : {M : Type 1} → statement M
+unless-bad-spec = tie.close (tie.spec check-tree-requires enum-known-n enum-told returns returns-2)

@@ -1,0 +1,88 @@
+-- `tree::check::survey` meets its contract: what is left at every turn is judged as the whole image is, and the command is noted on the way.
+use Prim.Native.Nat.{_-_}
+use mathlib.Core.Path.{refl, _∙_}
+use native.Mathlib.Omega.{arith}
+use borrow.Author.Tests.{not-true, not-false}
+use lib.ListN.{length}
+use Rattle.tree.specs.Commands.{Trail}
+use Rattle.tree.proofs.Items.{OnWay, goes-on, stops, sets-out, arrives, check-long, check-judged}
+use Rattle.tree.proofs.Commands.{trail-sets-out, trail-ends, trail-turn, survey-bad, survey-good}
+use borrow.Author.Needs.{needs}
+use Rattle.tree.proofs.check.survey.Statement.{statement}
+use Rattle.tree.proofs.check.survey.Tie as tie
+
+abbrev Inv-loop : tie.InvT-loop
+Inv-loop image name walk₀ command₀ n₀ walk command n = OnWay image walk n × Trail image name (walk .at) command
+
+abbrev μ-loop : tie.MeasureT-loop
+μ-loop image name walk₀ command₀ n₀ walk command n = length image - walk .at
+
+bad-requires : tie.Need-bad-requires Inv-loop μ-loop
+bad-requires c κs = search needs
+
+returns : tie.Need-returns Inv-loop μ-loop
+returns c = survey-bad _ _ _ _ (c .bad .ensures) (check-long (c .before .before .before .before .args .image .now) (omega (arith, c .before .if1 .taken)))
+
+start-requires : tie.Need-start-requires Inv-loop μ-loop
+start-requires c κs = search needs
+
+none-requires : tie.Need-none-requires Inv-loop μ-loop
+none-requires c κs = search needs
+
+loop-holds : tie.Need-loop-holds Inv-loop μ-loop
+loop-holds c = (sets-out _ _ (c .before .start .ensures), trail-sets-out (c .before .before .before .before .before .args .image .now) (c .before .before .before .before .before .args .name .now) _ _ (c .before .start .ensures) (c .none .ensures .0) (c .none .ensures .1))
+
+step-at-requires : tie.Need-step-at-requires Inv-loop μ-loop
+step-at-requires c κs = (c .before .before .loop .inv .0 .sound, c .before .before .before .before .before .if1 .left, c .before .before .loop .inv .0 .within)
+
+bad-requires-2 : tie.Need-bad-requires-2 Inv-loop μ-loop
+bad-requires-2 c κs = search needs
+
+returns-2 : tie.Need-returns-2 Inv-loop μ-loop
+returns-2 c =
+    survey-bad _ _ _ _ (c .bad2 .ensures)
+    (stops _ _ _ (c .before .before .before .before .before .before .loop .inv .0) _ _ refl (c .before .before .before .step-at .ensures) (not-true _ (c .before .if3 .taken)) (c .before .before .before .before .if2 .taken)
+    ∙ check-judged _ (c .before .before .before .before .before .before .before .before .before .if1 .left))
+
+past-requires : tie.Need-past-requires Inv-loop μ-loop
+past-requires c κs = (c .before .before .before .if2 .taken, c .before .before .before .before .before .before .before .before .if1 .left)
+
+add-n : tie.Need-add-n Inv-loop μ-loop
+add-n c = omega (arith, c .before .before .before .before .before .before .before .loop .inv .0 .count, c .before .before .before .before .before .before .before .loop .inv .0 .within, c .before .before .before .before .before .before .before .before .before .before .if1 .left)
+
+loop-less : tie.Need-loop-less Inv-loop μ-loop
+loop-less c =
+    let t = goes-on _ _ _ (c .before .before .before .before .before .before .before .loop .inv .0) (c .before .before .before .before .step-at .result) _ refl (c .before .before .before .before .step-at .ensures) (not-false _ (c .before .before .if3 .left)) in
+    omega (arith, t .0, t .1 .within)
+
+loop-again : tie.Need-loop-again Inv-loop μ-loop
+loop-again c =
+    let o = not-false _ (c .before .before .if3 .left) in (
+      goes-on _ _ _ (c .before .before .before .before .before .before .before .loop .inv .0) (c .before .before .before .before .step-at .result) _ refl (c .before .before .before .before .step-at .ensures) o .1,
+      trail-turn (c .before .before .before .before .before .before .before .before .before .before .before .before .before .args .image .now) (c .before .before .before .before .before .before .before .before .before .before .before .before .before .args .name .now) (c .before .before .before .before .before .before .before .loop .walk) (c .before .before .before .before .step-at .result) (c .before .before .before .before .before .before .before .loop .command) _ _ refl (c .before .before .before .before .step-at .ensures) o (c .before .past .ensures) (c .before .before .before .before .before .before .before .loop .inv .1),
+    )
+
+returns-3 : tie.Need-returns-3 Inv-loop μ-loop
+returns-3 c =
+    survey-good _ _ _ (arrives _ _ _ (c .before .before .loop .inv .0) (c .if2 .left) ∙ check-judged _ (c .before .before .before .before .before .if1 .left))
+    (trail-ends (c .before .before .before .before .before .before .before .before .args .image .now) (c .before .before .before .before .before .before .before .before .args .name .now) _ _ (c .if2 .left) (c .before .before .loop .inv .1))
+
+pub survey-spec : {M : Type 1} → statement M
+survey-spec =
+    tie.close
+    (tie.spec
+    Inv-loop
+    μ-loop
+    bad-requires
+    returns
+    start-requires
+    none-requires
+    loop-holds
+    step-at-requires
+    bad-requires-2
+    returns-2
+    past-requires
+    add-n
+    loop-less
+    loop-again
+    returns-3)
