@@ -9,15 +9,16 @@ use Rattle.buffer.specs.Write.{over, overAt, Pushed}
 use Rattle.buffer.proofs.Lending.{length-overAt}
 use Rattle.frame.specs.Series.{textsFrom, textsIn}
 use Rattle.table.specs.Map.{Map, putWithin}
-use Rattle.table.specs.Held.{partOf, bitOf, sourceOf, packed, keyOf, valueOf, mapOf, capacity, putEntry}
+use Rattle.table.specs.Held.{partOf, bitOf, sourceOf, packed, keyOf, valueOf, entries, mapOf, tabled, capacity, Fit, putEntry}
 use Rattle.table.specs.declared.packing.Source.{Source}
 use Rattle.table.specs.declared.sorted.Table.{Table}
 use Rattle.table.proofs.Parts.{entry-key, entry-value}
 use Rattle.scan.specs.Arguments.{noneFound, go, withOption, withFlag}
-use Rattle.scan.specs.Held.{stored, foundOf, standBy, standOf, KeySmall, Whole, Apt, Moved, Kept}
+use Rattle.scan.specs.Held.{stored, foundOf, standBy, standOf, fresh, held, KeySmall, Whole, Apt, Moved, Kept}
 use Rattle.scan.specs.declared.standing.Progress.{Progress}
 use Rattle.scan.specs.declared.standing.Progress.the-variants.{Going}
 use Rattle.scan.specs.declared.standing.Scan.{Scan}
+use Rattle.scan.specs.declared.standing.Stage.{Stage}
 
 -- the start
 module _ (words image rest : List ℕ) (o f : Table) where
@@ -31,6 +32,22 @@ module _ (words image rest : List ℕ) (o f : Table) where
   pub apt-starts : Apt rest (record { options = o; flags = f; kept = 0; progress = Going })
   unfolding Whole textsIn textsFrom
   apt-starts = record { small = tt; whole = λ more. refl }
+
+-- the same with lent tables
+none-held : (words image o : List ℕ) → mapOf words image (tabled 0 o) ≡ []
+unfolding mapOf entries
+none-held words image o = refl
+
+module _ (words image rest o f : List ℕ) (s : Stage) (e : s ≡ fresh) where
+  pub stage-starts : standOf words image rest (held o f s) ≡ go noneFound
+  stage-starts = ap (λ (x : Stage). standOf words image rest (held o f x)) e ∙ stand-starts words image rest (tabled 0 o) (tabled 0 f) (none-held words image o) (none-held words image f)
+
+  pub stage-apt : Apt rest (held o f s)
+  stage-apt = rw e (apt-starts words image rest (tabled 0 o) (tabled 0 f))
+
+-- a table with as many entries
+pub fit-as : (n m : ℕ) (t : List ℕ) → n ≡ m → Fit m t → Fit n t
+fit-as n m t e x = rw e x
 
 -- another progress
 pub moved-on : (words image : List ℕ) (s : Scan) (p : Progress) → KeySmall p

@@ -6,7 +6,7 @@ use mathlib.Core.List.{List, _++_}
 use lib.ListN.{length, take, replicate}
 use Rattle.frame.specs.Series.{textsIn}
 use Rattle.table.specs.Map.{putWithin}
-use Rattle.table.specs.Held.{partOf, sourceOf, mapOf, capacity}
+use Rattle.table.specs.Held.{partOf, sourceOf, mapOf, tabled, capacity}
 use Rattle.scan.specs.Meanings.{Means, aFlag, anOption, nothing}
 use Rattle.scan.specs.Forms.{dash}
 use Rattle.scan.specs.Arguments.{Found, Insert, Stand, go, wait, unknownOption, missingValue}
@@ -14,6 +14,7 @@ use Rattle.scan.specs.declared.standing.Told.{Told}
 use Rattle.scan.specs.declared.standing.Progress.{Progress}
 use Rattle.scan.specs.declared.standing.Progress.the-variants.{Going, Waiting, UnknownOption, MissingValue}
 use Rattle.scan.specs.declared.standing.Scan.{Scan}
+use Rattle.scan.specs.declared.standing.Stage.{Stage}
 use Rattle.scan.specs.declared.meaning.Meaning.{Meaning}
 use Rattle.scan.specs.declared.meaning.Meaning.the-variants.{Flag, Option, Unknown}
 
@@ -41,6 +42,13 @@ standBy words image f (MissingValue told) = missingValue (toldOf words told)
 
 unfoldable pub standOf : List ℕ → List ℕ → List ℕ → Scan → Stand
 standOf words image rest s = standBy words image (foundOf words image rest s) (s .progress)
+
+-- while words are read, the tables are lent
+abbrev pub held : List ℕ → List ℕ → Stage → Scan
+held o f s = record { options = tabled (s .options) o; flags = tabled (s .flags) f; kept = s .kept; progress = s .progress }
+
+abbrev pub fresh : Stage
+fresh = record { options = 0; flags = 0; kept = 0; progress = Going }
 
 -- what a name means, told by where it stands in the image
 abbrev pub meansOf : List ℕ → Meaning → Means

@@ -4,6 +4,7 @@ use super::meaning::Meaning;
 use super::meaning::meaning_by_short;
 use super::standing::Progress;
 use super::standing::Scan;
+use super::standing::Stage;
 use super::standing::Told;
 use frame::Framed;
 use frame::read_frame;
@@ -13,6 +14,7 @@ use lookup::definition_of;
 use lookup::option_of;
 use table::Part;
 use table::Source;
+use table::Table;
 use text::Decoded;
 use text::decode;
 ghost use mathlib.Core.Path.{_≡_};
@@ -24,25 +26,27 @@ ghost use Rattle.text.specs.Decoding.{codesIn};
 ghost use Rattle.frame.specs.Framed.{frameFirst};
 ghost use Rattle.frame.specs.declared.framed.Framed.the-variants.{Frame};
 ghost use Rattle.frame.specs.Series.{textsIn};
-ghost use Rattle.table.specs.Held.{partOf};
+ghost use Rattle.table.specs.Held.{partOf, capacity, Fit};
 ghost use Rattle.scan.specs.Meanings.{definitionsAt};
 ghost use Rattle.scan.specs.Forms.{longForm, formOf};
 ghost use Rattle.scan.specs.Arguments.{noneFound, go, shortStep, shortSteps, formStep, wordStep, args};
-ghost use Rattle.scan.specs.Held.{stored, foundOf, standOf, Sizes, KeySmall, Apt, Moved, Stepped, Scanned};
+ghost use Rattle.scan.specs.Held.{stored, foundOf, standOf, held, Sizes, KeySmall, Apt, Moved, Stepped, Scanned};
 ghost use Rattle.scan.specs.declared.standing.Progress.the-variants.{Going};
 
-impl Scan {
+impl Stage {
     // What stands behind `--`, from one place of the words to another.
     fn long<'a>(
         self,
         words: &'a [u8],
         image: &'a [u8],
+        options: &mut [usize],
+        flags: &mut [usize],
         from: usize,
         start: usize,
         end: usize,
     ) -> Self
-        requires { ⌜ Sizes (now words) (now image) × (start ≤ end) × (end ≤ length (now words)) ⌝ }
-        ensures { λ r. ⌜ ((w : List ℕ) → Moved (now (words .entry)) (now (image .entry)) self r (λ rest. formStep stored (definitionsAt (now (image .entry)) from) (foundOf (now (words .entry)) (now (image .entry)) rest self) w (longForm (take (end - start) (drop start (now (words .entry))))))) ⌝ }
+        requires { ⌜ Sizes (now words) (now image) × (start ≤ end) × (end ≤ length (now words)) × Fit (self .options) (now options) × Fit (self .flags) (now flags) ⌝ }
+        ensures { λ r. ⌜ ((w : List ℕ) → Moved (now (words .entry)) (now (image .entry)) (held (now (options .entry)) (now (flags .entry)) self) (held (now (options .exit)) (now (flags .exit)) r) (λ rest. formStep stored (definitionsAt (now (image .entry)) from) (foundOf (now (words .entry)) (now (image .entry)) rest (held (now (options .entry)) (now (flags .entry)) self)) w (longForm (take (end - start) (drop start (now (words .entry))))))) × Fit (r .options) (now (options .exit)) × Fit (r .flags) (now (flags .exit)) ⌝ }
     {
         let name = &words[start..end];
         let equals = before_equals(name);
@@ -63,10 +67,10 @@ impl Scan {
                 start: start + equals + 1,
                 length: name.len() - equals - 1,
             };
-            return self.with_option(words, image, Source::Words, key, value);
+            return self.with_option(words, image, options, Source::Words, key, value);
         }
         match definition_of(image, from, name) {
-            Defined::Flag(_) => self.with_flag(words, image, Source::Words, key),
+            Defined::Flag(_) => self.with_flag(words, image, flags, Source::Words, key),
             Defined::Option(_) => self.at(Progress::Waiting {
                 source: Source::Words,
                 key,
@@ -81,13 +85,14 @@ impl Scan {
         self,
         words: &'a [u8],
         image: &'a [u8],
+        flags: &mut [usize],
         from: usize,
         place: usize,
         code: u32,
         length: usize,
     ) -> Self
-        requires { ⌜ Sizes (now words) (now image) × (partOf (now words) place length ≡ encode code) ⌝ }
-        ensures { λ r. ⌜ Moved (now (words .entry)) (now (image .entry)) self r (λ rest. shortStep stored (definitionsAt (now (image .entry)) from) (standOf (now (words .entry)) (now (image .entry)) rest self) code) ⌝ }
+        requires { ⌜ Sizes (now words) (now image) × (partOf (now words) place length ≡ encode code) × Fit (self .flags) (now flags) ⌝ }
+        ensures { λ r. ⌜ ((o : List ℕ) → Moved (now (words .entry)) (now (image .entry)) (held o (now (flags .entry)) self) (held o (now (flags .exit)) r) (λ rest. shortStep stored (definitionsAt (now (image .entry)) from) (standOf (now (words .entry)) (now (image .entry)) rest (held o (now (flags .entry)) self)) code)) × Fit (r .flags) (now (flags .exit)) × (r .options ≡ self .options) ⌝ }
     {
         let told = Told {
             dashes: 1,
@@ -97,7 +102,7 @@ impl Scan {
         let progress = self.progress;
         match progress {
             Progress::Going => match meaning_by_short(image, from, code as usize) {
-                Meaning::Flag(name) => self.with_flag(words, image, Source::Image, name),
+                Meaning::Flag(name) => self.with_flag(words, image, flags, Source::Image, name),
                 Meaning::Option(name) => self.at(Progress::Waiting {
                     source: Source::Image,
                     key: name,
@@ -119,24 +124,25 @@ impl Scan {
         self,
         words: &'a [u8],
         image: &'a [u8],
+        flags: &mut [usize],
         from: usize,
         start: usize,
         end: usize,
     ) -> Self
-        requires { ⌜ Sizes (now words) (now image) × (start ≤ end) × (end ≤ length (now words)) × KeySmall (self .progress) ⌝ }
-        ensures { λ r. ⌜ Moved (now (words .entry)) (now (image .entry)) self r (λ rest. shortSteps stored (definitionsAt (now (image .entry)) from) (standOf (now (words .entry)) (now (image .entry)) rest self) (codesIn (take (end - start) (drop start (now (words .entry)))))) ⌝ }
+        requires { ⌜ Sizes (now words) (now image) × (start ≤ end) × (end ≤ length (now words)) × KeySmall (self .progress) × Fit (self .flags) (now flags) ⌝ }
+        ensures { λ r. ⌜ ((o : List ℕ) → Moved (now (words .entry)) (now (image .entry)) (held o (now (flags .entry)) self) (held o (now (flags .exit)) r) (λ rest. shortSteps stored (definitionsAt (now (image .entry)) from) (standOf (now (words .entry)) (now (image .entry)) rest (held o (now (flags .entry)) self)) (codesIn (take (end - start) (drop start (now (words .entry))))))) × Fit (r .flags) (now (flags .exit)) × (r .options ≡ self .options) ⌝ }
     {
         let letters = &words[start..end];
-        let mut scan = self;
+        let mut stage = self;
         let mut at = 0;
         while at < letters.len() {
             let Decoded::Character { code, length } = decode(letters, at) else {
-                return scan;
+                return stage;
             };
-            scan = scan.short(words, image, from, start + at, code, length);
+            stage = stage.short(words, image, flags, from, start + at, code, length);
             at += length;
         }
-        scan
+        stage
     }
 
     // A word that is no value: the frame at a place, of a text of that length.
@@ -144,14 +150,16 @@ impl Scan {
         self,
         words: &'a [u8],
         image: &'a [u8],
+        options: &mut [usize],
+        flags: &mut [usize],
         from: usize,
         at: usize,
         bytes: usize,
         rest: &mut [u8],
     ) -> Self
         requires { ⌜ Sizes (now words) (now image) × ((kind : ℕ) × (frameFirst (drop at (now words)) ≡ Frame kind bytes)) ⌝ }
-        requires { ⌜ Apt (now rest) self × (self .progress ≡ Going) × (self .kept + 3 + bytes ≤ length (now rest)) ⌝ }
-        ensures { λ r. ⌜ Stepped (now (words .entry)) (now (image .entry)) (now (rest .entry)) (now (rest .exit)) self r (3 + bytes) (formStep stored (definitionsAt (now (image .entry)) from) (foundOf (now (words .entry)) (now (image .entry)) (now (rest .entry)) self) (partOf (now (words .entry)) (at + 3) bytes) (formOf (partOf (now (words .entry)) (at + 3) bytes))) ⌝ }
+        requires { ⌜ Apt (now rest) (held (now options) (now flags) self) × (self .progress ≡ Going) × (self .kept + 3 + bytes ≤ length (now rest)) × Fit (self .options) (now options) × Fit (self .flags) (now flags) ⌝ }
+        ensures { λ r. ⌜ Stepped (now (words .entry)) (now (image .entry)) (now (rest .entry)) (now (rest .exit)) (held (now (options .entry)) (now (flags .entry)) self) (held (now (options .exit)) (now (flags .exit)) r) (3 + bytes) (formStep stored (definitionsAt (now (image .entry)) from) (foundOf (now (words .entry)) (now (image .entry)) (now (rest .entry)) (held (now (options .entry)) (now (flags .entry)) self)) (partOf (now (words .entry)) (at + 3) bytes) (formOf (partOf (now (words .entry)) (at + 3) bytes))) × Fit (r .options) (now (options .exit)) × Fit (r .flags) (now (flags .exit)) ⌝ }
     {
         let start = at + 3;
         let end = start + bytes;
@@ -162,9 +170,9 @@ impl Scan {
             return self.keep(&words[at..end], rest);
         }
         if words[start + 1] == 0x2D {
-            return self.long(words, image, from, start + 2, end);
+            return self.long(words, image, options, flags, from, start + 2, end);
         }
-        self.shorts(words, image, from, start + 1, end)
+        self.shorts(words, image, flags, from, start + 1, end)
     }
 
     // One word: a value where one is waited for, whatever it begins with.
@@ -172,18 +180,20 @@ impl Scan {
         self,
         words: &'a [u8],
         image: &'a [u8],
+        options: &mut [usize],
+        flags: &mut [usize],
         from: usize,
         at: usize,
         bytes: usize,
         rest: &mut [u8],
     ) -> Self
         requires { ⌜ Sizes (now words) (now image) × ((kind : ℕ) × (frameFirst (drop at (now words)) ≡ Frame kind bytes)) ⌝ }
-        requires { ⌜ Apt (now rest) self × (self .kept + 3 + bytes ≤ length (now rest)) ⌝ }
-        ensures { λ r. ⌜ Stepped (now (words .entry)) (now (image .entry)) (now (rest .entry)) (now (rest .exit)) self r (3 + bytes) (wordStep stored (definitionsAt (now (image .entry)) from) (standOf (now (words .entry)) (now (image .entry)) (now (rest .entry)) self) (partOf (now (words .entry)) (at + 3) bytes)) ⌝ }
+        requires { ⌜ Apt (now rest) (held (now options) (now flags) self) × (self .kept + 3 + bytes ≤ length (now rest)) × Fit (self .options) (now options) × Fit (self .flags) (now flags) ⌝ }
+        ensures { λ r. ⌜ Stepped (now (words .entry)) (now (image .entry)) (now (rest .entry)) (now (rest .exit)) (held (now (options .entry)) (now (flags .entry)) self) (held (now (options .exit)) (now (flags .exit)) r) (3 + bytes) (wordStep stored (definitionsAt (now (image .entry)) from) (standOf (now (words .entry)) (now (image .entry)) (now (rest .entry)) (held (now (options .entry)) (now (flags .entry)) self)) (partOf (now (words .entry)) (at + 3) bytes)) × Fit (r .options) (now (options .exit)) × Fit (r .flags) (now (flags .exit)) ⌝ }
     {
         let progress = self.progress;
         match progress {
-            Progress::Going => self.argument(words, image, from, at, bytes, rest),
+            Progress::Going => self.argument(words, image, options, flags, from, at, bytes, rest),
             Progress::Waiting {
                 source,
                 key,
@@ -193,14 +203,39 @@ impl Scan {
                     start: at + 3,
                     length: bytes,
                 };
-                self.with_option(words, image, source, key, value)
+                self.with_option(words, image, options, source, key, value)
             }
             _ => self,
         }
     }
 }
 
-// The words from a place on, over the definitions from a place of the node's part on. Positional words are kept in `rest`.
+// The words from a place on, over the definitions from a place of the node's part on. Options and flags go into lent tables, positional words are kept in `rest`.
+fn read_args<'a>(
+    words: &'a [u8],
+    image: &'a [u8],
+    from: usize,
+    start: usize,
+    options: &mut [usize],
+    flags: &mut [usize],
+    rest: &mut [u8],
+) -> Stage
+    requires { ⌜ Sizes (now words) (now image) × (length (now words) ≤ length (now rest)) × (length (now options) ≡ capacity) × (length (now flags) ≡ capacity) ⌝ }
+    ensures { λ r. ⌜ Scanned (now (words .entry)) (now (image .entry)) (now (rest .entry)) (now (rest .exit)) (held (now (options .exit)) (now (flags .exit)) r) (args stored (definitionsAt (now (image .entry)) from) (go noneFound) (textsIn (drop start (now (words .entry))))) × Fit (r .options) (now (options .exit)) × Fit (r .flags) (now (flags .exit)) ⌝ }
+{
+    let mut stage = Stage::start();
+    let mut at = start;
+    while at < words.len() {
+        let Framed::Frame { kind: _, length } = read_frame(words, at) else {
+            return stage;
+        };
+        stage = stage.word(words, image, options, flags, from, at, length, rest);
+        at += 3 + length;
+    }
+    stage
+}
+
+// The same in tables of its own: only when all words are read are they handed on by value.
 pub fn parse_args<'a>(
     words: &'a [u8],
     image: &'a [u8],
@@ -211,14 +246,20 @@ pub fn parse_args<'a>(
     requires { ⌜ Sizes (now words) (now image) × (length (now words) ≤ length (now rest)) ⌝ }
     ensures { λ r. ⌜ Scanned (now (words .entry)) (now (image .entry)) (now (rest .entry)) (now (rest .exit)) r (args stored (definitionsAt (now (image .entry)) from) (go noneFound) (textsIn (drop start (now (words .entry))))) ⌝ }
 {
-    let mut scan = Scan::start();
-    let mut at = start;
-    while at < words.len() {
-        let Framed::Frame { kind: _, length } = read_frame(words, at) else {
-            return scan;
-        };
-        scan = scan.word(words, image, from, at, length, rest);
-        at += 3 + length;
+    let mut options = [0usize; 64];
+    let mut flags = [0usize; 64];
+    let stage = read_args(words, image, from, start, &mut options, &mut flags, rest);
+    let progress = stage.progress;
+    Scan {
+        options: Table {
+            count: stage.options,
+            at: options,
+        },
+        flags: Table {
+            count: stage.flags,
+            at: flags,
+        },
+        kept: stage.kept,
+        progress,
     }
-    scan
 }

@@ -6,14 +6,14 @@ use mathlib.Core.List.{List, [], _∷_, _++_, map, map-append}
 use native.Mathlib.Omega.{arith}
 use native.Mathlib.Numerals.{add-one}
 use lib.ListN.{length, take, drop, set, getD, length-map, length-take, List·getD-map}
-use lib.Seq.{getD-take, take-set-lt}
+use lib.Seq.{getD-take, take-set-lt, length-take-le}
 use Rattle.buffer.specs.Compare.{order, sameBytes}
 use Rattle.buffer.specs.declared.order.Order.{Order}
 use Rattle.buffer.proofs.Lists.{drop-step, drop-end}
 use Rattle.buffer.proofs.Choices.{then-is, else-is}
 use Rattle.table.specs.Map.{onOrder, has}
 use Rattle.table.specs.Seek.{seekFrom, opened}
-use Rattle.table.specs.Held.{keyOf, valueOf, entries, mapOf, sizeOf}
+use Rattle.table.specs.Held.{keyOf, valueOf, entries, mapOf, tabled, sizeOf}
 use Rattle.table.specs.declared.sorted.Table.{Table}
 use Rattle.table.specs.declared.sorted.Spot.the-variants.{Here, Gap}
 
@@ -24,6 +24,10 @@ whole l h = sym (length-map l (λ (x : ℕ). x)) ∙ h
 pub size-is : (t : Table) → length (t .at) ≡ 64 → sizeOf t ≡ min (t .count) 64
 unfolding sizeOf
 size-is t l = rw (sym l) (length-take (t .count) (t .at))
+
+pub size-tabled : (n : ℕ) (at : List ℕ) → n ≤ length at → sizeOf (tabled n at) ≡ n
+unfolding sizeOf
+size-tabled n at h = length-take-le n at h
 
 -- what is done to each element is done to the list
 module _ {A B : Type 0} (f : A → B) where

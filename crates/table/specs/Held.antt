@@ -1,6 +1,7 @@
 -- How a table holds a map: a number for each entry, in which the places of its key and its value are packed. A value lies in the words, a key in the
 -- words (a long form, as typed) or in the image (a name, for a short one).
-use Prim.Native.Nat.{ℕ, zero, suc, _+_, _*_, _/_, _%_}
+use Prim.Native.Nat.{ℕ, zero, suc, _+_, _*_, _/_, _%_, _≤_}
+use mathlib.Core.Path.{_≡_}
 use mathlib.Core.List.{List, map}
 use lib.ListN.{length, take, drop}
 use Rattle.table.specs.Map.{Map, putWithin}
@@ -66,6 +67,14 @@ sizeOf table = length (take (table .count) (table .at))
 -- how many keys have room: names and longs of 32 options, or of 32 flags
 abbrev pub capacity : ℕ
 capacity = 64
+
+-- a table in a lent slice, of which the first n entries count
+abbrev pub tabled : ℕ → List ℕ → Table
+tabled n at = record { count = n; at = at }
+
+pub record Fit (n : ℕ) (at : List ℕ) : Type 0 where
+  pub few : n ≤ capacity
+  pub full : length at ≡ capacity
 
 -- the map of a table in which the key and the value of an entry are put
 abbrev pub putEntry : List ℕ → List ℕ → ℕ → Table → Map

@@ -8,3 +8,4 @@ pub use packing::entry;
 pub use packing::key;
 pub use packing::value;
 pub use sorted::Table;
+pub use sorted::put;

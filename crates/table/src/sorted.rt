@@ -6,10 +6,10 @@ use buffer::same;
 ghost use mathlib.Core.Path.{_≡_};
 ghost use mathlib.Core.List.{List, []};
 ghost use Prim.Native.Nat.{ℕ, _+_, _≤_, _<_};
-ghost use lib.ListN.{take, set};
+ghost use lib.ListN.{length, take};
 ghost use Rattle.table.specs.Map.{has};
 ghost use Rattle.table.specs.Seek.{seekFrom, opened};
-ghost use Rattle.table.specs.Held.{mapOf, sizeOf, capacity, putEntry};
+ghost use Rattle.table.specs.Held.{tabled, mapOf, sizeOf, capacity, Fit, putEntry};
 
 // How many keys have room: a node has at most 32 options, and 32 flags, each with a name and a long.
 const CAPACITY: usize = 64;
@@ -63,66 +63,59 @@ impl Table {
         }
         false
     }
+}
 
-    // Where the key stands, or would stand.
-    fn seek<'a>(self, words: &'a [u8], image: &'a [u8], wanted: &'a [u8]) -> Spot
-        ensures { λ r. ⌜ r ≡ seekFrom 0 (now (wanted .entry)) (mapOf (now (words .entry)) (now (image .entry)) self) ⌝ }
-    {
-        let n = self.size();
-        let mut i = 0;
-        while i < n {
-            let e = self.at[i];
-            match compare(wanted, key(words, image, e)) {
-                Order::Less => return Spot::Gap(i),
-                Order::Equal => return Spot::Here(i),
-                Order::Greater => {
-                    i += 1;
-                }
+// Where the key stands among the first n entries, or would stand.
+fn seek<'a>(words: &'a [u8], image: &'a [u8], table: &[usize], n: usize, wanted: &'a [u8]) -> Spot
+    requires { ⌜ n ≤ length (now table) ⌝ }
+    ensures { λ r. ⌜ r ≡ seekFrom 0 (now (wanted .entry)) (mapOf (now (words .entry)) (now (image .entry)) (tabled n (now (table .entry)))) ⌝ }
+{
+    let mut i = 0;
+    while i < n {
+        let e = table[i];
+        match compare(wanted, key(words, image, e)) {
+            Order::Less => return Spot::Gap(i),
+            Order::Equal => return Spot::Here(i),
+            Order::Greater => {
+                i += 1;
             }
         }
-        Spot::Gap(i)
     }
+    Spot::Gap(i)
+}
 
-    // The entry stored at a place, over the one that is there.
-    fn store_at(mut self, place: usize, e: usize) -> Self
-        requires { ⌜ place < capacity ⌝ }
-        ensures { λ r. ⌜ (r .count ≡ self .count) × (r .at ≡ set (self .at) place e) ⌝ }
-    {
-        self.at[place] = e;
-        self
+// The entry stored at a place of the first n, and those from there on one place further.
+fn open_at(table: &mut [usize], n: usize, place: usize, e: usize)
+    requires { ⌜ (place ≤ n) × (n < length (now table)) ⌝ }
+    ensures { λ _. ⌜ (length (now (table .exit)) ≡ length (now (table .entry))) × (take (n + 1) (now (table .exit)) ≡ opened place e (take n (now (table .entry)))) ⌝ }
+{
+    let mut moved = e;
+    let mut i = place;
+    while i <= n {
+        let next = table[i];
+        table[i] = moved;
+        moved = next;
+        i += 1;
     }
+}
 
-    // The entry stored at a place, and those from there on one place further.
-    fn open_at(mut self, place: usize, e: usize) -> Self
-        requires { ⌜ (place ≤ self .count) × (self .count < capacity) ⌝ }
-        ensures { λ r. ⌜ (r .count ≡ self .count + 1) × (take (self .count + 1) (r .at) ≡ opened place e (take (self .count) (self .at))) ⌝ }
-    {
-        let n = self.count;
-        let mut moved = e;
-        let mut i = place;
-        while i <= n {
-            let next = self.at[i];
-            self.at[i] = moved;
-            moved = next;
-            i += 1;
+// BTreeMap::insert into a table that is lent, of which the first n entries count: the entry under its key, a later value in the place of an earlier one.
+// Answers how many count then. A new key that finds the table full is not stored; the names and longs of one node always find room (law `put-fits`).
+pub fn put<'a>(words: &'a [u8], image: &'a [u8], table: &mut [usize], n: usize, e: usize) -> usize
+    requires { ⌜ Fit n (now table) ⌝ }
+    ensures { λ r. ⌜ (mapOf (now (words .entry)) (now (image .entry)) (tabled r (now (table .exit))) ≡ putEntry (now (words .entry)) (now (image .entry)) e (tabled n (now (table .entry)))) × Fit r (now (table .exit)) ⌝ }
+{
+    match seek(words, image, table, n, key(words, image, e)) {
+        Spot::Here(i) => {
+            table[i] = e;
+            n
         }
-        self.count = n + 1;
-        self
-    }
-
-    // BTreeMap::insert: the entry under its key, a later value in the place of an earlier one. A new key that finds the table full is not stored;
-    // the names and longs of one node always find room (law `put-fits`).
-    pub fn put<'a>(self, words: &'a [u8], image: &'a [u8], e: usize) -> Self
-        ensures { λ r. ⌜ mapOf (now (words .entry)) (now (image .entry)) r ≡ putEntry (now (words .entry)) (now (image .entry)) e self ⌝ }
-    {
-        match self.seek(words, image, key(words, image, e)) {
-            Spot::Here(i) => self.store_at(i, e),
-            Spot::Gap(i) => {
-                if self.count < CAPACITY {
-                    return self.open_at(i, e);
-                }
-                self
+        Spot::Gap(i) => {
+            if n < CAPACITY {
+                open_at(table, n, i, e);
+                return n + 1;
             }
+            n
         }
     }
 }
