@@ -9,12 +9,13 @@ use lib.ListN.{length, length-map}
 use borrow.Author.Tests.{le-leb, lt-leb, leb-true, eq-eqb, ne-eqb}
 use Rattle.buffer.specs.Write.{overAt}
 use Rattle.buffer.proofs.Choices.{then-is, true-is-not-false}
-use Rattle.image.specs.Frames.{Frame, node, option, flag}
+use Rattle.image.specs.Frames.{Frame}
 use Rattle.image.specs.Reading.{Read, read, broken, ended, readFirst}
 use Rattle.image.proofs.Fields.{both-first, both-second}
 use Rattle.tree.specs.Rules.{Seen}
-use Rattle.tree.specs.Steps.{Sound, seenBy, pastNode, pastOption, pastFlag, passed, stepIf, stepBy}
+use Rattle.tree.specs.Steps.{Sound, seenBy, passed, stepIf, stepBy}
 use Rattle.tree.specs.declared.walk.Walk.{Walk}
+use Rattle.tree.proofs.Walks.{passed-at}
 use Rattle.tree.specs.declared.walk.Step.{Step}
 use Rattle.growth.specs.Growth.{fills, oneFrame, hasRoom, obeysBy, admits, passedBy, Grows}
 
@@ -51,13 +52,6 @@ room-told walk size room e =
 -- the array of a walk, as the checker tells its length
 pub walk-sound : (walk : Walk) → length (map (λ (x : ℕ). x) (walk .names)) ≡ 8 → walk .deep ≤ 8 → Sound walk
 walk-sound walk h k = record { deep = k; names = sym (length-map (walk .names) (λ (x : ℕ). x)) ∙ h }
-
--- where the walk past a frame stands
-pub passed-at : (walk : Walk) (f : Frame) (n : ℕ) → passed walk f n .at ≡ walk .at + n
-unfolding pastNode pastOption pastFlag
-passed-at walk (node d h name description usage) n = refl
-passed-at walk (option r c name long description) n = refl
-passed-at walk (flag c name long description) n = refl
 
 -- a step over what was read: its answer, and where it ends
 module _ (seen : Seen) (walk : Walk) where

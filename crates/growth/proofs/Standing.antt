@@ -25,7 +25,8 @@ use Rattle.tree.specs.declared.walk.Walk.{Walk}
 use Rattle.tree.specs.declared.walk.Step.{Step}
 use Rattle.tree.proofs.Items.{OnWay, goes-on, sets-out, arrives, check-judged, items-none, judge-on, judge-stop, judge-none}
 use Rattle.tree.proofs.Told.{passes}
-use Rattle.growth.proofs.Adding.{Roomy, room-told, passed-at}
+use Rattle.tree.proofs.Walks.{passed-at}
+use Rattle.growth.proofs.Adding.{Roomy, room-told}
 use Rattle.growth.specs.Growth.{fills, oneFrame, isGood, takes, hasRoom, obeysBy, admits, passedBy, Grows}
 
 -- a walk that has passed an image, whatever comes behind that

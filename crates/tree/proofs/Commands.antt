@@ -16,8 +16,8 @@ use Rattle.image.specs.declared.head.Head.{Head}
 use Rattle.image.specs.declared.head.Head.the-variants.{Node, Option, Flag, Bad, End}
 use Rattle.image.proofs.Encoding.{read-back, read-within}
 use Rattle.tree.specs.Images.{framesOf, flat}
-use Rattle.tree.specs.Rules.{checkTree}
-use Rattle.tree.specs.Steps.{nameAt, startWalk, StepBy}
+use Rattle.tree.specs.Rules.{obeys, checkTree}
+use Rattle.tree.specs.Steps.{nameAt, seenBy, startWalk, passed, stepBy}
 use Rattle.tree.specs.Commands.{isTop, isCommand, beforeTop, command, Holds, Trail, ahead, inside, behind, Surveying}
 use Rattle.tree.specs.declared.walk.Walk.{Walk}
 use Rattle.tree.specs.declared.walk.Step.{Step}
@@ -26,6 +26,7 @@ use Rattle.tree.specs.declared.check.Checked.the-variants.{Good, BadFram
 use Rattle.tree.specs.declared.check.Surveyed.{Surveyed}
 use Rattle.tree.proofs.Items.{bytes-drop, frames-read, frames-end}
 use Rattle.tree.proofs.Told.{head-name}
+use Rattle.tree.proofs.Walks.{passed-at}
 
 -- A NODE OF DEPTH 0 is told by two bytes
 module _ (s : List ℕ) (b : Bytes s) (n : ℕ) where
@@ -199,12 +200,16 @@ trail-ends image key at s h (inside a w z q) =
 trail-ends image key at s h (behind a z q) = record { order = omega arith; inside = omega arith; bytes = q }
 
 -- one turn of the walk
-pub trail-turn : (image key : List ℕ) (walk : Walk) (r : Step) (s t : Span) (x : Read) → readFirst (drop (walk .at) image) ≡ x → StepBy image walk r x → r .ok ≡ true
+pub trail-turn : (image key : List ℕ) (walk : Walk) (r : Step) (s t : Span) (x : Read) → readFirst (drop (walk .at) image) ≡ x → r ≡ stepBy (seenBy image walk) walk x → r .ok ≡ true
     → ((f : Frame) (n : ℕ) → readFirst (drop (walk .at) image) ≡ read f n → Trail image key (walk .at) s → Trail image key (walk .at + n) t)
     → Trail image key (walk .at) s → Trail image key (r .walk .at) t
-trail-turn image key walk r s t (read f n) e st o turn i = rw (st .past o .place) (turn f n e i)
-trail-turn image key walk r s t broken e st o turn i = absurd (true-is-not-false (sym o ∙ st))
-trail-turn image key walk r s t ended e st o turn i = absurd (true-is-not-false (sym o ∙ st))
+unfolding stepBy
+trail-turn image key walk r s t (read f n) e st o turn i =
+    let obeyed : obeys (seenBy image walk) f ≡ true = sym (ap (λ (step : Step). step .ok) st) ∙ o in
+    let next : r .walk ≡ passed walk f n = ap (λ (step : Step). step .walk) st ∙ then-is _ _ _ obeyed in
+    rw (ap (λ (w : Walk). w .at) next ∙ passed-at walk f n) (turn f n e i)
+trail-turn image key walk r s t broken e st o turn i = absurd (true-is-not-false (sym o ∙ ap (λ (step : Step). step .ok) st))
+trail-turn image key walk r s t ended e st o turn i = absurd (true-is-not-false (sym o ∙ ap (λ (step : Step). step .ok) st))
 
 -- THE ANSWER
 pub survey-bad : (image key : List ℕ) (r : Surveyed) (n : ℕ) → r .checked ≡ BadFrame n → BadFrame n ≡ checkTree image → Surveying image key r

@@ -13,7 +13,7 @@ use Rattle.buffer.specs.Compare.{order}
 use Rattle.buffer.specs.declared.order.Order.{Order}
 use Rattle.image.specs.Frames.{Perhaps, Frame, node, option, flag}
 use Rattle.tree.specs.Rules.{isLess, rises, follows, after}
-use Rattle.tree.specs.Steps.{nameAt, textFirst, seenBy, Sound, pastNode, pastOption, pastFlag, stepIf}
+use Rattle.tree.specs.Steps.{nameAt, textFirst, seenBy, Sound, pastNode, pastOption, pastFlag, passed, stepIf}
 use Rattle.tree.specs.declared.walk.Walk.{Walk}
 use Rattle.tree.specs.declared.walk.Step.{Step}
 
@@ -141,3 +141,10 @@ name-lent image tail r p n a b d = d ∙ rw (b, a)
 -- a lent name compared
 pub compared : (r : Bool) (o : Order) (x y a : List ℕ) → r ≡ isLess o → o ≡ order x y → x ≡ a → r ≡ isLess (order a y)
 compared r o x y a e f g = cc
+
+-- where the walk past a frame stands
+pub passed-at : (walk : Walk) (f : Frame) (n : ℕ) → passed walk f n .at ≡ walk .at + n
+unfolding pastNode pastOption pastFlag
+passed-at walk (node d h name description usage) n = refl
+passed-at walk (option r c name long description) n = refl
+passed-at walk (flag c name long description) n = refl
