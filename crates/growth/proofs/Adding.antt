@@ -9,11 +9,10 @@ use lib.ListN.{length, length-map}
 use borrow.Author.Tests.{le-leb, lt-leb, leb-true, eq-eqb, ne-eqb}
 use Rattle.buffer.specs.Write.{overAt}
 use Rattle.buffer.proofs.Choices.{then-is, true-is-not-false}
-use Rattle.image.specs.Frames.{Frame}
 use Rattle.image.specs.Reading.{Read, read, broken, ended, readFirst}
 use Rattle.image.proofs.Fields.{both-first, both-second}
 use Rattle.tree.specs.Rules.{Seen}
-use Rattle.tree.specs.Steps.{Sound, seenBy, passed, stepIf, stepBy}
+use Rattle.tree.specs.Steps.{Sound, seenBy, stepIf, stepBy}
 use Rattle.tree.specs.declared.walk.Walk.{Walk}
 use Rattle.tree.proofs.Walks.{passed-at}
 use Rattle.tree.specs.declared.walk.Step.{Step}

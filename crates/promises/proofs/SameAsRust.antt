@@ -14,10 +14,22 @@ use Rattle.text.proofs.Prefix.{prefix-well-formed, prefix-longest, whole-is, is
 use Rattle.frame.specs.Text.{Bytes}
 use Rattle.words.specs.Tokens.{wordsOf}
 use Rattle.words.specs.Answer.{Tokenized}
+use Rattle.words.specs.declared.tokenizer.Tokens.{Tokens}
 use Rattle.words.specs.declared.tokenizer.Tokens.the-variants.{Words}
 use Rattle.quote.specs.Given.{listed, fine, judge}
 use Rattle.quote.specs.Answer.{quoteLine}
 use Rattle.quote.proofs.Return.{given-back, call-back}
+use Rattle.tree.specs.Images.{flat}
+use Rattle.tree.specs.Forest.{Forest}
+use Rattle.tree.specs.Rules.{checkTree}
+use Rattle.tree.specs.declared.check.Checked.the-variants.{Good}
+use Rattle.tree.proofs.Forests.{StandsFor}
+use Rattle.trees.specs.Commands.{baseTree, fsTree}
+use Rattle.rust.specs.Tree.{commandsOf}
+use Rattle.rust.specs.Base.{buildCommandTree}
+use Rattle.rust.specs.Parser.{tokenize}
+use Rattle.rust.specs.Calls.{SplitsAs, Fair, SameAsRust}
+use Rattle.rust.proofs.Calls.{splits-as, good-same, base-same, fs-same}
 use Rattle.history.specs.Slots.{good}
 use Rattle.history.specs.Answer.{entriesIn, Addition}
 use Rattle.history.specs.Steps.{back, onward}
@@ -60,6 +72,21 @@ pub key : (e : Editor) (h : History) (slots prompt : List ℕ) (byte : ℕ) (lin
     → (shellOf (stateOf (k .editor) (k .history) slots′) ≡ rustKey prompt (shellOf (stateOf e h slots)) byte .after)
     × (screen′ ≡ over (rustKey prompt (shellOf (stateOf e h slots)) byte .stdout) screen)
 key = as-rust
+
+-- WORDS, PARSE, HELP AND RUN (000), under the tree of 003 or any other: the Rust's functions stand beside their lines in the crate `rust`, on its own tree of nodes with
+-- maps by name. `SameAsRust image tree` says of parse, help and run that whatever their contracts allow is what the Rust does: its bytes and the number of its
+-- error, or 9 with their length. The Rust's domain is a well-formed line of at most 1,024 bytes; run takes ill-formed ones too.
+pub words : (line : List ℕ) → Fair line → (out left : List ℕ) (r : Tokens) → Tokenized line out r left → SplitsAs (tokenize line) out r left
+words = splits-as
+
+pub good-tree : (image : List ℕ) → Bytes image → checkTree image ≡ Good → (f : Forest) × StandsFor image f × SameAsRust image (commandsOf f)
+good-tree = good-same
+
+pub base-tree : SameAsRust (flat baseTree) (buildCommandTree false)
+base-tree = base-same
+
+pub fs-tree : SameAsRust (flat fsTree) (buildCommandTree true)
+fs-tree = fs-same
 
 -- UNICODE: a character is read from its encoding, whatever follows, and what is read as a character begins with the encoding of a scalar value; the prefix that is
 -- found is well-formed, and no longer one is; a text is wholly found exactly if it is well-formed

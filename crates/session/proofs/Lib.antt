@@ -5,4 +5,5 @@ pub mod Runs
 pub mod Screens
 pub mod Turns
 pub mod Takings
+pub mod Held
 pub mod Examples

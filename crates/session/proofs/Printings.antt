@@ -1,17 +1,15 @@
 -- Laws of frames printed as house lines, one behind the other.
-use Prim.Native.Nat.{ℕ, zero, suc, _+_, _-_, _*_, _≤_, _<_}
+use Prim.Native.Nat.{ℕ, _+_, _-_, _*_, _≤_, _<_}
 use mathlib.Core.Path.{_≡_, refl, sym, ap, _∙_}
-use mathlib.Core.Bool.{Bool, true, false, cond}
 use mathlib.Core.List.{List, [], _∷_, _++_, append-assoc, append-nil}
 use native.Mathlib.Omega.{arith}
 use borrow.Author.Tests.{le-ltb}
 use borrow.Rule.Slice.PartMut.{putMid}
-use lib.Dec.{ltb}
 use lib.ListN.{length, take, drop, getD, length-drop}
-use Rattle.buffer.specs.Write.{over, Written, Pushed}
+use Rattle.buffer.specs.Write.{over, Pushed}
 use Rattle.buffer.proofs.Choices.{else-is}
-use Rattle.buffer.proofs.Lending.{overAt-nothing, length-overAt, rest-lent}
-use Rattle.buffer.proofs.Writing.{rest-pushed, pushed-both}
+use Rattle.buffer.proofs.Lending.{overAt-nothing, rest-lent}
+use Rattle.buffer.proofs.Writing.{rest-pushed}
 use Rattle.frame.specs.House.{houseLine, writeHouse, lineLeaves, HouseWritten}
 use Rattle.frame.specs.declared.house.Lined.{Lined}
 use Rattle.frame.specs.declared.house.Lined.the-variants.{Written as Done, Short}

@@ -1,5 +1,5 @@
 -- Laws of a line that was run: the buffer that holds what it said, and what is printed of it.
-use Prim.Native.Nat.{ℕ, suc, _+_, _-_, _*_, _≤_, _<_, min}
+use Prim.Native.Nat.{ℕ, suc, _+_, _-_, _*_, _≤_, min}
 use mathlib.Core.Path.{_≡_, refl, sym, ap, _∙_, subst}
 use mathlib.Core.Bool.{Bool, true, false, cond}
 use mathlib.Core.List.{List, [], _∷_, _++_}
@@ -11,14 +11,12 @@ use denote.Enum.Declared.{tagOf}
 use lib.Dec.{ltb}
 use lib.ListN.{length, take, drop, getD, set, length-drop}
 use lib.Seq.{drop-cons, length-take-le, take-append-add, take-append-seam}
-use Rattle.buffer.specs.Write.{over, overAt, Pushed}
-use Rattle.buffer.proofs.Choices.{then-is, else-is}
+use Rattle.buffer.specs.Write.{over, Pushed}
 use Rattle.buffer.proofs.Lending.{length-over, length-overAt}
 use Rattle.buffer.proofs.Writing.{pushed-both}
 use Rattle.frame.specs.Text.{Bytes}
 use Rattle.frame.specs.House.{houseLine}
 use Rattle.frame.proofs.Lines.{length-houseLine}
-use Rattle.image.specs.Frames.{Frame}
 use Rattle.tree.specs.Images.{framesOf}
 use Rattle.tree.specs.Rules.{checkTree}
 use Rattle.tree.specs.declared.check.Checked.{Checked}
@@ -31,9 +29,8 @@ use Rattle.shell.specs.declared.answer.Ran.the-variants.{Nothing, Text, Exit, H
 use Rattle.shell.proofs.Bounds.{run-answered, run-written}
 use Rattle.shell.proofs.answer.Ran.{the-type}
 use Rattle.session.specs.Prints.{Printed, handler, exit, wide, frameOf, linesOf, shown, prompt, answered, leaves}
-use Rattle.session.specs.Held.{Fits, Says, printing, Answers}
-use Rattle.session.specs.declared.running.Printing.{Printing}
-use Rattle.session.specs.declared.running.Printing.the-variants.{Goes, Ends, BadState}
+use Rattle.session.specs.Held.{Fits, Says, Answers}
+use Rattle.session.specs.declared.running.Printing.the-variants.{Goes, Ends}
 use Rattle.session.proofs.Marks.{lent-size, returned-size, returned-kind, returned-behind}
 use Rattle.session.proofs.Printings.{lines-both, line-alone, shown-size}
 

@@ -1,6 +1,6 @@
 -- What a key shows is short: the session's own buffer always has room for it.
 use Prim.Native.Nat.{ℕ, zero, suc, _+_, _-_, _/_, _%_, _≤_}
-use mathlib.Core.Path.{_≡_, refl, sym, ap, _∙_, subst}
+use mathlib.Core.Path.{_≡_, refl, ap}
 use mathlib.Core.Bool.{Bool, true, false, cond}
 use mathlib.Core.List.{List, [], _∷_, _++_}
 use native.Mathlib.Omega.{arith}
@@ -12,7 +12,7 @@ use Rattle.screen.specs.Redraw.{clearLine, moveBack, redraw}
 use Rattle.editor.specs.declared.line.Mode.{Mode}
 use Rattle.editor.specs.declared.line.Mode.the-variants.{Typing, Escape, Sequence}
 use Rattle.editor.specs.Line.{limit, content}
-use Rattle.editor.specs.Keys.{State, Turn, lineFeed, showing, inMode, redrawn, enter, erase, insert, typed, escaped, up, onPlace, down, right, left, sequenced, turnIn, turnOf}
+use Rattle.editor.specs.Keys.{State, Turn, inMode, redrawn, enter, erase, insert, typed, escaped, up, onPlace, down, right, left, sequenced, turnIn, turnOf}
 use Rattle.editor.proofs.Fine.{Fine, turn-fine}
 
 -- a redraw of a line of at most 255 bytes

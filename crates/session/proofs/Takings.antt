@@ -1,6 +1,6 @@
 -- Laws of a line that is taken: what its bytes are, and what the session makes of them.
 use Prim.Native.Nat.{ℕ, _+_, _≤_, _<_, _/_, _%_}
-use mathlib.Core.Path.{_≡_, refl, sym, ap, _∙_, subst}
+use mathlib.Core.Path.{_≡_, refl, sym, ap, _∙_}
 use mathlib.Core.Bool.{Bool, true, false, cond}
 use mathlib.Core.List.{List, [], _∷_}
 use native.Mathlib.Omega.{arith}
@@ -10,20 +10,20 @@ use denote.Enum.Declared.{tagOf}
 use lib.Dec.{eqb, ltb}
 use lib.ListN.{length, take, drop, getD}
 use lib.Seq.{take-append-seam}
-use Rattle.buffer.specs.Write.{over, overAt}
+use Rattle.buffer.specs.Write.{over}
 use Rattle.buffer.proofs.Choices.{then-is, else-is}
 use Rattle.frame.specs.Hex.{unhex, firstBad}
 use Rattle.frame.specs.House.{ended, digitsOf, readDigits, readHouse, houseLeaves, leftBy, HouseRead}
 use Rattle.frame.specs.declared.house.House.{House}
 use Rattle.frame.specs.declared.house.House.the-variants.{Frame, Unended, Empty, TooLong, Odd, NoDigit, Short}
 use Rattle.frame.proofs.house.House.{the-type}
-use Rattle.frame.proofs.Lines.{Framing, house-told, line-count, refusal-keeps}
+use Rattle.frame.proofs.Lines.{house-told, line-count}
 use Rattle.image.specs.Reading.{readFirst}
 use Rattle.tree.specs.Steps.{stepIf}
 use Rattle.tree.specs.declared.walk.Walk.{Walk}
 use Rattle.tree.specs.declared.walk.Step.{Step}
 use Rattle.growth.specs.Growth.{admits, passedBy, Grows}
-use Rattle.session.specs.Lines.{Form, tree, keys, formless, formOf, formBy, lineForm}
+use Rattle.session.specs.Lines.{tree, keys, formless, formOf, formBy, lineForm}
 use Rattle.session.specs.Calls.{withWalk, withKeys, refusing, tookBy, imageBy, onLine, TakingLine}
 use Rattle.session.specs.declared.standing.Session.{Session}
 use Rattle.session.specs.declared.taking.Taken.the-variants.{Tree, Keys, Over, NoRoom}

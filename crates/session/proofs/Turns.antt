@@ -1,5 +1,5 @@
 -- Laws of a key that is pressed: what the editor answered, and what is printed of it.
-use Prim.Native.Nat.{ℕ, suc, _+_, _-_, _*_, _≤_, _<_}
+use Prim.Native.Nat.{ℕ, suc, _+_, _-_, _*_, _≤_}
 use mathlib.Core.Path.{_≡_, refl, sym, ap, _∙_, subst}
 use mathlib.Core.Bool.{Bool, true, false, cond}
 use mathlib.Core.List.{List, [], _∷_, _++_}
@@ -9,11 +9,11 @@ use borrow.Rule.Slice.PartMut.{putMid}
 use types.Run.{OneOf, miss}
 use denote.Enum.Declared.{tagOf}
 use lib.Dec.{ltb}
-use lib.ListN.{length, take, drop, getD, set, length-append, length-take}
+use lib.ListN.{length, take, drop, getD, set, length-take}
 use lib.Seq.{take-append-seam}
-use Rattle.buffer.specs.Write.{over, Written, Pushed}
-use Rattle.buffer.proofs.Choices.{then-is, else-is, true-is-not-false}
-use Rattle.buffer.proofs.Lending.{length-over, length-overAt, overAt-nothing}
+use Rattle.buffer.specs.Write.{over, Pushed}
+use Rattle.buffer.proofs.Choices.{then-is, else-is}
+use Rattle.buffer.proofs.Lending.{length-over, length-overAt}
 use Rattle.buffer.proofs.Writing.{pushed-both, pushed-front}
 use Rattle.text.specs.Unicode.{encode, encodeAll}
 use Rattle.text.specs.Decoding.{table, decodeFirst, piecesFrom, piecesOf, codesOf, codesIn, wellFormedLength}
@@ -31,18 +31,17 @@ use Rattle.editor.specs.declared.drawing.Key.{Key}
 use Rattle.editor.specs.declared.drawing.Pressed.{Pressed}
 use Rattle.editor.specs.declared.drawing.Pressed.the-variants.{Shown, Entered, Dropped, BadState as BadKey, BadPrompt, NoRoom as NoScreen}
 use Rattle.editor.specs.Line.{limit}
-use Rattle.editor.specs.Keys.{State, Kind, shows, enters, drops, Turn, lineFeed, turnOf}
+use Rattle.editor.specs.Keys.{Kind, shows, enters, drops, Turn, lineFeed}
 use Rattle.editor.specs.Answer.{stateOf, editorOf, historyOf, slotsOf, goodState, goodPrompt, taken, turnAnswer, keyAnswer, refused, Pressing as KeyPressing}
 use Rattle.editor.proofs.Fine.{fine-of}
 use Rattle.editor.proofs.drawing.Pressed.{the-type}
 use Rattle.shell.specs.Lines.{Said, saidOf}
-use Rattle.session.specs.Prints.{Printed, badLine, frameOf, linesOf, shown, prompt, answered, leaves, turnPrints, keyPrints, turnEnds, keyEnds}
+use Rattle.session.specs.Prints.{badLine, frameOf, linesOf, shown, prompt, answered, leaves, turnPrints, keyPrints, turnEnds, keyEnds}
 use Rattle.session.specs.Held.{printing, Answers, Laid, Enters, Within, Tells}
-use Rattle.session.specs.Calls.{withState, withKey, imageOf, turnIn, most, Kept, Prints, PressingKey}
+use Rattle.session.specs.Calls.{withState, withKey, imageOf, turnIn, most, PressingKey}
 use Rattle.session.specs.declared.running.Printing.{Printing}
-use Rattle.session.specs.declared.running.Printing.the-variants.{Goes, Ends, BadState, NoRoom}
+use Rattle.session.specs.declared.running.Printing.the-variants.{Goes, Ends, BadState}
 use Rattle.session.specs.declared.standing.Session.{Session}
-use Rattle.session.specs.declared.pressing.Pressing.{Pressing}
 use Rattle.session.proofs.Printings.{line-alone, lines-both, shown-some}
 use Rattle.session.proofs.Marks.{lent-size, returned-size, returned-kind, returned-behind}
 use Rattle.session.proofs.Screens.{screen-short, submitted-short}

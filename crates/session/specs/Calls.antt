@@ -1,7 +1,7 @@
 -- What the calls of a session answer and leave, by the parts in which the code holds one.
 use Prim.Native.Nat.{ℕ, _+_, _≤_, _<_}
 use mathlib.Core.Path.{_≡_}
-use mathlib.Core.Bool.{Bool, true, false, cond}
+use mathlib.Core.Bool.{true, false, cond}
 use mathlib.Core.List.{List, [], _∷_}
 use lib.Dec.{ltb}
 use lib.ListN.{length, take}
@@ -27,7 +27,6 @@ use Rattle.session.specs.declared.running.Printing.{Printing}
 use Rattle.session.specs.declared.running.Printing.the-variants.{BadState, NoRoom}
 use Rattle.session.specs.declared.standing.Session.{Session}
 use Rattle.session.specs.declared.pressing.Pressing.{Pressing}
-use Rattle.session.specs.declared.taking.Taken.{Taken}
 use Rattle.session.specs.declared.taking.Taken.the-variants.{Tree, Keys, BadLine, Over, NoRoom as NoFrame}
 use Rattle.session.specs.declared.taking.Took.{Took}
 

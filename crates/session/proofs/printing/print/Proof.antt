@@ -1,7 +1,4 @@
 -- `session::printing::print` meets its contract: there is room for the line, and it is written at its place.
-use lib.ListN.{length}
-use mathlib.Core.Path.{_≡_}
-use Prim.Native.Nat.{_+_, _*_}
 use Rattle.session.proofs.Printings.{print-never, print-count, print-told}
 use borrow.Author.Needs.{needs}
 use Rattle.session.proofs.printing.print.Statement.{statement}

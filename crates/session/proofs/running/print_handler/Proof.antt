@@ -1,9 +1,9 @@
 -- `session::running::print_handler` meets its contract: the head stands right before the report.
 use lib.ListN.{take}
 use Prim.Native.Nat.{ℕ}
-use mathlib.Core.List.{List, _∷_}
+use mathlib.Core.List.{List}
 use Prim.Native.Nat.{_+_}
-use mathlib.Core.Path.{_≡_, ap, sym, _∙_}
+use mathlib.Core.Path.{ap, sym, _∙_}
 use Rattle.session.proofs.Runs.{handler-frame}
 use borrow.Author.Needs.{needs}
 use Rattle.session.proofs.running.print_handler.Statement.{statement}

@@ -1,10 +1,8 @@
 -- `session::running::print_text` meets its contract: the kind and the text are one part of the buffer.
-use Rattle.session.specs.Prints.{linesOf, shown}
-use Rattle.buffer.specs.Write.{Pushed}
-use lib.ListN.{length, take, drop}
+use lib.ListN.{length, drop}
 use mathlib.Core.List.{List, _∷_}
-use Prim.Native.Nat.{ℕ, suc, _+_, _-_}
-use mathlib.Core.Path.{_≡_, ap, sym, _∙_}
+use Prim.Native.Nat.{ℕ, _+_, _-_}
+use mathlib.Core.Path.{ap, sym, _∙_}
 use native.Mathlib.Omega.{arith}
 use Rattle.session.proofs.Runs.{text-frame, text-size}
 use borrow.Author.Needs.{needs}

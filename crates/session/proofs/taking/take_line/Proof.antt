@@ -1,10 +1,7 @@
 -- `session::take_line` meets its contract.
-use Rattle.session.specs.Lines.{Form, formOf}
+use Rattle.session.specs.Lines.{formOf}
 use Rattle.session.specs.Calls.{tookBy, imageBy}
-use lib.ListN.{length}
-use mathlib.Core.List.{List}
-use Prim.Native.Nat.{ℕ, _<_}
-use mathlib.Core.Path.{_≡_, sym, ap, _∙_, subst}
+use mathlib.Core.Path.{sym, ap, _∙_}
 use Rattle.session.proofs.Takings.{line-late, line-narrow, line-refused, line-taken, form-none, read-form, read-some}
 use borrow.Author.Needs.{needs}
 use Rattle.session.proofs.taking.take_line.Statement.{statement}
