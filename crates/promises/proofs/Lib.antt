@@ -2,6 +2,7 @@
 pub mod Tables
 pub mod Answers
 pub mod KeyAnswers
+pub mod SessionAnswers
 pub mod OneAnswer
 pub mod Lasting
 pub mod SameAsRust

@@ -45,6 +45,13 @@ use Rattle.ink.specs.Answer.{Showing}
 use Rattle.ink.specs.declared.show.Shown.{Shown}
 use Rattle.ink.proofs.Inking.{one-answer as one-show}
 use Rattle.abi.specs.Calls.{WordsCall, QuoteCall, FreshCall, KeyCall, AddCall, TreeCall, ParseCall, HelpCall}
+use Rattle.tree.specs.Rules.{checkTree}
+use Rattle.tree.specs.declared.check.Checked.the-variants.{Good}
+use Rattle.session.specs.Calls.{imageOf, TakingLine, PressingKey}
+use Rattle.session.specs.declared.standing.Session.{Session}
+use Rattle.session.specs.declared.taking.Took.{Took}
+use Rattle.session.specs.declared.pressing.Pressing.{Pressing as SessionKey}
+use Rattle.session.proofs.Followed.{one-line, one-press}
 
 -- a single equation
 pub one : {A : Type 0} (r q is : A) → r ≡ is → q ≡ is → r ≡ q
@@ -152,3 +159,12 @@ module _ (state slots : List ℕ) (state₁ slots₁ state₂ slots₂ : List �
       one _ _ _ (a .given) (b .given),
       one _ _ _ (a .shown) (b .shown),
     )
+
+-- a session: its lines and its keys, under a well-formed image
+pub take-line : (h : Session) (line image frame : List ℕ) (r q : Took) (i f i′ f′ : List ℕ) → TakingLine h line image frame r i f → TakingLine h line image frame q i′ f′
+    → (r ≡ q) × (i ≡ i′) × (f ≡ f′)
+take-line = one-line
+
+pub press-key : (h : Session) (image slots : List ℕ) (byte : ℕ) (out : List ℕ) → checkTree (imageOf h image) ≡ Good → (r q : SessionKey) (l o l′ o′ : List ℕ)
+    → PressingKey h image slots byte out r l o → PressingKey h image slots byte out q l′ o′ → (r .answer ≡ q .answer) × (r .session ≡ q .session) × (l ≡ l′) × (o ≡ o′)
+press-key = one-press

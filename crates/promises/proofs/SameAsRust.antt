@@ -1,13 +1,13 @@
 -- Demand 2, same as the Rust: each call does what the Rust's function does, which stands as a function on values, beside its lines, in the specs/Rust of the crate.
 -- Well-formed text and white space are Unicode's, and a quoted list of words splits back into that list.
 use Prim.Native.Nat.{ℕ, _≤_}
-use mathlib.Core.Path.{_≡_}
-use mathlib.Core.Bool.{true, false}
-use mathlib.Core.List.{List, [], _++_}
+use mathlib.Core.Path.{_≡_, refl, sym, ap, _∙_}
+use mathlib.Core.Bool.{Bool, true, false}
+use mathlib.Core.List.{List, [], _∷_, _++_}
 use lib.ListN.{length, take}
 use Rattle.buffer.specs.Write.{over}
 use Rattle.text.specs.Unicode.{Scalar, encode, WellFormed}
-use Rattle.text.specs.Decoding.{decodeFirst, wellFormedLength}
+use Rattle.text.specs.Decoding.{decodeFirst, codesIn, wellFormedLength}
 use Rattle.text.specs.declared.utf8.Decoded.the-variants.{Character}
 use Rattle.text.proofs.Encoding.{SoundOf, decode-sound, decode-complete}
 use Rattle.text.proofs.Prefix.{prefix-well-formed, prefix-longest, whole-is, is-whole}
@@ -19,7 +19,7 @@ use Rattle.words.specs.declared.tokenizer.Tokens.the-variants.{Words}
 use Rattle.quote.specs.Given.{listed, fine, judge}
 use Rattle.quote.specs.Answer.{quoteLine}
 use Rattle.quote.proofs.Return.{given-back, call-back}
-use Rattle.tree.specs.Images.{flat}
+use Rattle.tree.specs.Images.{flat, framesOf}
 use Rattle.tree.specs.Forest.{Forest}
 use Rattle.tree.specs.Rules.{checkTree}
 use Rattle.tree.specs.declared.check.Checked.the-variants.{Good}
@@ -28,8 +28,14 @@ use Rattle.trees.specs.Commands.{baseTree, fsTree}
 use Rattle.rust.specs.Tree.{commandsOf}
 use Rattle.rust.specs.Base.{buildCommandTree}
 use Rattle.rust.specs.Parser.{tokenize}
+use Rattle.rust.specs.Shell.{enter}
+use Rattle.rust.specs.Same.{Seen, quiet, output, handed, ended, crashed, seenOf, seenFor, allPrinted}
 use Rattle.rust.specs.Calls.{SplitsAs, Fair, SameAsRust}
+use Rattle.rust.proofs.Running.{same-run}
 use Rattle.rust.proofs.Calls.{splits-as, good-same, base-same, fs-same}
+use Rattle.shell.specs.Lines.{Said, silence, text, farewell, handed as handsOver, beginsHelp, saidOf}
+use Rattle.session.specs.Prints.{Printed, handler, exit, shown, prompt, answered, keyPrints}
+use Rattle.session.proofs.Followed.{atEnter, shows-then}
 use Rattle.history.specs.Slots.{good}
 use Rattle.history.specs.Answer.{entriesIn, Addition}
 use Rattle.history.specs.Steps.{back, onward}
@@ -41,9 +47,11 @@ use Rattle.history.proofs.Called.{stepIn, add-as-rust, previous-as-rust, next-a
 use Rattle.screen.specs.Redraw.{redraw}
 use Rattle.editor.specs.declared.line.Editor.{Editor}
 use Rattle.editor.specs.declared.drawing.Key.{Key}
+use Rattle.editor.specs.Keys.{State, turnOf}
 use Rattle.editor.specs.Answer.{stateOf, goodState, refused, Pressing}
-use Rattle.editor.specs.Rust.{clearLineAndRedraw, rustKey}
-use Rattle.editor.proofs.Original.{shellOf, same-redraw}
+use Rattle.editor.specs.Rust.{Loop, clearLineAndRedraw, rustKey}
+use Rattle.editor.proofs.Fine.{Fine}
+use Rattle.editor.proofs.Original.{shellOf, same-redraw, same-key}
 use Rattle.editor.proofs.Called.{as-rust}
 
 -- HISTORY (002): `CommandHistory::new(100)`, and its add_command on the entries and the place that record and slots hold
@@ -87,6 +95,32 @@ base-tree = base-same
 
 pub fs-tree : SameAsRust (flat fsTree) (buildCommandTree true)
 fs-tree = fs-same
+
+-- A SESSION: a key prints the bytes that one turn of the Rust's loop writes, in one frame; at Enter there follow what the Rust does with the line, a frame for its output or
+-- its handler's call, and the prompt; exit ends it
+abbrev pub printed : Seen → List Printed
+printed quiet = shown prompt
+printed (output number bytes) = shown bytes ++ shown prompt
+printed (handed number report) = handler number report ∷ shown prompt
+printed (ended bytes) = shown bytes ++ (exit ∷ [])
+printed crashed = []
+
+said-printed : (s : Said) → answered s ≡ printed (seenFor s)
+unfolding answered
+said-printed silence = refl
+said-printed (text number bytes) = refl
+said-printed farewell = refl
+said-printed (handsOver number report) = refl
+
+pub session-key : (image : List ℕ) (f : Forest) → StandsFor image f → (s : State) → Fine s → (byte : ℕ) (printable : ℕ → Bool)
+    → (beginsHelp (turnOf prompt s byte .submitted) ≡ true → allPrinted printable (codesIn (turnOf prompt s byte .submitted)) ≡ true)
+    → keyPrints (framesOf image) (turnOf prompt s byte)
+    ≡ shown (rustKey prompt (shellOf s) byte .stdout) ++ atEnter (turnOf prompt s byte .kind) (printed (seenOf (enter printable (commandsOf f) (turnOf prompt s byte .submitted))))
+session-key image f stands s within byte printable plain =
+    shows-then (framesOf image) s byte within
+    ∙ ap (λ (x : List ℕ). shown x ++ atEnter (turnOf prompt s byte .kind) (answered (saidOf (framesOf image) (turnOf prompt s byte .submitted)))) (sym (ap (λ (l : Loop). l .stdout) (same-key prompt s within byte)))
+    ∙ ap (λ (x : List Printed). shown (rustKey prompt (shellOf s) byte .stdout) ++ atEnter (turnOf prompt s byte .kind) x)
+    (said-printed (saidOf (framesOf image) (turnOf prompt s byte .submitted)) ∙ sym (ap printed (same-run image f stands printable (turnOf prompt s byte .submitted) plain)))
 
 -- UNICODE: a character is read from its encoding, whatever follows, and what is read as a character begins with the encoding of a scalar value; the prefix that is
 -- found is well-formed, and no longer one is; a text is wholly found exactly if it is well-formed

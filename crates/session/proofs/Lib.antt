@@ -6,4 +6,5 @@ pub mod Screens
 pub mod Turns
 pub mod Takings
 pub mod Held
+pub mod Followed
 pub mod Examples

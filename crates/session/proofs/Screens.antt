@@ -12,7 +12,7 @@ use Rattle.screen.specs.Redraw.{clearLine, moveBack, redraw}
 use Rattle.editor.specs.declared.line.Mode.{Mode}
 use Rattle.editor.specs.declared.line.Mode.the-variants.{Typing, Escape, Sequence}
 use Rattle.editor.specs.Line.{limit, content}
-use Rattle.editor.specs.Keys.{State, Turn, inMode, redrawn, enter, erase, insert, typed, escaped, up, onPlace, down, right, left, sequenced, turnIn, turnOf}
+use Rattle.editor.specs.Keys.{State, Kind, shows, enters, drops, Turn, showing, inMode, redrawn, redrawing, lineFeed, enter, erase, insert, typed, escaped, up, onPlace, down, arrow, right, left, sequenced, turnIn, turnOf}
 use Rattle.editor.proofs.Fine.{Fine, turn-fine}
 
 -- a redraw of a line of at most 255 bytes
@@ -50,23 +50,36 @@ redrawn-size prompt s h k =
     let f = content-size (s .line) in
     omega arith
 
+-- what is shown at Enter is the line feed, and a byte that is dropped shows nothing
+abbrev pub Plain : Kind → List ℕ → Type 0
+Plain shows bytes = Unit {0}
+Plain enters bytes = bytes ≡ lineFeed
+Plain drops bytes = bytes ≡ []
+
 -- a turn shows few bytes, or draws the line of its state anew; and it submits at most a line
 data Brief (prompt : List ℕ) (t : Turn) : Type 0 where
-  few : length (t .screen) ≤ 3 → length (t .submitted) ≤ 255 → Brief prompt t
-  drawn : t .screen ≡ redrawn prompt (t .after) → length (t .submitted) ≤ 255 → Brief prompt t
+  few : length (t .screen) ≤ 3 → length (t .submitted) ≤ 255 → Plain (t .kind) (t .screen) → Brief prompt t
+  drawn : t .screen ≡ redrawn prompt (t .after) → length (t .submitted) ≤ 255 → Plain (t .kind) (t .screen) → Brief prompt t
 
 either : (prompt : List ℕ) (b : Bool) (t u : Turn) → Brief prompt t → Brief prompt u → Brief prompt (cond b t u)
 either prompt true t u p q = p
 either prompt false t u p q = q
 
+-- a turn that shows these few bytes, or the line drawn anew, and submits nothing
+brief : (prompt : List ℕ) (s : State) (bytes : List ℕ) → length bytes ≤ 3 → Brief prompt (showing s bytes)
+brief prompt s bytes h = few h (omega arith) tt
+
+anew : (prompt : List ℕ) (s : State) → Brief prompt (redrawing prompt s)
+anew prompt s = drawn refl (omega arith) tt
+
 module _ (prompt : List ℕ) (s : State) (byte : ℕ) (h : length (s .line) ≤ 255) where
   entered : Brief prompt (enter s)
   unfolding enter
-  entered = either prompt (eqb (length (s .line)) 0) _ _ (few (omega arith) (omega arith)) (few (omega arith) h)
+  entered = either prompt (eqb (length (s .line)) 0) _ _ (few (omega arith) (omega arith) refl) (few (omega arith) h refl)
 
   erased : Brief prompt (erase prompt s)
   unfolding erase
-  erased = either prompt (eqb (s .cursor) 0) _ _ (few (omega arith) (omega arith)) (drawn refl (omega arith))
+  erased = either prompt (eqb (s .cursor) 0) _ _ (brief prompt _ [] (omega arith)) (anew prompt _)
 
   typed-brief : Brief prompt (typed prompt s byte)
   unfolding typed insert
@@ -75,18 +88,18 @@ module _ (prompt : List ℕ) (s : State) (byte : ℕ) (h : length (s .line) ≤ 
       (either prompt (eqb byte 0x0A) _ _ entered
       (either prompt (eqb byte 0x08) _ _ erased
       (either prompt (eqb byte 0x7F) _ _ erased
-      (either prompt (eqb byte 0x1B) _ _ (few (omega arith) (omega arith))
-      (either prompt (ltb byte 0x20) _ _ (few (omega arith) (omega arith))
-      (either prompt (ltb (length (s .line)) limit) _ _ (drawn refl (omega arith)) (few (omega arith) (omega arith))))))))
+      (either prompt (eqb byte 0x1B) _ _ (brief prompt _ [] (omega arith))
+      (either prompt (ltb byte 0x20) _ _ (brief prompt _ [] (omega arith))
+      (either prompt (ltb (length (s .line)) limit) _ _ (anew prompt _) (few (omega arith) (omega arith) refl)))))))
 
   sequence-brief : Brief prompt (sequenced prompt s byte)
   unfolding sequenced up down right left
   sequence-brief =
-      either prompt (eqb byte 0x41) _ _ (either prompt (eqb (s .place) 0) _ _ (few (omega arith) (omega arith)) (drawn refl (omega arith)))
-      (either prompt (eqb byte 0x42) _ _ (either prompt (ltb (onPlace s) (length (s .entries))) _ _ (drawn refl (omega arith)) (drawn refl (omega arith)))
-      (either prompt (eqb byte 0x43) _ _ (either prompt (ltb (s .cursor) (length (s .line))) _ _ (few (omega arith) (omega arith)) (few (omega arith) (omega arith)))
-      (either prompt (eqb byte 0x44) _ _ (either prompt (eqb (s .cursor) 0) _ _ (few (omega arith) (omega arith)) (few (omega arith) (omega arith)))
-      (few (omega arith) (omega arith)))))
+      either prompt (eqb byte 0x41) _ _ (either prompt (eqb (s .place) 0) _ _ (brief prompt _ [] (omega arith)) (anew prompt _))
+      (either prompt (eqb byte 0x42) _ _ (either prompt (ltb (onPlace s) (length (s .entries))) _ _ (anew prompt _) (anew prompt _))
+      (either prompt (eqb byte 0x43) _ _ (either prompt (ltb (s .cursor) (length (s .line))) _ _ (brief prompt _ (arrow 0x43) (omega arith)) (brief prompt _ [] (omega arith)))
+      (either prompt (eqb byte 0x44) _ _ (either prompt (eqb (s .cursor) 0) _ _ (brief prompt _ [] (omega arith)) (brief prompt _ (arrow 0x44) (omega arith)))
+      (brief prompt _ [] (omega arith)))))
 
 module _ (prompt : List ℕ) (s : State) (byte : ℕ) (f : Fine s) where
   turn-brief : Brief prompt (turnOf prompt s byte)
@@ -95,19 +108,26 @@ module _ (prompt : List ℕ) (s : State) (byte : ℕ) (f : Fine s) where
     where
       by : (m : Mode) → Brief prompt (turnIn m prompt s byte)
       by Typing = typed-brief prompt s byte (f .short)
-      by Escape = few (omega arith) (omega arith)
+      by Escape = brief prompt _ [] (omega arith)
       by Sequence = sequence-brief prompt (inMode s Typing) byte (f .short)
 
   pub screen-short : length prompt ≤ 128 → length (turnOf prompt s byte .screen) ≤ 1023
   screen-short h = by turn-brief
     where
       by : Brief prompt (turnOf prompt s byte) → length (turnOf prompt s byte .screen) ≤ 1023
-      by (few k l) = omega arith
-      by (drawn e l) = let r = redrawn-size prompt (turnOf prompt s byte .after) h (turn-fine prompt s byte f .short) in let l = ap length e in omega arith
+      by (few k l m) = omega arith
+      by (drawn e l m) = let r = redrawn-size prompt (turnOf prompt s byte .after) h (turn-fine prompt s byte f .short) in let l = ap length e in omega arith
 
   pub submitted-short : length (turnOf prompt s byte .submitted) ≤ 255
   submitted-short = by turn-brief
     where
       by : Brief prompt (turnOf prompt s byte) → length (turnOf prompt s byte .submitted) ≤ 255
-      by (few k l) = l
-      by (drawn e l) = l
+      by (few k l m) = l
+      by (drawn e l m) = l
+
+  pub screen-plain : Plain (turnOf prompt s byte .kind) (turnOf prompt s byte .screen)
+  screen-plain = by turn-brief
+    where
+      by : Brief prompt (turnOf prompt s byte) → Plain (turnOf prompt s byte .kind) (turnOf prompt s byte .screen)
+      by (few k l m) = m
+      by (drawn e l m) = m

@@ -3,3 +3,4 @@ pub mod Prints
 pub mod Lines
 pub mod Held
 pub mod Calls
+pub mod Answer

@@ -3,16 +3,12 @@ use Prim.Native.Nat.{ℕ, _+_}
 use mathlib.Core.Bool.{Bool, true, false, cond}
 use mathlib.Core.List.{List, [], _∷_, _++_}
 use lib.Dec.{eqb, ltb}
-use lib.ListN.{length}
 use Rattle.frame.specs.House.{readHouse, digitsOf}
 use Rattle.frame.specs.Hex.{unhex}
 use Rattle.frame.specs.declared.house.House.{House}
 use Rattle.frame.specs.declared.house.House.the-variants.{Frame, Unended, Empty, TooLong, Odd, NoDigit, Short}
-use Rattle.image.specs.Reading.{Read, read, broken, ended, readFirst}
 use Rattle.tree.specs.Images.{framesOf}
-use Rattle.tree.specs.Rules.{checkTree}
-use Rattle.tree.specs.declared.check.Checked.{Checked}
-use Rattle.tree.specs.declared.check.Checked.the-variants.{Good, BadFrame}
+use Rattle.growth.specs.Growth.{takes}
 use Rattle.editor.specs.Keys.{State, freshState, turnOf}
 use Rattle.session.specs.Prints.{Printed, badLine, prompt, keyPrints, keyEnds}
 
@@ -38,19 +34,6 @@ formBy (Short needed) bytes = formless
 
 unfoldable pub lineForm : List ℕ → Form
 lineForm line = formBy (readHouse line 512) (unhex (digitsOf line))
-
--- a tree line holds one frame, and the image with it is well-formed
-abbrev pub isGood : Checked → Bool
-isGood Good = true
-isGood (BadFrame n) = false
-
-abbrev pub isWhole : Read → ℕ → Bool
-isWhole (read f n) m = eqb n m
-isWhole broken m = false
-isWhole ended m = false
-
-unfoldable pub grows : List ℕ → List ℕ → Bool
-grows image frame = cond (isWhole (readFirst frame) (length frame)) (isGood (checkTree (image ++ frame))) false
 
 -- where a session stands: the image so far, whether a frame 20 has come, the editor and its history, the lines read
 pub record Standing : Type 0 where
@@ -78,11 +61,11 @@ pub data Taking : Type 0 where
   pressing : (bytes : List ℕ) (after : Standing) → Taking
   refused : (number : ℕ) → Taking
 
--- a tree frame that comes after a frame 20, or makes the image bad, is refused
+-- a tree line holds one frame, and the image with it is well-formed; one that comes after a frame 20 is refused
 unfoldable pub takeForm : Standing → Form → Taking
 takeForm s (tree frame) =
     cond (s .keyed) (refused (s .lines + 1))
-    (cond (grows (s .image) frame) (grown (withImage s (s .image ++ frame)))
+    (cond (takes (s .image) frame) (grown (withImage s (s .image ++ frame)))
     (refused (s .lines + 1)))
 takeForm s (keys bytes) = pressing bytes (withKeys s)
 takeForm s formless = refused (s .lines + 1)

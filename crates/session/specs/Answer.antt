@@ -1,0 +1,34 @@
+-- The answers of a session in numbers (01, "Numbers given back": 9, 12).
+use Prim.Native.Nat.{ℕ}
+use Rattle.session.specs.declared.running.Printing.{Printing}
+use Rattle.session.specs.declared.running.Printing.the-variants.{Goes, Ends, BadState, NoRoom}
+use Rattle.session.specs.declared.taking.Taken.{Taken}
+use Rattle.session.specs.declared.taking.Taken.the-variants.{Tree, Keys, BadLine, Over, NoRoom as NoFrame}
+
+-- the refusal's number in 01 (0: none), and the value that goes with it: the length of what is printed, or what 01 says
+abbrev pub number : Printing → ℕ
+number (Goes n) = 0
+number (Ends n) = 0
+number BadState = 12
+number (NoRoom n) = 9
+
+abbrev pub value : Printing → ℕ
+value (Goes n) = n
+value (Ends n) = n
+value BadState = 0
+value (NoRoom n) = n
+
+-- the same of a line; a bad line has a frame 2F and no number of 01: its value is its own number
+abbrev pub lineNumber : Taken → ℕ
+lineNumber Tree = 0
+lineNumber (Keys n) = 0
+lineNumber (BadLine n) = 0
+lineNumber Over = 0
+lineNumber (NoFrame n) = 9
+
+abbrev pub lineValue : Taken → ℕ
+lineValue Tree = 0
+lineValue (Keys n) = n
+lineValue (BadLine n) = n
+lineValue Over = 0
+lineValue (NoFrame n) = n
