@@ -4,6 +4,13 @@
 library=${RISSEMAT_LIBRARY:-target/staticlib/libabi.a}
 [ -n "${RISSEMAT_LIBRARY:-}" ] || rt staticlib abi
 
+# The program console: the one proved here, or the one that RISSEMAT_CONSOLE names.
+if [ -z "${RISSEMAT_CONSOLE:-}" ]; then
+    rt check console
+    RISSEMAT_CONSOLE=target/bin/console
+fi
+export RISSEMAT_CONSOLE
+
 . compare/original.sh
 
 # program NAME FILE: a program over the original, in both its forms, and over the library.

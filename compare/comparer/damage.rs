@@ -19,7 +19,8 @@ pub fn damaged(random: &mut Random, frames: &[Vec<u8>]) -> Vec<u8> {
     image
 }
 
-fn damage_frames(random: &mut Random, frames: &mut Vec<Vec<u8>>) {
+/// Damages frames in one way.
+pub fn damage_frames(random: &mut Random, frames: &mut Vec<Vec<u8>>) {
     if frames.is_empty() {
         return;
     }

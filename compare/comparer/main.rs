@@ -1,5 +1,6 @@
 // Compares the proved library with the original shell and with the rules of the standard, part by part.
 mod buffers;
+mod console;
 mod damage;
 mod frames;
 mod help;
@@ -32,7 +33,7 @@ mod workers;
 use part::Part;
 use std::process::ExitCode;
 
-const PARTS: [(&str, fn(&mut Part)); 53] = [
+const PARTS: [(&str, fn(&mut Part)); 64] = [
     ("session: the original under keys", session::compare),
     ("marked: M1 to M8", marked::compare),
     ("words: every short line", words::short_lines),
@@ -86,6 +87,17 @@ const PARTS: [(&str, fn(&mut Part)); 53] = [
     ("run: long lines", run::long_lines),
     ("run: mixed lines", run::mixed_lines),
     ("run: refusals in their order", run::refusals),
+    ("console: what the standard shows", console::standard),
+    ("console: named sessions", console::named_sessions),
+    ("console: named trees", console::named_trees),
+    ("console: bad lines at each place", console::bad_lines),
+    ("console: trees about the limits", console::tree_limits),
+    ("console: damaged trees", console::damaged_trees),
+    ("console: lines about the limits", console::line_limits),
+    ("console: inputs in pieces", console::pieces),
+    ("console: line by line", console::dialogues),
+    ("console: outputs that are closed", console::closed_outputs),
+    ("console: mixed sessions", console::mixed_sessions),
 ];
 
 /// Runs the parts whose names begin with one of the words given, all if there are none.

@@ -58,7 +58,7 @@ pub fn helped(words: &[String]) -> Result<Vec<u8>, String> {
 }
 
 /// A `Debug` text as the standard has it: a character outside ASCII that Rust escapes is copied.
-fn copied(debug: &str) -> String {
+pub fn copied(debug: &str) -> String {
     let mut text = String::new();
     let mut rest = debug;
     while let Some(place) = rest.find('\\') {

@@ -53,6 +53,11 @@ pub(crate) fn next_key() -> u8 {
     key.unwrap_or_else(|| leave(End::KeysUsed))
 }
 
+/// How many keys were read in this run.
+pub fn keys_read() -> usize {
+    CONSOLE.with_borrow(|console| console.screens.len() - 1)
+}
+
 pub(crate) fn write(bytes: &[u8]) {
     CONSOLE.with_borrow_mut(|console| {
         let screen = console.screens.last_mut().expect("the original writes only inside typed");
