@@ -7,6 +7,10 @@ use std::hint::black_box;
 
 const PROMPT: &[u8] = b"axvisor:$ ";
 const LETTER: u8 = b'x';
+/// Takes the letter back.
+const ERASE: u8 = 0x7F;
+/// The letter, and the key that takes it back.
+pub const PAIR: [u8; 2] = [LETTER, ERASE];
 /// The lengths of a saved state, of its slots, of the line buffer, and more than any redraw writes.
 const STATE: usize = 260;
 const SLOTS: usize = 25_600;
@@ -38,7 +42,7 @@ pub fn rows() {
 
 fn line_rows(length: usize) {
     let line = vec![b'a'; length];
-    let keys = [&line[..], &[LETTER, 0x7F].repeat(PAIRS)].concat();
+    let keys = [&line[..], &PAIR.repeat(PAIRS)].concat();
     let mut ours = HISTORIES.map(|(_, text, bytes)| Ours::new(&line, text, bytes));
     ours.iter_mut().for_each(|ours| ours.agree(&line));
 
@@ -53,7 +57,7 @@ fn line_rows(length: usize) {
 }
 
 /// A saved state with what a key is lent.
-struct Ours {
+pub struct Ours {
     before: [u8; STATE],
     state: [u8; STATE],
     slots: Vec<u8>,
@@ -62,11 +66,10 @@ struct Ours {
 }
 
 impl Ours {
-    fn new(line: &[u8], text: &str, bytes: usize) -> Self {
+    pub fn new(line: &[u8], text: &str, bytes: usize) -> Self {
         let (mut before, mut slots) = ([0; STATE], vec![0; SLOTS]);
         assert_eq!(calls::fresh(&mut before, &mut slots), 0);
-        for number in 0..if bytes == 0 { 0 } else { ENTRIES } {
-            let entry = entry(number, text, bytes);
+        for entry in entries(text, bytes) {
             assert_eq!(calls::history_add(&mut before, &mut slots, entry.as_bytes()), 0);
         }
         before[1] = line.len() as u8;
@@ -82,12 +85,24 @@ impl Ours {
         black_box(calls::key(black_box(state), slots, PROMPT, LETTER, line, screen))
     }
 
+    /// The letter typed and taken back. What the second key shows is on the screen.
+    pub fn pair(&mut self) -> &[u8] {
+        let Ours { state, slots, line, screen, .. } = self;
+        let [_, shown] = PAIR.map(|key| black_box(calls::key(black_box(state), slots, PROMPT, key, line, screen)));
+        &screen[..shown as usize]
+    }
+
     /// What is timed must be the same on both sides.
     fn agree(&mut self, line: &[u8]) {
         let theirs = typed(&[line, &[LETTER]].concat(), Original::console_init).screens.pop();
         let shown = self.press() as usize;
         assert_eq!(self.screen.get(..shown), theirs.as_deref());
     }
+}
+
+/// The entries of a full history, none for 0 bytes.
+pub fn entries(text: &str, bytes: usize) -> impl Iterator<Item = String> {
+    (0..if bytes == 0 { 0 } else { ENTRIES }).map(move |number| entry(number, text, bytes))
 }
 
 /// An entry of so many bytes. Neighbours differ in their first letter.

@@ -1,8 +1,9 @@
-// Times the proved library against the original shell, both from this one driver, and prints five tables.
+// Times the proved library against the original shell, both from this one driver, and prints seven tables.
 mod help;
 mod keys;
 mod lines;
 mod parse;
+mod session;
 mod table;
 mod timing;
 mod tree;
@@ -19,4 +20,8 @@ fn main() {
     parse::rows();
     table::help_heading();
     help::rows();
+    table::session_heading();
+    session::key_rows();
+    table::tree_lines_heading();
+    session::tree_rows();
 }

@@ -1,5 +1,5 @@
 #!/bin/sh
-# Times the proved library against the original shell: builds both, with one driver, and prints five tables.
+# Times the proved library and the program console against the original shell: builds them, with one driver, and prints seven tables.
 set -eu
 cd "$(dirname "$0")/.."
 . compare/build.sh

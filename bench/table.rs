@@ -68,3 +68,27 @@ pub fn help_row(tree: &str, help: &str, bytes: usize, rust: f64, whole: f64, tes
         "| {tree:<9} | {help:<12} | {bytes:>5} | {rust:>7.0} | {test:>7.0} | {whole:>8.0} | {by_whole:>12.2} | {after:>17.0} | {by_after:>12.2} |"
     );
 }
+
+pub fn session_heading() {
+    println!();
+    println!("| line | history              | key ns | in a session ns | in a session / key |");
+    println!("|-----:|----------------------|-------:|----------------:|-------------------:|");
+}
+
+/// Prints the row of one key in a session.
+pub fn session_row(line: usize, history: &str, key: f64, session: f64) {
+    let by_key = session / key;
+    println!("| {line:>4} | {history:<20} | {key:>6.0} | {session:>15.0} | {by_key:>18.2} |");
+}
+
+pub fn tree_lines_heading() {
+    println!();
+    println!("| tree lines of    | lines | image bytes |      ns | ns a byte | ns a line |");
+    println!("|------------------|------:|------------:|--------:|----------:|----------:|");
+}
+
+/// Prints the row of the tree lines of a session.
+pub fn tree_lines_row(kind: &str, lines: usize, bytes: usize, time: f64) {
+    let (by_bytes, by_lines) = (time / bytes as f64, time / lines as f64);
+    println!("| {kind:<16} | {lines:>5} | {bytes:>11} | {time:>7.0} | {by_bytes:>9.2} | {by_lines:>9.1} |");
+}

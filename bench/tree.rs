@@ -36,7 +36,7 @@ fn row(kind: &str, tree: &[Node], rust: Task) {
 }
 
 /// Siblings whose frames have 128 bytes each.
-fn even(nodes: usize) -> Vec<Node> {
+pub fn even(nodes: usize) -> Vec<Node> {
     let node = |number| Node {
         handler: 1,
         name: format!("command-{number:03}"),
