@@ -78,9 +78,9 @@ const FRAMES: [&[u8]; 32] = [
     b"\x03\x00\x01f\xFF\x00\x20a",
 ];
 
-/// Each of these lines at each place of a session, and as its last line without an end.
+/// Each of these lines at each place of a session, and as its last line without an end. Behind the exit none is read.
 pub fn bad_lines(part: &mut Part) {
-    let session = tree_lines(&examples().0) + &key_lines(b"log\rvm start -f\rhelp\r", 7);
+    let session = tree_lines(&examples().0) + &key_lines(b"log\rvm start -f\rhelp\rexit\rlog\r", 7);
     let lines: Vec<&str> = session.split_inclusive('\n').collect();
     let texts = [32, 33].map(name).into_iter().chain([96, 97].map(note));
     let frames = FRAMES.iter().map(|frame| house(frame)).chain(texts);
