@@ -44,9 +44,13 @@ use Rattle.shell.proofs.Answers.{one-answer as one-run}
 use Rattle.ink.specs.Answer.{Showing}
 use Rattle.ink.specs.declared.show.Shown.{Shown}
 use Rattle.ink.proofs.Inking.{one-answer as one-show}
-use Rattle.abi.specs.Calls.{WordsCall, QuoteCall, FreshCall, KeyCall, AddCall, TreeCall, ParseCall, HelpCall}
+use Rattle.abi.specs.Calls.{WordsCall, QuoteCall, FreshCall, KeyCall, AddCall, TreeCall, ParseCall, HelpCall, RunCall}
 use Rattle.tree.specs.Rules.{checkTree}
 use Rattle.tree.specs.declared.check.Checked.the-variants.{Good}
+use Rattle.tree.specs.declared.walk.Walk.{Walk}
+use Rattle.tree.specs.declared.walk.Step.{Step}
+use Rattle.growth.specs.Growth.{Grows}
+use Rattle.growth.proofs.Adding.{one-answer as one-frame}
 use Rattle.session.specs.Calls.{imageOf, TakingLine, PressingKey}
 use Rattle.session.specs.declared.standing.Session.{Session}
 use Rattle.session.specs.declared.taking.Took.{Took}
@@ -97,6 +101,9 @@ module _ (x y out left other : List ℕ) where
 
   pub rissemat-help : (r q : ℕ) → HelpCall x y out r left → HelpCall x y out q other → (r ≡ q) × (left ≡ other)
   rissemat-help r q a b = (one _ _ _ (a .answer) (b .answer), one _ _ _ (a .bytes) (b .bytes))
+
+  pub rissemat-run : (r q : ℕ) → RunCall x y out r left → RunCall x y out q other → (r ≡ q) × (left ≡ other)
+  rissemat-run r q a b = (one _ _ _ (a .answer) (b .answer), one _ _ _ (a .bytes) (b .bytes))
 
 pub rissemat-tree : (image : List ℕ) (r q : ℕ) → TreeCall image r → TreeCall image q → r ≡ q
 rissemat-tree image r q a b = one _ _ _ (a .answer) (b .answer)
@@ -159,6 +166,10 @@ module _ (state slots : List ℕ) (state₁ slots₁ state₂ slots₂ : List �
       one _ _ _ (a .given) (b .given),
       one _ _ _ (a .shown) (b .shown),
     )
+
+-- an image that grows by a frame
+pub add-frame : (walk : Walk) (frame buffer left other : List ℕ) (r q : Step) → Grows walk frame buffer r left → Grows walk frame buffer q other → (r ≡ q) × (left ≡ other)
+add-frame = one-frame
 
 -- a session: its lines and its keys, under a well-formed image
 pub take-line : (h : Session) (line image frame : List ℕ) (r q : Took) (i f i′ f′ : List ℕ) → TakingLine h line image frame r i f → TakingLine h line image frame q i′ f′
