@@ -1,19 +1,21 @@
 -- Laws of frames one after the other: how their texts are read one by one, and that what is written so is read back.
-use Prim.Native.Nat.{ℕ, zero, suc, _+_, _^_, _≤_, _<_}
+use Prim.Native.Nat.{ℕ, zero, suc, _+_, _-_, _^_, _≤_, _<_}
 use mathlib.Core.Path.{_≡_, refl, sym, ap, _∙_}
-use mathlib.Core.List.{List, [], _∷_, _++_}
+use mathlib.Core.List.{List, [], _∷_, _++_, append-assoc, append-nil}
 use native.Mathlib.Omega.{arith}
 use types.Run.{OneOf, miss}
 use denote.Enum.Declared.{tagOf}
-use lib.ListN.{length, take, drop}
-use lib.Seq.{drop-append-seam}
+use lib.ListN.{length, take, drop, length-take, length-drop}
+use lib.Seq.{drop-drop, drop-append-seam, take-add, take-append-seam}
 use Rattle.buffer.proofs.Lists.{drop-end}
 use Rattle.frame.specs.Framed.{frameOf, frameFirst}
-use Rattle.frame.specs.Series.{onFrame, textsFrom, textsIn, runs}
+use Rattle.frame.specs.Text.{Bytes}
+use Rattle.frame.specs.Series.{onFrame, textsFrom, textsIn, Whole, runs}
 use Rattle.frame.specs.declared.framed.Framed.{Framed}
 use Rattle.frame.specs.declared.framed.Framed.the-variants.{Frame, Broken, End}
 use Rattle.frame.proofs.framed.Framed.{the-type}
-use Rattle.frame.proofs.Frames.{length-frameOf, frame-read, frame-found}
+use Rattle.frame.proofs.Texts.{bytes-drop}
+use Rattle.frame.proofs.Frames.{length-frameOf, frame-read, frame-found, frame-within, frame-back}
 
 -- what is read already
 pub texts-skip : (s : List ℕ) (j : ℕ) → textsFrom s j ≡ textsIn (drop j s)
@@ -72,3 +74,69 @@ pub texts-runs : (kind : ℕ) (l : List (List ℕ)) → AllShort l → textsIn (
 unfolding runs textsIn textsFrom
 texts-runs kind [] h = refl
 texts-runs kind (t ∷ l) h = texts-written kind t (runs (frameOf kind) l) (h .0) ∙ ap (λ (m : List (List ℕ)). t ∷ m) (texts-runs kind l (h .1))
+
+-- A WORD, by the frame at a place
+module _ (words : List ℕ) (at kind n : ℕ) (e : frameFirst (drop at words) ≡ Frame kind n) where
+  abbrev word : List ℕ
+  word = take n (drop (at + 3) words)
+
+  pub word-within : at + 3 + n ≤ length words
+  word-within = let h = frame-within (drop at words) kind n e in let l = length-drop at words in omega arith
+
+  pub word-length : length word ≡ n
+  word-length = let h = word-within in rw (length-take, length-drop) (omega arith)
+
+  pub frame-is : Bytes words → take (at + 3 + n - at) (drop at words) ≡ frameOf kind word
+  frame-is b =
+      let k : at + 3 + n - at ≡ 3 + n = omega arith in
+      let t : take n (drop 3 (drop at words)) ≡ word = ap (take n) (drop-drop 3 at words) in
+      let l : length (frameOf kind word) ≡ 3 + n = length-frameOf kind _ ∙ ap (λ (m : ℕ). 3 + m) word-length in
+      let s : drop at words ≡ frameOf kind word ++ drop (3 + n) (drop at words) = frame-back (drop at words) kind n (bytes-drop at words b) e ∙ ap (λ (x : List ℕ). frameOf kind x ++ drop (3 + n) (drop at words)) t in
+      ap (λ (m : ℕ). take m (drop at words)) (k ∙ sym l) ∙ ap (take (length (frameOf kind word))) s ∙ take-append-seam (frameOf kind word) (drop (3 + n) (drop at words))
+
+  pub words-more : textsIn (drop at words) ≡ word ∷ textsIn (drop (at + 3 + n) words)
+  words-more =
+      texts-more (drop at words) kind n e
+      ∙ ap (λ (x : List ℕ). take n x ∷ textsIn (drop (3 + n) (drop at words))) (drop-drop 3 at words)
+      ∙ ap (λ (x : List ℕ). word ∷ textsIn x) (drop-drop (3 + n) at words ∙ ap (λ (j : ℕ). drop j words) (let j : at + (3 + n) ≡ at + 3 + n = omega arith in j))
+
+-- WHOLE FRAMES, none and one more
+pub texts-none : textsIn [] ≡ []
+unfolding textsIn textsFrom
+texts-none = refl
+
+pub whole-none : Whole []
+unfolding Whole textsIn textsFrom
+whole-none more = refl
+
+pub one-text : (kind : ℕ) (t : List ℕ) → length t < 256 ^ 2 → textsIn (frameOf kind t) ≡ t ∷ []
+unfolding textsIn textsFrom
+one-text kind t h = ap textsIn (sym (append-nil (frameOf kind t))) ∙ texts-written kind t [] h
+
+pub whole-frame : (kind : ℕ) (t : List ℕ) → length t < 256 ^ 2 → Whole (frameOf kind t)
+unfolding Whole
+whole-frame kind t h more =
+    texts-written kind t more h ∙ ap (λ (l : List (List ℕ)). l ++ textsIn more) (sym (one-text kind t h))
+
+pub whole-both : (a b : List ℕ) → Whole a → Whole b → Whole (a ++ b)
+unfolding Whole
+whole-both a b x y more =
+    ap textsIn (append-assoc a b more) ∙ x (b ++ more) ∙ ap (λ (l : List (List ℕ)). textsIn a ++ l) (y more)
+    ∙ sym (append-assoc (textsIn a) (textsIn b) (textsIn more)) ∙ ap (λ (l : List (List ℕ)). l ++ textsIn more) (sym (x b))
+
+module _ (words : List ℕ) (at kind n : ℕ) (e : frameFirst (drop at words) ≡ Frame kind n) (b : Bytes words) (s : length words < 256 ^ 2) (w : Whole (take at words)) where
+  path-bytes : take (at + 3 + n) words ≡ take at words ++ frameOf kind (word words at kind n e)
+  path-bytes =
+      let k : at + 3 + n ≡ at + (at + 3 + n - at) = omega arith in
+      ap (λ (m : ℕ). take m words) k ∙ take-add at (at + 3 + n - at) words ∙ ap (λ (x : List ℕ). take at words ++ x) (frame-is words at kind n e b)
+
+  little : length (word words at kind n e) < 256 ^ 2
+  little = let l = word-length words at kind n e in let h = word-within words at kind n e in omega arith
+
+  pub path-more : textsIn (take (at + 3 + n) words) ≡ textsIn (take at words) ++ (word words at kind n e ∷ [])
+  unfolding Whole
+  path-more =
+      ap textsIn path-bytes ∙ w (frameOf kind (word words at kind n e)) ∙ ap (λ (l : List (List ℕ)). textsIn (take at words) ++ l) (one-text kind (word words at kind n e) little)
+
+  pub path-whole : Whole (take (at + 3 + n) words)
+  path-whole = rw path-bytes (whole-both (take at words) (frameOf kind (word words at kind n e)) w (whole-frame kind (word words at kind n e) little))

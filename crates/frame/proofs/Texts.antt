@@ -7,7 +7,7 @@ use native.Mathlib.Omega.{arith}
 use native.Mathlib.Nat.{add-zero, div-one, mod-lt, one-le-pow, div-add-mod', mul-add-div-right, mul-add-mod-self-right, div-eq-of-lt, mod-eq-of-lt, mul-le-mul-right, pow-suc}
 use lib.Dec.{leb}
 use lib.ListN.{length, take, drop, getD, length-append, length-drop, take-append-drop}
-use lib.Seq.{take-at, drop-at, take-add, length-take-le}
+use lib.Seq.{take-at, drop-at, getD-drop, take-add, length-take-le}
 use borrow.Author.Tests.{le-leb, lt-leb, leb-true}
 use Rattle.buffer.proofs.Lists.{drop-step}
 use Rattle.buffer.proofs.Choices.{then-is, else-is}
@@ -70,6 +70,10 @@ bytes-take zero s h i = omega arith
 bytes-take (suc n) [] h i = omega arith
 bytes-take (suc n) (b ∷ s) h zero = h 0
 bytes-take (suc n) (b ∷ s) h (suc i) = bytes-take n s (λ j. h (suc j)) i
+
+pub bytes-drop : (n : ℕ) (s : List ℕ) → Bytes s → Bytes (drop n s)
+unfolding Bytes
+bytes-drop n s b i = rw (getD-drop n s i 0) (b (n + i))
 
 -- how reading decides, by the number in front
 module _ (w : ℕ) (s : List ℕ) where

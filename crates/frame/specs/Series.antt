@@ -1,5 +1,6 @@
 -- Frames of one text, one after the other: the texts that they hold, and the bytes of many put together.
 use Prim.Native.Nat.{ℕ, zero, suc, _+_}
+use mathlib.Core.Path.{_≡_}
 use mathlib.Core.List.{List, [], _∷_, _++_}
 use lib.ListN.{take, drop}
 use Rattle.frame.specs.Framed.{frameFirst}
@@ -19,6 +20,10 @@ textsFrom (a ∷ s) zero = onFrame (frameFirst (a ∷ s)) (λ kind n. take n (dr
 
 unfoldable pub textsIn : List ℕ → List (List ℕ)
 textsIn s = textsFrom s 0
+
+-- whole frames: what stands behind them is read as if alone
+unfoldable pub Whole : List ℕ → Type 0
+Whole s = (more : List ℕ) → textsIn (s ++ more) ≡ textsIn s ++ textsIn more
 
 -- the bytes of each, one after the other
 unfoldable pub runs : {A : Type 0} → (A → List ℕ) → List A → List ℕ

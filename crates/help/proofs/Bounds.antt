@@ -4,7 +4,7 @@ use mathlib.Core.List.{List, [], _∷_}
 use native.Mathlib.Omega.{arith}
 use lib.ListN.{length}
 use Rattle.image.specs.Frames.{Frame}
-use Rattle.lookup.specs.Subtrees.{subtree}
+use Rattle.tree.specs.Subtrees.{subtree}
 use Rattle.lookup.proofs.Few.{Few, few-subtree}
 use Rattle.layout.specs.Texts.{spaced}
 use Rattle.layout.proofs.Bounds.{spaced-more, help-most}

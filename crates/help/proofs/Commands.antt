@@ -13,7 +13,7 @@ use Rattle.text.proofs.Prefix.{prefix-fits}
 use Rattle.tree.specs.Images.{framesOf}
 use Rattle.tree.specs.Rules.{checkTree}
 use Rattle.tree.specs.declared.check.Checked.the-variants.{Good}
-use Rattle.lookup.specs.Subtrees.{subtree}
+use Rattle.tree.specs.Subtrees.{subtree}
 use Rattle.help.specs.Answer.{Reply, helpOf, helpLine, bytesOf, answerBy, answerIn, answerFor, leavesBy, leavesFor, Helping}
 use Rattle.help.specs.declared.call.Helped.{Helped}
 use Rattle.help.specs.declared.call.Helped.the-variants.{LineTooLong, IllFormed}

@@ -5,7 +5,7 @@ use Rattle.buffer.specs.Compare.{sameBytes}
 use Rattle.frame.specs.Text.{number as numberIn, textOf}
 use Rattle.frame.specs.Framed.{frameOf}
 use Rattle.image.specs.Frames.{Frame, node, flag, absent, present}
-use Rattle.lookup.specs.Subtrees.{upTo, onFrom, subtree}
+use Rattle.tree.specs.Subtrees.{upTo, onFrom, subtree}
 use Rattle.ink.specs.Ascii.{ascii}
 use Rattle.rows.specs.Rows.{blanks, padded, shortThen, shownAs, entry, flagRow, nodeRow, rows, titled}
 use Rattle.layout.specs.Texts.{spaced, lists, about, helpText}

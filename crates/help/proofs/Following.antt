@@ -8,19 +8,20 @@ use native.Mathlib.Numerals.{add-one}
 use lib.ListN.{length, take, drop, length-take, length-drop}
 use lib.Seq.{drop-drop, take-take, take-all}
 use Rattle.buffer.proofs.Lists.{drop-end}
-use Rattle.frame.specs.Text.{Bytes}
 use Rattle.text.specs.Apart.{wordsBetween, nextWord}
 use Rattle.text.specs.declared.apart.Word.{Word}
 use Rattle.text.specs.declared.apart.Word.the-variants.{At, Nothing}
+use Rattle.frame.specs.Text.{Bytes}
 use Rattle.image.specs.Frames.{Frame, encode}
 use Rattle.tree.specs.Images.{framesOf, flat}
 use Rattle.tree.specs.Rules.{start, checkTree}
 use Rattle.tree.specs.declared.check.Checked.the-variants.{Good}
 use Rattle.tree.proofs.Wholes.{AllFit, frames-flat, obey-fit, good-well-formed}
+use Rattle.tree.specs.Subtrees.{upTo, onFrom, rooted, subtree}
 use Rattle.lookup.specs.Spots.{later, placeOf, spot}
 use Rattle.lookup.specs.Searches.{wanted, endedBy}
 use Rattle.lookup.specs.Nodes.{findNode}
-use Rattle.lookup.specs.Subtrees.{upTo, onFrom, rooted, subtree, PartHolds}
+use Rattle.lookup.specs.Subtrees.{PartHolds}
 use Rattle.lookup.specs.declared.seek.Spot.the-variants.{At as SpotAt, Nothing as NoSpot}
 use Rattle.lookup.specs.declared.look.Sought.the-variants.{Node, Upper}
 use Rattle.lookup.specs.declared.node.Part.{Part}

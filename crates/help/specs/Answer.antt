@@ -14,7 +14,7 @@ use Rattle.tree.specs.Images.{framesOf}
 use Rattle.tree.specs.Rules.{checkTree}
 use Rattle.tree.specs.declared.check.Checked.{Checked}
 use Rattle.tree.specs.declared.check.Checked.the-variants.{Good, BadFrame}
-use Rattle.lookup.specs.Subtrees.{subtree}
+use Rattle.tree.specs.Subtrees.{subtree}
 use Rattle.layout.specs.Texts.{helpText}
 use Rattle.help.specs.Paths.{Led, found, lost, onSubtree, followed}
 use Rattle.help.specs.declared.call.Helped.{Helped}

@@ -6,7 +6,7 @@ use lib.ListN.{length, take, drop}
 use Rattle.text.specs.Apart.{wordsBetween}
 use Rattle.image.specs.Frames.{Frame}
 use Rattle.tree.specs.Images.{framesOf}
-use Rattle.lookup.specs.Subtrees.{subtree}
+use Rattle.tree.specs.Subtrees.{subtree}
 use Rattle.help.specs.declared.path.Followed.{Followed}
 use Rattle.help.specs.declared.path.Followed.the-variants.{Found, Lost}
 

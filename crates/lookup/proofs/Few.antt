@@ -11,8 +11,8 @@ use Rattle.image.specs.Frames.{Perhaps, Frame, node, option, flag}
 use Rattle.image.specs.Limits.{isName, isNote, isShort, optionally, definable, fair}
 use Rattle.image.proofs.Fields.{both-first, both-second}
 use Rattle.tree.specs.Rules.{Seen, follows, obeys, after, obeyAll}
+use Rattle.tree.specs.Subtrees.{upTo, onFrom, rooted, subtree}
 use Rattle.lookup.specs.Searches.{wanted}
-use Rattle.lookup.specs.Subtrees.{upTo, onFrom, rooted, subtree}
 use Rattle.lookup.specs.declared.look.Sought.the-variants.{Node, Upper}
 
 -- the texts of a frame within its limits

@@ -3,16 +3,17 @@ use Prim.Native.Nat.{ℕ, _+_, _<_, _≤_}
 use mathlib.Core.Path.{_≡_, refl, sym, ap, _∙_}
 use mathlib.Core.Bool.{Bool, true, false, cond}
 use mathlib.Core.List.{List, [], _∷_}
-use mathlib.Core.Option.{Option, none, some}
+use mathlib.Core.Option.{none, some}
 use native.Mathlib.Omega.{arith}
 use lib.ListN.{length, drop, length-drop}
 use lib.Seq.{drop-drop}
 use Rattle.frame.specs.Text.{Bytes}
+use Rattle.frame.proofs.Texts.{bytes-drop}
 use Rattle.image.specs.Frames.{Frame, node, option, flag, encode}
 use Rattle.image.specs.Reading.{Read, read, broken, ended, readFirst}
 use Rattle.image.proofs.Encoding.{read-within, read-size, read-ended}
 use Rattle.tree.specs.Images.{Item, whole, torn, items, framesIn, framesOf}
-use Rattle.tree.proofs.Items.{bytes-drop, items-read, items-broken, items-none}
+use Rattle.tree.proofs.Items.{items-read, items-broken, items-none}
 use Rattle.lookup.specs.Spots.{later, placeOf, firstOf, spot}
 use Rattle.lookup.specs.Searches.{wanted, endedBy}
 use Rattle.lookup.specs.Nodes.{orEnd, endAfter, endBy, subtreeEnd, partAt, findNode}

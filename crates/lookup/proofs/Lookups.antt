@@ -16,10 +16,11 @@ use Rattle.tree.specs.Forest.{Forest, bare, grown, flatten, definitionsOnly, mo
 use Rattle.tree.proofs.Wholes.{AllFit, obey-fit}
 use Rattle.tree.proofs.Growing.{forest-obeys}
 use Rattle.tree.proofs.Forests.{StandsFor}
+use Rattle.tree.specs.Subtrees.{upTo, onFrom, rooted, subtree}
 use Rattle.lookup.specs.Spots.{later, placeOf, spot}
 use Rattle.lookup.specs.Searches.{wanted, isNode}
 use Rattle.lookup.specs.Nodes.{findNode}
-use Rattle.lookup.specs.Subtrees.{upTo, onFrom, rooted, subtree, treeNamed, PartHolds}
+use Rattle.lookup.specs.Subtrees.{treeNamed, PartHolds}
 use Rattle.lookup.specs.declared.seek.Spot.{Spot}
 use Rattle.lookup.specs.declared.seek.Spot.the-variants.{At}
 use Rattle.lookup.specs.declared.look.Sought.the-variants.{Node, Upper}

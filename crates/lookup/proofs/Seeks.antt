@@ -8,11 +8,12 @@ use lib.ListN.{length, drop, length-drop}
 use lib.Seq.{drop-drop}
 use Rattle.buffer.proofs.Lists.{drop-end}
 use Rattle.frame.specs.Text.{Bytes}
+use Rattle.frame.proofs.Texts.{bytes-drop}
 use Rattle.image.specs.Frames.{Frame, encode}
 use Rattle.image.specs.Reading.{Read, read, broken, ended, readFirst}
 use Rattle.image.proofs.Encoding.{read-within, read-size, read-ended}
 use Rattle.tree.specs.Images.{framesIn, framesOf}
-use Rattle.tree.proofs.Items.{bytes-drop, items-broken, items-none, frames-read}
+use Rattle.tree.proofs.Items.{items-broken, items-none, frames-read}
 use Rattle.lookup.specs.Spots.{later, placeOf, spot}
 use Rattle.lookup.specs.Searches.{hitOr, lookBy}
 use Rattle.lookup.specs.declared.seek.Spot.{Spot}

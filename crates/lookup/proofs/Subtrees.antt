@@ -2,7 +2,7 @@
 use Prim.Native.Nat.{ℕ, _+_, _-_}
 use mathlib.Core.Path.{_≡_, refl, sym, ap, _∙_}
 use mathlib.Core.Bool.{Bool, true, false, cond}
-use mathlib.Core.List.{List, [], _∷_, _++_, append-assoc, append-nil}
+use mathlib.Core.List.{List, [], _∷_, _++_, append-nil}
 use native.Mathlib.Omega.{arith}
 use lib.ListN.{length, take, drop, length-append}
 use lib.Seq.{append-snoc, drop-append-seam, take-append-seam}
@@ -10,19 +10,15 @@ use Rattle.image.specs.Frames.{Frame, node, option, flag, encode}
 use Rattle.image.specs.Reading.{read, readFirst}
 use Rattle.image.proofs.Encoding.{frame-read}
 use Rattle.tree.specs.Images.{framesOf, flat}
-use Rattle.tree.proofs.Wholes.{AllFit, frames-flat}
+use Rattle.tree.proofs.Wholes.{AllFit, flat-append, frames-flat}
+use Rattle.tree.specs.Subtrees.{upTo, onFrom, rooted, subtree}
 use Rattle.lookup.specs.Spots.{later, placeOf, spot}
 use Rattle.lookup.specs.Searches.{wanted}
 use Rattle.lookup.specs.Nodes.{orEnd, endAfter, subtreeEnd, partAt, findNode}
-use Rattle.lookup.specs.Subtrees.{upTo, onFrom, rooted, subtree, PartHolds}
+use Rattle.lookup.specs.Subtrees.{PartHolds}
 use Rattle.lookup.specs.declared.seek.Spot.{Spot}
 use Rattle.lookup.specs.declared.seek.Spot.the-variants.{At, Nothing}
 use Rattle.lookup.specs.declared.look.Sought.the-variants.{Node, Upper}
-
-pub flat-append : (a b : List Frame) → flat (a ++ b) ≡ flat a ++ flat b
-unfolding flat
-flat-append [] b = refl
-flat-append (f ∷ a) b = rw (flat-append a b) (sym (append-assoc (encode f) (flat a) (flat b)))
 
 fit-append : (a b : List Frame) → AllFit (a ++ b) → AllFit b
 fit-append [] b k = k

@@ -2,11 +2,10 @@
 use Prim.Native.Nat.{ℕ}
 use mathlib.Core.Bool.{Bool, true, false, cond}
 use mathlib.Core.List.{List}
-use lib.Dec.{eqb, leb}
 use Rattle.buffer.specs.Compare.{sameBytes}
 use Rattle.image.specs.Frames.{Perhaps, absent, present, Frame, node, option, flag}
-use Rattle.image.specs.Limits.{both}
 use Rattle.image.specs.Reading.{Read, read, broken, ended}
+use Rattle.tree.specs.Subtrees.{isNamed, isUpper}
 use Rattle.lookup.specs.declared.look.Sought.{Sought}
 use Rattle.lookup.specs.declared.look.Sought.the-variants.{Node, Upper, Option, Flag, OptionKeyed}
 use Rattle.lookup.specs.declared.look.Look.{Look}
@@ -22,12 +21,8 @@ keyed key name long = cond (sameBytes name key) true (longIs key long)
 
 -- what each search wants
 abbrev pub wanted : Sought → List ℕ → Frame → Bool
-wanted (Node d) key (node e h name description usage) = both (eqb e d) (sameBytes name key)
-wanted (Node d) key (option r c name long description) = false
-wanted (Node d) key (flag c name long description) = false
-wanted (Upper d) key (node e h name description usage) = leb e d
-wanted (Upper d) key (option r c name long description) = false
-wanted (Upper d) key (flag c name long description) = false
+wanted (Node d) key f = isNamed d key f
+wanted (Upper d) key f = isUpper d f
 wanted Option key (node e h name description usage) = false
 wanted Option key (option r c name long description) = true
 wanted Option key (flag c name long description) = false

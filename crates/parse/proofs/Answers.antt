@@ -7,17 +7,18 @@ use mathlib.Core.Option.{Option, none, some}
 use lib.Dec.{ltb}
 use lib.ListN.{length}
 use Rattle.text.specs.Decoding.{wellFormedLength}
+use Rattle.table.specs.Map.{put}
+use Rattle.words.specs.Tokens.{wordsOf}
 use Rattle.image.specs.Frames.{Frame}
 use Rattle.tree.specs.Images.{framesOf}
 use Rattle.tree.specs.Rules.{checkTree}
 use Rattle.tree.specs.declared.check.Checked.{Checked}
 use Rattle.tree.specs.declared.check.Checked.the-variants.{Good}
-use Rattle.lookup.specs.Subtrees.{subtree}
-use Rattle.words.specs.Tokens.{wordsOf}
-use Rattle.table.specs.Map.{put}
+use Rattle.tree.specs.Subtrees.{subtree}
+use Rattle.tree.specs.Commands.{Reached, onSubtree, descend}
 use Rattle.scan.specs.Meanings.{definitionsOf}
 use Rattle.scan.specs.Arguments.{Found, noneFound, args, Stand, go, wait, unknownOption, missingValue}
-use Rattle.parse.specs.Commands.{Reached, onSubtree, descend, missingRequired, Outcome, parsed, fault, onMissing, outcomeOf, concluded, parseIn, parseWords, parseLine}
+use Rattle.parse.specs.Commands.{missingRequired, Outcome, parsed, fault, onMissing, outcomeOf, concluded, parseIn, parseWords, parseLine}
 use Rattle.parse.specs.Answer.{outcomeAnswer, outcomeLeaves, onChecked, parseAnswer, parseLeaves, Parsing}
 use Rattle.parse.specs.declared.answer.Parsed.{Parsed}
 use Rattle.parse.specs.declared.answer.Parsed.the-variants.{BadTree, LineTooLong, IllFormed}

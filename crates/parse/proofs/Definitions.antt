@@ -10,6 +10,8 @@ use denote.Enum.Declared.{tagOf}
 use lib.ListN.{length, take, drop, length-drop}
 use lib.Seq.{drop-drop}
 use Rattle.buffer.proofs.Choices.{then-is, else-is}
+use Rattle.table.specs.Map.{Map}
+use Rattle.table.specs.Held.{partOf}
 use Rattle.image.specs.Frames.{Frame, node}
 use Rattle.image.specs.Reading.{read, headFirst, readBy, readFirst, nodeIn, optionIn, flagIn}
 use Rattle.image.specs.declared.head.Lengths.{Lengths}
@@ -19,10 +21,8 @@ use Rattle.image.proofs.head.Head.{the-type}
 use Rattle.image.proofs.Encoding.{read-within, read-ended}
 use Rattle.tree.specs.Images.{items, framesIn, framesOf}
 use Rattle.tree.proofs.Items.{items-broken, items-none, frames-read, frames-end}
+use Rattle.tree.specs.Subtrees.{upTo}
 use Rattle.lookup.specs.Searches.{isNode}
-use Rattle.lookup.specs.Subtrees.{upTo}
-use Rattle.table.specs.Map.{Map}
-use Rattle.table.specs.Held.{partOf}
 use Rattle.scan.specs.Meanings.{definitionsOf, definitionsAt}
 use Rattle.parse.specs.Commands.{lacking, isMissing, missingRequired}
 

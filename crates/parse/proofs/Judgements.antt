@@ -12,39 +12,37 @@ use Rattle.buffer.specs.Compare.{order, sameBytes}
 use Rattle.frame.specs.Text.{Bytes}
 use Rattle.frame.specs.Framed.{frameFirst}
 use Rattle.frame.specs.declared.framed.Framed.the-variants.{Frame as Framed}
-use Rattle.frame.specs.Series.{textsFrom, textsIn}
-use Rattle.image.specs.Frames.{Perhaps, Frame, node, option, flag}
-use Rattle.image.specs.Limits.{both, fair}
-use Rattle.image.proofs.Fields.{both-first, both-second, both-true}
-use Rattle.tree.specs.Images.{framesOf}
-use Rattle.tree.specs.Rules.{Seen, start, isLess, follows, obeys, after, obeyAll, checkTree}
-use Rattle.tree.specs.Commands.{Holds}
-use Rattle.tree.specs.declared.command.Span.{Span}
-use Rattle.tree.specs.Forest.{Forest, bare, grown, flatten, optionsIn, flagsIn, definitionsOnly, modest, orderly}
-use Rattle.tree.specs.declared.check.Checked.the-variants.{Good}
-use Rattle.tree.proofs.Wholes.{frames-flat, WellFormed, good-well-formed}
-use Rattle.tree.proofs.Planting.{obeys-forest}
-use Rattle.lookup.specs.Searches.{isNode}
-use Rattle.lookup.specs.Subtrees.{upTo, subtree, treeNamed}
-use Rattle.lookup.proofs.Lookups.{subtree-named, child-named, named-orderly}
+use Rattle.frame.specs.Series.{textsIn}
+use Rattle.frame.proofs.Series.{words-more, texts-none}
 use Rattle.table.specs.Held.{partOf, mapOf}
 use Rattle.table.specs.Map.{put}
+use Rattle.image.specs.Frames.{Perhaps, Frame, node, option, flag}
+use Rattle.image.specs.Limits.{fair}
+use Rattle.image.proofs.Fields.{both-first, both-second}
+use Rattle.tree.specs.Images.{framesOf}
+use Rattle.tree.specs.Rules.{isLess, after, checkTree}
+use Rattle.tree.specs.Commands.{Reached, onSubtree, descend, reachedBy, partAt, Within, Descended}
+use Rattle.tree.specs.Forest.{Forest, bare, grown, flatten, optionsIn, flagsIn, definitionsOnly, modest, orderly}
+use Rattle.tree.specs.declared.check.Checked.the-variants.{Good}
+use Rattle.tree.proofs.Wholes.{WellFormed, good-well-formed}
+use Rattle.tree.proofs.Planting.{obeys-forest}
+use Rattle.tree.specs.Subtrees.{upTo, subtree}
+use Rattle.tree.specs.declared.command.Place.{Place}
+use Rattle.lookup.specs.Searches.{isNode}
+use Rattle.lookup.specs.Subtrees.{treeNamed}
+use Rattle.lookup.proofs.Lookups.{subtree-named, child-named, named-orderly}
 use Rattle.scan.specs.Meanings.{definitionsOf, definitionsAt}
 use Rattle.scan.specs.Arguments.{Found, noneFound, Stand, go, args}
-use Rattle.scan.specs.Held.{stored, foundOf, standBy, standOf, Whole, Scanned}
+use Rattle.scan.specs.Held.{stored, foundOf, standBy, standOf, Scanned}
 use Rattle.scan.specs.declared.standing.Progress.{Progress}
 use Rattle.scan.specs.declared.standing.Progress.the-variants.{Going}
 use Rattle.scan.specs.declared.standing.Scan.{Scan}
 use Rattle.scan.proofs.Steps.{stand-by}
 use Rattle.scan.proofs.Room.{options-few, flags-few, args-same}
-use Rattle.parse.specs.Commands.{Reached, onSubtree, descend, missingRequired, Outcome, parsed, fault, onMissing, outcomeOf, concluded, parseIn, parseWords, emptyCommand}
-use Rattle.parse.specs.Held.{partAt, outcomeBy, outcomeIn, numberOf, Named, Within, allFair, Sound, Descended, Judging}
-use Rattle.parse.specs.declared.command.Place.{Place}
+use Rattle.parse.specs.Commands.{missingRequired, Outcome, parsed, fault, onMissing, outcomeOf, concluded, parseIn, parseWords, emptyCommand}
+use Rattle.parse.specs.Held.{outcomeBy, outcomeIn, numberOf, Judging}
 use Rattle.parse.specs.declared.judging.Verdict.{Verdict}
 use Rattle.parse.specs.declared.judging.Judged.{Judged}
-use Rattle.scan.proofs.Walks.{word-within}
-use Rattle.parse.proofs.Descents.{all-fit, fair-subtree, sound-flat, path-more, path-whole, words-more}
-use Rattle.parse.proofs.Named.{held-none, held-some}
 
 -- THE VERDICT on a scan
 module _ (words part : List ℕ) (s : Scan) (defs : List Frame) (path : List (List ℕ)) (rest : List ℕ) where
@@ -189,18 +187,9 @@ concluded-same r m =
     ap (outcomeOf (r .path) (definitionsOf (r .frames))) (s .same)
 
 -- A WELL-FORMED IMAGE
-obey-fair : (fs : List Frame) (seen : Seen) → obeyAll seen fs ≡ true → allFair fs ≡ true
-unfolding obeyAll allFair obeys
-obey-fair [] seen e = refl
-obey-fair (f ∷ l) seen e =
-    both-true _ _ (both-first (fair f) _ (both-first (both (fair f) (follows seen f)) _ e)) (obey-fair l (after seen f) (both-second (both (fair f) (follows seen f)) _ e))
-
 module _ (image : List ℕ) (b : Bytes image) (good : checkTree image ≡ Good) where
   whole-image : WellFormed image (framesOf image)
   whole-image = good-well-formed image b good
-
-  pub good-sound : Sound image
-  good-sound = record { joined = whole-image .joined; fair = obey-fair (framesOf image) start (whole-image .obey) }
 
   pub good-short : length image ≤ 32768
   good-short = whole-image .short
@@ -212,72 +201,62 @@ module _ (image : List ℕ) (b : Bytes image) (good : checkTree image ≡ Good) 
       let o = named-orderly (f .forest) [] 0 w (f .rising) in
       rw q (command-modest (treeNamed w (f .forest)) (named-alone w (f .forest)) (o .0) (o .1) l path g rest (sym q ∙ e))
 
--- no text at all
-no-texts : textsIn [] ≡ []
-unfolding textsIn textsFrom
-no-texts = refl
-
-whole-nothing : Whole []
-unfolding Whole textsIn textsFrom
-whole-nothing more = refl
+-- a path keeps the words that it begins with
+path-begins : (l : List (List ℕ)) (d : ℕ) (fs : List Frame) (w : List ℕ) (p : List (List ℕ)) → (q : List (List ℕ)) × (descend d fs (w ∷ p) l .path ≡ w ∷ q)
+unfolding descend
+path-begins [] d fs w p = (p, refl)
+path-begins (x ∷ l) d fs w p = by (subtree d x fs) (λ c. path-begins l (suc d) c w (p ++ (x ∷ [])))
+  where
+    by : (c : List Frame) → ((c : List Frame) → (q : List (List ℕ)) × (descend (suc d) c (w ∷ (p ++ (x ∷ []))) l .path ≡ w ∷ q))
+        → (q : List (List ℕ)) × (onSubtree c (record { path = w ∷ p; words = x ∷ l; frames = fs }) (λ child. descend (suc d) child (w ∷ (p ++ (x ∷ []))) l) .path ≡ w ∷ q)
+    by [] more = (p, refl)
+    by (f ∷ m) more = more (f ∷ m)
 
 -- THE FIRST WORD
-module _ (words image : List ℕ) (kind n : ℕ) (b : Bytes words) (s : length words ≤ 4096) (e : frameFirst words ≡ Framed kind n) (bi : Bytes image) (good : checkTree image ≡ Good) where
+module _ (words image : List ℕ) (kind n : ℕ) (e : frameFirst words ≡ Framed kind n) (bi : Bytes image) (good : checkTree image ≡ Good) (place : Place) (to : Descended words image place (reachedBy image words)) where
   abbrev first : List ℕ
   first = partOf words 3 n
 
   abbrev later : List (List ℕ)
   later = textsIn (drop (3 + n) words)
 
-  texts-first : textsIn words ≡ first ∷ later
-  texts-first = words-more words 0 kind n b s e
-
-  path-first : textsIn (take (3 + n) words) ≡ first ∷ []
-  path-first = path-more words 0 kind n b s e whole-nothing ∙ ap (λ (l : List (List ℕ)). l ++ (first ∷ [])) no-texts
-
-  pub whole-first : Whole (take (3 + n) words)
-  whole-first = path-whole words 0 kind n b s e whole-nothing
-
   abbrev command : List Frame
   command = subtree 0 first (framesOf image)
 
-  held : (part : Span) → Named words image part → Holds image command part
-  unfolding Named
-  held part m = m first later texts-first
+  texts-first : textsIn words ≡ first ∷ later
+  texts-first = words-more words 0 kind n e
 
-  pub first-unknown : (part : Span) → Named words image part → part .start ≡ part .end → fault 4 first ≡ parseWords (framesOf image) (textsIn words)
+  -- the descent from the top of the tree, by the subtree of the first word
+  abbrev reached : List Frame → Reached
+  reached c = onSubtree c (record { path = []; words = first ∷ later; frames = framesOf image }) (λ child. descend 1 child (first ∷ []) later)
+
+  from-top : (c : List Frame) → command ≡ c → reachedBy image words ≡ reached c
+  unfolding reachedBy descend
+  from-top c q = ap (descend 0 (framesOf image) []) texts-first ∙ ap reached q
+
+  -- it names none: no word is passed
+  pub first-unknown : place .at ≡ 0 → fault 4 first ≡ parseWords (framesOf image) (textsIn words)
   unfolding parseWords parseIn
-  first-unknown part m o =
-      sym (ap (parseWords (framesOf image)) texts-first ∙ ap (λ (fs : List Frame). parseIn fs first later) (held-none image command part (held part m) o))
+  first-unknown z = sym (ap (parseWords (framesOf image)) texts-first ∙ ap (λ (fs : List Frame). parseIn fs first later) (by command refl))
+    where
+      no-path : reachedBy image words .path ≡ []
+      no-path = sym (to .path) ∙ ap (λ (m : ℕ). textsIn (take m words)) z ∙ texts-none
 
-  -- it names a command
-  module _ (part : Span) (named : Named words image part) (apart : part .start ≡ part .end → ⊥) where
-    abbrev place : Place
-    place = record { start = part .start; end = part .end; at = 3 + n }
+      by : (c : List Frame) → command ≡ c → command ≡ []
+      by [] q = q
+      by (g ∷ m) q =
+          let p = path-begins later 1 (g ∷ m) first [] in
+          let x : first ∷ p .0 ≡ [] = sym (p .1) ∙ sym (ap (λ (r : Reached). r .path) (from-top (g ∷ m) q)) ∙ no-path in
+          absurd (let y : _≡_ {A = ℕ} 0 1 = cc in omega arith)
 
-    holds : Holds image command part
-    holds = held part named
-
-    there : (g : Frame) × ((l : List Frame) × (command ≡ g ∷ l))
-    there = held-some image command part holds apart
-
-    command-fair : allFair command ≡ true
-    command-fair = fair-subtree 0 first (framesOf image) (good-sound image bi good .fair)
-
-    pub first-within : Within words image place
-    first-within = record { order = holds .order; inside = holds .inside; passed = word-within words 0 kind n e }
-
-    pub first-sound : Sound (partAt image place)
-    first-sound = rw (holds .bytes) (sound-flat command command-fair)
-
-    abbrev reached : Reached
-    reached = descend 1 (framesOf (partAt image place)) (textsIn (take (3 + n) words)) later
-
-    frames-first : framesOf (partAt image place) ≡ command
-    frames-first = ap framesOf (holds .bytes) ∙ frames-flat command (all-fit command command-fair)
-
-    reached-is : reached ≡ descend 1 command (first ∷ []) later
-    reached-is = ap (λ (fs : List Frame). descend 1 fs (textsIn (take (3 + n) words)) later) frames-first ∙ ap (λ (p : List (List ℕ)). descend 1 command p later) path-first
+  -- it names a command, and the words lead into it
+  module _ (apart : place .at ≡ 0 → ⊥) where
+    there : (g : Frame) × ((m : List Frame) × (command ≡ g ∷ m))
+    there = by command refl
+      where
+        by : (c : List Frame) → command ≡ c → (g : Frame) × ((m : List Frame) × (command ≡ g ∷ m))
+        by [] q = absurd (apart (to .none (ap (λ (r : Reached). r .path) (from-top [] q))))
+        by (g ∷ m) q = (g, (m, q))
 
     says : (g : Frame) (m : List Frame) → command ≡ g ∷ m → concluded put (descend 1 command (first ∷ []) later) ≡ parseIn command first later
     unfolding parseIn
@@ -285,26 +264,14 @@ module _ (words image : List ℕ) (kind n : ℕ) (b : Bytes words) (s : length w
         ap (λ (fs : List Frame). concluded put (descend 1 fs (first ∷ []) later)) q
         ∙ sym (ap (λ (fs : List Frame). onSubtree fs (fault 4 first) (λ found. concluded put (descend 1 found (first ∷ []) later))) q)
 
-    pub first-judged : concluded stored reached ≡ parseWords (framesOf image) (textsIn words)
+    pub first-judged : concluded stored (reachedBy image words) ≡ parseWords (framesOf image) (textsIn words)
     unfolding parseWords
     first-judged =
         let m = subtree-modest image bi good first later (first ∷ []) (there .0) (there .1 .0) (there .1 .1) in
-        ap (concluded stored) reached-is
+        ap (concluded stored) (from-top (there .0 ∷ there .1 .0) (there .1 .1) ∙ sym (ap (λ (fs : List Frame). descend 1 fs (first ∷ []) later) (there .1 .1)))
         ∙ sym (concluded-same (descend 1 command (first ∷ []) later) m)
         ∙ says (there .0) (there .1 .0) (there .1 .1)
         ∙ sym (ap (parseWords (framesOf image)) texts-first)
-
-    -- and the descent from the top of the tree leads to the same command
-    from-top : (g : Frame) (m : List Frame) → command ≡ g ∷ m → descend 1 command (first ∷ []) later ≡ descend 0 (framesOf image) [] (first ∷ later)
-    unfolding descend
-    from-top g m q =
-        let onto : List Frame → Reached = λ c. descend 1 c (first ∷ []) later in
-        ap onto q ∙ sym (ap (λ (fs : List Frame). onSubtree fs (record { path = []; words = first ∷ later; frames = framesOf image }) onto) q)
-
-    pub first-frames : reached .frames ≡ descend 0 (framesOf image) [] (textsIn words) .frames
-    first-frames =
-        ap (λ (r : Reached). r .frames) (reached-is ∙ from-top (there .0) (there .1 .0) (there .1 .1))
-        ∙ sym (ap (λ (l : List (List ℕ)). descend 0 (framesOf image) [] l .frames) texts-first)
 
 -- a judgement told in other words
 pub judged-as : (words image rest left : List ℕ) (j : Judged) (a b : Outcome) (f g : List Frame) → a ≡ b → f ≡ g → Judging words image rest left j a f → Judging words image rest left j b g

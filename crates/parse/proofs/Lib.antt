@@ -1,7 +1,5 @@
 -- The laws of the crate `parse` that belong to no one function.
 pub mod Definitions
-pub mod Descents
-pub mod Named
 pub mod Judgements
 pub mod Tellings
 pub mod Lines

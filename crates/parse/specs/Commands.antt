@@ -1,34 +1,17 @@
 -- What a line says (01, "Arguments"; `CommandParser::parse` of 000): the command that its words name, its arguments, or the fault.
-use Prim.Native.Nat.{ℕ, suc}
+use Prim.Native.Nat.{ℕ}
 use mathlib.Core.Bool.{Bool, false, cond, not}
-use mathlib.Core.List.{List, [], _∷_, _++_}
+use mathlib.Core.List.{List, [], _∷_}
 use mathlib.Core.Option.{Option, none, some}
 use lib.Dec.{eqb}
+use Rattle.table.specs.Map.{Map, put, has}
+use Rattle.words.specs.Tokens.{wordsOf}
 use Rattle.image.specs.Frames.{Frame, node, option, flag}
 use Rattle.tree.specs.Images.{framesOf}
-use Rattle.lookup.specs.Subtrees.{subtree}
-use Rattle.words.specs.Tokens.{wordsOf}
-use Rattle.table.specs.Map.{Map, put, has}
+use Rattle.tree.specs.Subtrees.{subtree}
+use Rattle.tree.specs.Commands.{Reached, onSubtree, descend}
 use Rattle.scan.specs.Meanings.{definitionsOf, nameOf}
 use Rattle.scan.specs.Arguments.{Found, noneFound, Insert, Stand, go, wait, unknownOption, missingValue, args}
-
--- the command that words lead to: its path, the words left over, and its subtree
-pub record Reached : Type 0 where
-  pub path : List (List ℕ)
-  pub words : List (List ℕ)
-  pub frames : List Frame
-
-abbrev pub onSubtree : {A : Type 0} → List Frame → A → (List Frame → A) → A
-onSubtree [] absent found = absent
-onSubtree (f ∷ l) absent found = found (f ∷ l)
-
--- words are followed while they name a child, which is a node of that depth in the subtree
-unfoldable pub descend : ℕ → List Frame → List (List ℕ) → List (List ℕ) → Reached
-descend depth frames path [] = record { path = path; words = []; frames = frames }
-descend depth frames path (w ∷ words) =
-    onSubtree (subtree depth w frames)
-    (record { path = path; words = w ∷ words; frames = frames })
-    (λ child. descend (suc depth) child (path ++ (w ∷ [])) words)
 
 -- an option that is required and whose name is no key
 abbrev pub lacking : ℕ → List ℕ → Map → Bool

@@ -1,24 +1,19 @@
 -- How the code holds what a line says: a verdict, the command's place in the image and in the words, and the scan.
-use Prim.Native.Nat.{ℕ, _-_, _≤_}
+use Prim.Native.Nat.{ℕ, _≤_}
 use mathlib.Core.Path.{_≡_}
-use mathlib.Core.Bool.{Bool, true}
-use mathlib.Core.List.{List, [], _∷_}
+use mathlib.Core.List.{List, []}
 use mathlib.Core.Option.{Option, none, some}
-use lib.ListN.{length, take, drop}
+use lib.ListN.{length, take}
 use Rattle.frame.specs.Series.{textsIn}
-use Rattle.image.specs.Frames.{Frame}
-use Rattle.image.specs.Limits.{both, fair}
-use Rattle.tree.specs.Images.{framesOf, flat}
-use Rattle.tree.specs.Commands.{Holds}
-use Rattle.tree.specs.declared.command.Span.{Span}
-use Rattle.lookup.specs.Subtrees.{subtree}
 use Rattle.table.specs.Held.{partOf}
+use Rattle.image.specs.Frames.{Frame}
+use Rattle.tree.specs.Images.{framesOf}
+use Rattle.tree.specs.Commands.{partAt, Within}
 use Rattle.scan.specs.Arguments.{Found}
 use Rattle.scan.specs.Held.{toldOf, foundOf}
-use Rattle.parse.specs.Commands.{Reached, Outcome, parsed, fault, emptyCommand}
+use Rattle.parse.specs.Commands.{Outcome, parsed, fault, emptyCommand}
 use Rattle.parse.specs.declared.required.Required.{Required}
 use Rattle.parse.specs.declared.required.Required.the-variants.{Fine as AllThere, Missing}
-use Rattle.parse.specs.declared.command.Place.{Place}
 use Rattle.parse.specs.declared.judging.Verdict.{Verdict}
 use Rattle.parse.specs.declared.judging.Verdict.the-variants.{Fine, NoWords, UnknownCommand, UnknownOption, MissingValue, MissingRequired}
 use Rattle.parse.specs.declared.judging.Judged.{Judged}
@@ -27,10 +22,6 @@ use Rattle.parse.specs.declared.judging.Judged.{Judged}
 abbrev pub requiredBy : List ℕ → Required → Option (List ℕ)
 requiredBy part AllThere = none
 requiredBy part (Missing name) = some (partOf part (name .start) (name .length))
-
--- the command's part of the image
-abbrev pub partAt : List ℕ → Place → List ℕ
-partAt image place = take (place .end - place .start) (drop (place .start) image)
 
 -- what a verdict says
 abbrev pub outcomeBy : List ℕ → List ℕ → List (List ℕ) → Found → Verdict → Outcome
@@ -44,32 +35,6 @@ outcomeBy words part path found (MissingRequired name) = fault 7 (partOf part (n
 unfoldable pub outcomeIn : List ℕ → List ℕ → List ℕ → Judged → Outcome
 outcomeIn words image rest j =
     outcomeBy words (partAt image (j .place)) (textsIn (take (j .place .at) words)) (foundOf words (partAt image (j .place)) rest (j .scan)) (j .verdict)
-
--- a part of the image that is the command which the first word names
-unfoldable pub Named : List ℕ → List ℕ → Span → Type 0
-Named words image s = (w : List ℕ) (l : List (List ℕ)) → textsIn words ≡ w ∷ l → Holds image (subtree 0 w (framesOf image)) s
-
--- a place within the image and the words
-pub record Within (words image : List ℕ) (place : Place) : Type 0 where
-  pub order : place .start ≤ place .end
-  pub inside : place .end ≤ length image
-  pub passed : place .at ≤ length words
-
--- bytes that are frames, one behind the other, each within its limits
-unfoldable pub allFair : List Frame → Bool
-allFair [] = true
-allFair (f ∷ l) = both (fair f) (allFair l)
-
-pub record Sound (s : List ℕ) : Type 0 where
-  pub joined : s ≡ flat (framesOf s)
-  pub fair : allFair (framesOf s) ≡ true
-
--- a place that words have led to
-pub record Descended (words image : List ℕ) (place : Place) (r : Reached) : Type 0 where
-  pub path : textsIn (take (place .at) words) ≡ r .path
-  pub left : textsIn (drop (place .at) words) ≡ r .words
-  pub frames : framesOf (partAt image place) ≡ r .frames
-  pub within : Within words image place
 
 -- the number and the text of a verdict's fault, the text in its dashes and the part behind them
 abbrev pub numberOf : Verdict → ℕ

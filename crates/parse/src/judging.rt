@@ -1,6 +1,4 @@
 // What a line says, before anything is written: a verdict on its words, with all that a report needs.
-use super::command::Place;
-use super::command::find_command;
 use super::required::Required;
 use super::required::validate_required_options;
 use frame::Framed;
@@ -12,19 +10,20 @@ use scan::Scan;
 use scan::Told;
 use scan::parse_args;
 use table::Part;
-use tree::Span;
+use tree::Place;
 ghost use mathlib.Core.Path.{_≡_};
-ghost use mathlib.Core.List.{List, []};
+ghost use mathlib.Core.List.{List};
 ghost use Prim.Native.Nat.{ℕ, _≤_};
 ghost use lib.ListN.{length};
 ghost use Rattle.frame.specs.Series.{textsIn};
 ghost use Rattle.tree.specs.Images.{framesOf};
 ghost use Rattle.tree.specs.Rules.{checkTree};
 ghost use Rattle.tree.specs.declared.check.Checked.the-variants.{Good};
+ghost use Rattle.tree.specs.Commands.{Reached, reachedBy, Within, Descended};
 ghost use Rattle.scan.specs.Meanings.{definitionsOf, definitionsAt};
 ghost use Rattle.scan.specs.Held.{stored, foundOf, standOf};
-ghost use Rattle.parse.specs.Commands.{Reached, descend, outcomeOf, concluded, parseWords};
-ghost use Rattle.parse.specs.Held.{outcomeBy, Within, Descended, Named, Judging};
+ghost use Rattle.parse.specs.Commands.{outcomeOf, concluded, parseWords};
+ghost use Rattle.parse.specs.Held.{outcomeBy, Judging};
 
 // Texts are told by where they stand: a word in the words, a name in the command's part of the image.
 pub enum Verdict {
@@ -112,23 +111,16 @@ fn judge_arguments<'a>(words: &'a [u8], image: &'a [u8], place: Place, rest: &mu
     }
 }
 
-// What the words of a line say under a well-formed tree, in which their command lies in a part; positional words are kept in `rest`.
-pub fn judge<'a>(words: &'a [u8], image: &'a [u8], command: Span, rest: &mut [u8]) -> Judged
-    requires { ⌜ (length (now words) ≤ 4096) × (length (now words) ≤ length (now rest)) × (checkTree (now image) ≡ Good) × Named (now words) (now image) command ⌝ }
-    ensures { λ r. ⌜ Judging (now (words .entry)) (now (image .entry)) (now (rest .entry)) (now (rest .exit)) r (parseWords (framesOf (now (image .entry))) (textsIn (now (words .entry)))) (descend 0 (framesOf (now (image .entry))) [] (textsIn (now (words .entry))) .frames) ⌝ }
+// What the words of a line say under a well-formed tree, in which they lead to a place; positional words are kept in `rest`.
+pub fn judge<'a>(words: &'a [u8], image: &'a [u8], place: Place, rest: &mut [u8]) -> Judged
+    requires { ⌜ (length (now words) ≤ 4096) × (length (now words) ≤ length (now rest)) × (checkTree (now image) ≡ Good) × Descended (now words) (now image) place (reachedBy (now image) (now words)) ⌝ }
+    ensures { λ r. ⌜ Judging (now (words .entry)) (now (image .entry)) (now (rest .entry)) (now (rest .exit)) r (parseWords (framesOf (now (image .entry))) (textsIn (now (words .entry)))) (reachedBy (now (image .entry)) (now (words .entry)) .frames) ⌝ }
 {
     let Framed::Frame { kind: _, length } = read_frame(words, 0) else {
         return without_command(Verdict::NoWords);
     };
-    let start = command.start;
-    let end = command.end;
-    if start == end {
+    if place.at == 0 {
         return without_command(Verdict::UnknownCommand(Part { start: 3, length }));
     }
-    let first = Place {
-        start,
-        end,
-        at: 3 + length,
-    };
-    judge_arguments(words, image, find_command(words, image, first), rest)
+    judge_arguments(words, image, place, rest)
 }

@@ -1,14 +1,11 @@
 // `parse`: a line under a tree to the report of its command, or a numbered refusal.
 mod answer;
-mod command;
 mod fault;
 mod judging;
 mod parser;
 mod required;
 
 pub use answer::Parsed;
-pub use command::Place;
-pub use command::command_of;
 pub use fault::dashes_of;
 pub use fault::number_of;
 pub use fault::text_of;

@@ -1,7 +1,6 @@
 // `parse`: the line is split into words, the image tested, the words are judged, and the report or the fault is written.
 use super::answer::Parsed;
 use super::answer::answer;
-use super::command::first_word;
 use super::fault::EMPTY;
 use super::fault::dashes_of;
 use super::fault::number_of;
@@ -11,9 +10,9 @@ use super::judging::judge;
 use report::write_fault;
 use report::write_report;
 use tree::Checked;
-use tree::Span;
+use tree::Place;
 use tree::check_tree;
-use tree::survey;
+use tree::find_command;
 use words::Tokens;
 use words::tokenize;
 ghost use mathlib.Core.Path.{_≡_};
@@ -23,9 +22,10 @@ ghost use Rattle.frame.specs.Series.{textsIn};
 ghost use Rattle.tree.specs.Images.{framesOf};
 ghost use Rattle.tree.specs.Rules.{checkTree};
 ghost use Rattle.tree.specs.declared.check.Checked.the-variants.{Good};
+ghost use Rattle.tree.specs.Commands.{reachedBy, Within, Descended};
 ghost use Rattle.parse.specs.Commands.{parseWords};
 ghost use Rattle.parse.specs.Answer.{Telling, onChecked, Worded, Parsing};
-ghost use Rattle.parse.specs.Held.{outcomeIn, Named, Within};
+ghost use Rattle.parse.specs.Held.{outcomeIn};
 ghost use Rattle.parse.specs.declared.answer.Parsed.the-variants.{BadTree};
 
 // Writes what was judged: a report, or the frame of a fault.
@@ -68,28 +68,28 @@ fn tell<'a>(words: &'a [u8], image: &'a [u8], judged: Judged, rest: &[u8], out: 
     )
 }
 
-// The words of a line under a well-formed tree, in which their command lies in a part.
-fn parse_command<'a>(words: &'a [u8], image: &'a [u8], command: Span, out: &mut [u8]) -> Parsed
-    requires { ⌜ (length (now words) ≤ 4096) × (checkTree (now image) ≡ Good) × Named (now words) (now image) command ⌝ }
+// The words of a line under a well-formed tree, in which they lead to a place.
+fn parse_command<'a>(words: &'a [u8], image: &'a [u8], place: Place, out: &mut [u8]) -> Parsed
+    requires { ⌜ (length (now words) ≤ 4096) × (checkTree (now image) ≡ Good) × Descended (now words) (now image) place (reachedBy (now image) (now words)) ⌝ }
     ensures { λ r. ⌜ Telling (parseWords (framesOf (now (image .entry))) (textsIn (now (words .entry)))) (now (out .entry)) r (now (out .exit)) ⌝ }
 {
     let mut rest = [0u8; 4096];
-    let judged = judge(words, image, command, &mut rest);
+    let judged = judge(words, image, place, &mut rest);
     tell(words, image, judged, &rest, out)
 }
 
-// The words of a line. The image is tested, and passing its frames tells where the command is.
+// The words of a line. The image is tested, and on the way the words are followed to their command.
 fn parse_words<'a>(words: &'a [u8], image: &'a [u8], out: &mut [u8]) -> Parsed
     requires { ⌜ length (now words) ≤ 4096 ⌝ }
     ensures { λ r. ⌜ Worded (now (image .entry)) (now (words .entry)) (now (out .entry)) r (now (out .exit)) ⌝ }
 {
-    let surveyed = survey(image, first_word(words));
-    let checked = surveyed.checked;
+    let found = find_command(words, image);
+    let checked = found.checked;
     match checked {
         Checked::BadFrame(n) => Parsed::BadTree(n),
         Checked::Good => {
-            let command = surveyed.command;
-            parse_command(words, image, command, out)
+            let place = found.place;
+            parse_command(words, image, place, out)
         }
     }
 }

@@ -22,7 +22,7 @@ use Rattle.tree.specs.declared.check.Checked.{Checked}
 use Rattle.tree.specs.declared.check.Checked.the-variants.{Good, BadFrame}
 use Rattle.tree.proofs.Firsts.{FirstBad, first-bad}
 use Rattle.tree.proofs.Forests.{StandsFor, good-forest, forest-good}
-use Rattle.lookup.specs.Subtrees.{subtree}
+use Rattle.tree.specs.Subtrees.{subtree}
 use Rattle.parse.specs.Commands.{Outcome, parsed, fault, parseLine}
 use Rattle.parse.specs.Answer.{toldIn, namedAs, outcomeAnswer, outcomeLeaves, onChecked, parseAnswer, parseLeaves, Parsing, number as parsedNumber, value as parsedValue}
 use Rattle.parse.specs.declared.answer.Parsed.{Parsed}

@@ -21,12 +21,13 @@ use Rattle.tree.specs.Images.{itemsFrom, items, framesIn, framesOf as framesOfI
 use Rattle.tree.specs.Rules.{rises, follows, obeys, after, judge, checkTree}
 use Rattle.tree.specs.declared.check.Checked.the-variants.{Good}
 use Rattle.lookup.specs.Searches.{keyed}
-use Rattle.lookup.specs.Subtrees.{upTo, onFrom, subtree}
+use Rattle.tree.specs.Subtrees.{upTo, onFrom, subtree}
 use Rattle.table.specs.Map.{put, has}
 use Rattle.scan.specs.Meanings.{definitionsOf, firstName, meaning, isOption}
 use Rattle.scan.specs.Forms.{beforeEquals, longForm, formOf}
 use Rattle.scan.specs.Arguments.{withOption, withFlag, withPositional, shortSteps, args}
-use Rattle.parse.specs.Commands.{descend, isMissing, missingRequired, Outcome, parsed, fault, concluded, parseIn, parseWords, parseLine}
+use Rattle.parse.specs.Commands.{isMissing, missingRequired, Outcome, parsed, fault, concluded, parseIn, parseWords, parseLine}
+use Rattle.tree.specs.Commands.{descend}
 use Rattle.parse.specs.Answer.{Parsing, number as parsedNumber, value as parsedValue}
 use Rattle.parse.specs.declared.answer.Parsed.{Parsed}
 use Rattle.ink.specs.Ascii.{ascii}

@@ -14,7 +14,7 @@ use Rattle.image.specs.Frames.{Frame}
 use Rattle.tree.specs.Images.{framesOf}
 use Rattle.tree.specs.Rules.{checkTree}
 use Rattle.tree.specs.declared.check.Checked.the-variants.{Good}
-use Rattle.lookup.specs.Subtrees.{subtree}
+use Rattle.tree.specs.Subtrees.{subtree}
 use Rattle.words.specs.Tokens.{wordsOf}
 use Rattle.parse.specs.Commands.{parseIn, parseWords, parseLine}
 use Rattle.parse.specs.Answer.{Parsing}

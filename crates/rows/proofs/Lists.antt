@@ -10,19 +10,20 @@ use lib.ListN.{length, drop, length-append, length-drop}
 use lib.Seq.{drop-drop}
 use Rattle.buffer.proofs.Lists.{drop-end}
 use Rattle.frame.specs.Text.{Bytes}
+use Rattle.frame.proofs.Texts.{bytes-drop}
 use Rattle.image.specs.Frames.{Perhaps, absent, present, Frame, node, option, flag, text, perhaps, encode}
 use Rattle.image.specs.Reading.{Read, read, broken, ended, readFirst}
 use Rattle.image.proofs.Encoding.{length-text, read-within, read-size}
 use Rattle.tree.specs.Images.{framesOf}
-use Rattle.tree.proofs.Items.{bytes-drop, frames-read}
+use Rattle.tree.proofs.Items.{frames-read}
 use Rattle.lookup.proofs.Seeks.{frames-broken, frames-ended, frames-none}
 use Rattle.ink.specs.Ascii.{ascii}
 use Rattle.ink.specs.Inks.{Inked, InkedFrom, Countable}
+use Rattle.ink.proofs.Inking.{inked-nothing, inked-both, inked-as, cond-most}
 use Rattle.rows.specs.Rows.{blanks, padded, shortThen, shownAs, requiredMark, entry, optionRow, flagRow, nodeRow, rowOf, endsList, rows, titled}
 use Rattle.rows.specs.Steps.{rowBy, sizeBy}
 use Rattle.rows.specs.declared.row.Listing.{Listing}
 use Rattle.rows.specs.declared.row.Listing.the-variants.{Options, Flags, Subcommands, Commands}
-use Rattle.ink.proofs.Inking.{inked-nothing, inked-both, inked-as, cond-most}
 use Rattle.rows.proofs.Rowing.{blanks-length}
 
 -- how long each part of a row is at most

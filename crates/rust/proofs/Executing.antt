@@ -7,18 +7,19 @@ use mathlib.Core.Option.{Option, none, some}
 use lib.Dec.{eqb}
 use Rattle.frame.specs.Framed.{frameOf}
 use Rattle.frame.specs.Series.{runs}
-use Rattle.image.specs.Frames.{Frame}
-use Rattle.tree.specs.Forest.{Forest, flatten, orderly}
-use Rattle.lookup.specs.Subtrees.{subtree}
-use Rattle.ink.specs.Ascii.{ascii}
 use Rattle.table.specs.Map.{Map, put}
 use Rattle.report.specs.Report.{optionFrame, flagFrame, reportOf}
-use Rattle.scan.specs.Meanings.{definitionsOf}
-use Rattle.scan.specs.Arguments.{Found, noneFound, Stand, go, wait, unknownOption, missingValue, args}
-use Rattle.parse.specs.Commands.{Reached, Outcome, parsed, fault, descend, missingRequired, onMissing, outcomeOf, concluded, parseIn}
-use Rattle.parse.specs.Answer.{toldIn}
+use Rattle.image.specs.Frames.{Frame}
+use Rattle.tree.specs.Forest.{Forest, flatten, orderly}
+use Rattle.tree.specs.Subtrees.{subtree}
+use Rattle.tree.specs.Commands.{Reached, descend}
+use Rattle.ink.specs.Ascii.{ascii}
 use Rattle.message.specs.Messages.{message}
 use Rattle.message.specs.declared.told.Told.the-variants.{UnknownCommand as TellUnknown, UnknownOption as TellOption, MissingValue as TellValue, MissingRequired as TellRequired, NoHandler as TellHandler}
+use Rattle.scan.specs.Meanings.{definitionsOf}
+use Rattle.scan.specs.Arguments.{Found, noneFound, Stand, go, wait, unknownOption, missingValue, args}
+use Rattle.parse.specs.Commands.{Outcome, parsed, fault, missingRequired, onMissing, outcomeOf, concluded, parseIn}
+use Rattle.parse.specs.Answer.{toldIn}
 use Rattle.shell.specs.Lines.{text, handed as handsOver, joined, faultMessage, handlerOf as handlerIn, carried, executeIn, execute}
 use Rattle.rust.specs.Tree.{CommandNode, Commands, handlerOf, subcommandsOf, someOf, get, commandsOf}
 use Rattle.rust.specs.Parser.{ParsedCommand, UnknownCommand, UnknownOption, MissingValue, MissingRequiredOption, NoHandler, ifSome, Command, deepest, findCommand, parseCommand, parseTokens}

@@ -9,7 +9,7 @@ use Rattle.image.specs.Frames.{Perhaps, absent, present, Frame}
 use Rattle.tree.specs.Images.{framesOf}
 use Rattle.tree.specs.Forest.{Forest, flatten, orderly}
 use Rattle.tree.proofs.Forests.{StandsFor}
-use Rattle.lookup.specs.Subtrees.{subtree}
+use Rattle.tree.specs.Subtrees.{subtree}
 use Rattle.ink.specs.Ascii.{ascii}
 use Rattle.rows.specs.Rows.{rows, titled}
 use Rattle.rows.specs.declared.row.Listing.the-variants.{Options, Flags, Subcommands}

@@ -5,18 +5,19 @@ use mathlib.Core.Bool.{Bool, true, false, cond, not}
 use mathlib.Core.List.{List, [], _∷_, _++_}
 use mathlib.Core.Option.{Option, none, some}
 use lib.Dec.{eqb}
+use Rattle.table.specs.Map.{Map, put, has}
+use Rattle.words.specs.Tokens.{wordsOf}
 use Rattle.image.specs.Frames.{Frame, node, option, flag}
 use Rattle.tree.specs.Images.{framesOf}
 use Rattle.tree.specs.Forest.{Forest, flatten, orderly}
 use Rattle.tree.proofs.Wholes.{well-formed-frames}
 use Rattle.tree.proofs.Growing.{forest-obeys}
 use Rattle.tree.proofs.Forests.{StandsFor}
-use Rattle.lookup.specs.Subtrees.{subtree}
-use Rattle.words.specs.Tokens.{wordsOf}
+use Rattle.tree.specs.Subtrees.{subtree}
+use Rattle.tree.specs.Commands.{Reached, descend, onSubtree}
 use Rattle.ink.specs.Ascii.{ascii}
-use Rattle.table.specs.Map.{Map, put, has}
 use Rattle.scan.specs.Arguments.{noneFound, Stand, go, wait, unknownOption, missingValue, args}
-use Rattle.parse.specs.Commands.{Reached, Outcome, parsed, fault, descend, onSubtree, isMissing, missingRequired, onMissing, outcomeOf, concluded, parseIn, parseWords, parseLine}
+use Rattle.parse.specs.Commands.{Outcome, parsed, fault, isMissing, missingRequired, onMissing, outcomeOf, concluded, parseIn, parseWords, parseLine}
 use Rattle.rust.specs.Tree.{optionDefs, get, commandsOf}
 use Rattle.rust.specs.Parser.{ParsedCommand, MissingRequiredOption, ok, err, andThen, Command, deepest, findCommand, parseArgs, validateRequired, parseCommand, parseTokens, parse}
 use Rattle.rust.specs.Same.{flagsFor, errorFor, resultFor}

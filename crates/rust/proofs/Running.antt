@@ -12,19 +12,19 @@ use Rattle.buffer.specs.Compare.{sameBytes}
 use Rattle.text.specs.Decoding.{piecesFrom, piecesOf, bytesAll, codesIn, wellFormedLength}
 use Rattle.text.specs.Apart.{behindRun, trimEnd, trimmed, blank, wordsBetween}
 use Rattle.text.proofs.Prefix.{prefix-fits}
-use Rattle.history.proofs.Original.{blank-is-empty}
+use Rattle.words.specs.Tokens.{wordsOf}
 use Rattle.image.specs.Frames.{Frame}
 use Rattle.tree.specs.Images.{framesOf}
 use Rattle.tree.specs.Forest.{Forest, flatten}
 use Rattle.tree.proofs.Forests.{StandsFor}
-use Rattle.lookup.specs.Subtrees.{subtree}
-use Rattle.words.specs.Tokens.{wordsOf}
+use Rattle.tree.specs.Subtrees.{subtree}
 use Rattle.ink.specs.Ascii.{ascii}
 use Rattle.message.specs.Debug.{debugBytes, unknownHelp}
 use Rattle.message.specs.Messages.{illFormed, goodbye, clearScreen}
 use Rattle.layout.specs.Texts.{availableText}
 use Rattle.help.specs.Paths.{Led, found, lost, onSubtree, followed}
 use Rattle.help.specs.Answer.{replyBy, helpIn, helpOf}
+use Rattle.history.proofs.Original.{blank-is-empty}
 use Rattle.shell.specs.Lines.{silence, text, farewell, builtinOf, onBuiltin, beginsHelp, helpWords, helpSaid, execute, otherSaid, lineSaid, saidOf}
 use Rattle.shell.specs.declared.builtin.Builtin.{Builtin}
 use Rattle.shell.specs.declared.builtin.Builtin.the-variants.{Help, Exit, Clear, None}

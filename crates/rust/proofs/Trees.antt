@@ -14,8 +14,9 @@ use Rattle.image.specs.Limits.{isName, fair}
 use Rattle.image.proofs.Fields.{both-first, both-second}
 use Rattle.tree.specs.Rules.{isLess}
 use Rattle.tree.specs.Forest.{Forest, bare, grown, flatten, definitionsOnly, modest, orderly}
+use Rattle.tree.specs.Subtrees.{upTo, subtree}
 use Rattle.lookup.specs.Searches.{isNode}
-use Rattle.lookup.specs.Subtrees.{upTo, subtree, treeNamed}
+use Rattle.lookup.specs.Subtrees.{treeNamed}
 use Rattle.lookup.proofs.Lookups.{subtree-named, child-named, named-orderly}
 use Rattle.scan.specs.Meanings.{definitionsOf}
 use Rattle.rust.specs.Tree.{CommandNode, commandNode, entry, insertNode, get, someOf, textOf, optionDefs, flagDefs, commandsOf}

@@ -10,6 +10,8 @@ use denote.Enum.Declared.{tagOf}
 use lib.ListN.{length, take, drop, length-drop}
 use lib.Seq.{drop-drop}
 use Rattle.frame.specs.Text.{Bytes}
+use Rattle.frame.proofs.Texts.{bytes-drop}
+use Rattle.table.specs.Held.{partOf}
 use Rattle.image.specs.Frames.{Frame, node, option, flag}
 use Rattle.image.specs.Reading.{Read, read, broken, ended, headFirst, readBy, readFirst, definitionLengths, nodeIn, optionIn, flagIn}
 use Rattle.image.specs.declared.head.Lengths.{Lengths}
@@ -18,17 +20,15 @@ use Rattle.image.specs.declared.head.Head.the-variants.{Node as HeadNode, Optio
 use Rattle.image.proofs.head.Head.{the-type}
 use Rattle.image.proofs.Views.{view, definition-small}
 use Rattle.tree.specs.Images.{framesOf}
-use Rattle.tree.proofs.Items.{bytes-drop}
+use Rattle.tree.specs.Subtrees.{upTo}
 use Rattle.lookup.specs.Spots.{firstOf, spot}
 use Rattle.lookup.specs.Searches.{isNode, wanted, endedBy}
-use Rattle.lookup.specs.Subtrees.{upTo}
 use Rattle.lookup.specs.Definitions.{hasKey, flagWith, optionWith, flagOr, defined}
 use Rattle.lookup.specs.declared.seek.Spot.{Spot}
 use Rattle.lookup.specs.declared.seek.Spot.the-variants.{At, Nothing}
 use Rattle.lookup.specs.declared.look.Sought.the-variants.{OptionKeyed}
 use Rattle.lookup.specs.declared.definition.Defined.the-variants.{Flag, Option as Opt, Unknown}
 use Rattle.lookup.proofs.Finds.{FrameAt, spot-first, spot-none}
-use Rattle.table.specs.Held.{partOf}
 use Rattle.scan.specs.Meanings.{definitionsAt, nameOf, firstName, Means, aFlag, anOption, nothing, flagElse, meaning, isSome, isOption}
 
 -- the name of a frame, if there is one

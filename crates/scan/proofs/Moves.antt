@@ -7,14 +7,14 @@ use lib.ListN.{length, take, drop, length-append}
 use lib.Seq.{take-append-seam, length-take-le}
 use Rattle.buffer.specs.Write.{over, overAt, Pushed}
 use Rattle.buffer.proofs.Lending.{length-overAt}
-use Rattle.frame.specs.Series.{textsFrom, textsIn}
+use Rattle.frame.specs.Series.{textsFrom, textsIn, Whole}
 use Rattle.table.specs.Map.{Map, putWithin}
 use Rattle.table.specs.Held.{partOf, bitOf, sourceOf, packed, keyOf, valueOf, entries, mapOf, tabled, capacity, Fit, putEntry}
 use Rattle.table.specs.declared.packing.Source.{Source}
 use Rattle.table.specs.declared.sorted.Table.{Table}
 use Rattle.table.proofs.Parts.{entry-key, entry-value}
 use Rattle.scan.specs.Arguments.{noneFound, go, withOption, withFlag}
-use Rattle.scan.specs.Held.{stored, foundOf, standBy, standOf, fresh, held, KeySmall, Whole, Apt, Moved, Kept}
+use Rattle.scan.specs.Held.{stored, foundOf, standBy, standOf, fresh, held, KeySmall, Apt, Moved, Kept}
 use Rattle.scan.specs.declared.standing.Progress.{Progress}
 use Rattle.scan.specs.declared.standing.Progress.the-variants.{Going}
 use Rattle.scan.specs.declared.standing.Scan.{Scan}

@@ -2,11 +2,11 @@
 use Prim.Native.Nat.{ℕ, _+_, _-_, _^_, _<_, _≤_}
 use mathlib.Core.Path.{_≡_, refl, sym, ap, _∙_}
 use mathlib.Core.Bool.{false}
-use mathlib.Core.List.{List, [], _∷_, _++_, append-assoc, append-nil}
+use mathlib.Core.List.{List, [], _∷_, _++_}
 use native.Mathlib.Omega.{arith}
 use lib.Dec.{eqb, ltb}
-use lib.ListN.{length, take, drop, getD, length-take, length-drop}
-use lib.Seq.{drop-drop, getD-drop, getD-take, take-take, take-append-seam}
+use lib.ListN.{length, take, drop, getD, length-take}
+use lib.Seq.{drop-drop, getD-drop, getD-take, take-take}
 use borrow.Author.Tests.{lt-ltb, le-ltb, eq-eqb, ne-eqb}
 use Rattle.buffer.proofs.Choices.{then-is, else-is}
 use Rattle.text.specs.Unicode.{encode}
@@ -14,18 +14,16 @@ use Rattle.text.specs.Decoding.{decodeFirst, codesIn}
 use Rattle.text.specs.declared.utf8.Decoded.the-variants.{Character}
 use Rattle.text.proofs.Pieces.{character-bytes, character-fits}
 use Rattle.text.proofs.Prefix.{codes-step}
-use Rattle.frame.specs.Text.{Bytes}
 use Rattle.frame.specs.Framed.{frameOf, frameFirst}
 use Rattle.frame.specs.declared.framed.Framed.the-variants.{Frame as Framed}
-use Rattle.frame.specs.Series.{textsFrom, textsIn}
-use Rattle.frame.proofs.Frames.{frame-within, frame-back, length-frameOf}
-use Rattle.frame.proofs.Series.{texts-more, texts-written}
-use Rattle.tree.proofs.Items.{bytes-drop}
-use Rattle.image.specs.Frames.{Frame}
+use Rattle.frame.specs.Series.{textsIn, Whole}
+use Rattle.frame.proofs.Frames.{length-frameOf}
+use Rattle.frame.proofs.Series.{texts-more, word-within, word-length, one-text, whole-frame, whole-both}
 use Rattle.table.specs.Held.{partOf}
+use Rattle.image.specs.Frames.{Frame}
 use Rattle.scan.specs.Forms.{positional, shorts, longForm, formOf, dash}
 use Rattle.scan.specs.Arguments.{noneFound, Stand, go, withPositional, shortStep, shortSteps, wordStep, args}
-use Rattle.scan.specs.Held.{stored, foundOf, standOf, KeySmall, Whole, Apt, Moved, Kept, Stepped, Scanned}
+use Rattle.scan.specs.Held.{stored, foundOf, standOf, KeySmall, Apt, Moved, Kept, Stepped, Scanned}
 use Rattle.scan.specs.declared.standing.Progress.the-variants.{Going}
 use Rattle.scan.specs.declared.standing.Scan.{Scan}
 use Rattle.scan.proofs.Steps.{stand-by, drop-take}
@@ -74,12 +72,6 @@ letter-part words start end at code n d =
 
 -- A WORD, by its frame
 module _ (words : List ℕ) (at kind n : ℕ) (e : frameFirst (drop at words) ≡ Framed kind n) where
-  pub word-within : at + 3 + n ≤ length words
-  word-within = let h = frame-within (drop at words) kind n e in let l = length-drop at words in omega arith
-
-  pub word-length : length (partOf words (at + 3) n) ≡ n
-  word-length = let h = word-within in rw (length-take, length-drop) (omega arith)
-
   pub word-byte : (i : ℕ) → i < n → getD (partOf words (at + 3) n) i 0 ≡ getD words (at + 3 + i) 0
   word-byte i h = getD-take n (drop (at + 3) words) i 0 h ∙ getD-drop (at + 3) words i 0
 
@@ -91,7 +83,7 @@ module _ (words : List ℕ) (at kind n : ℕ) (e : frameFirst (drop at words) �
   -- its form
   pub form-short : n < 2 → formOf (partOf words (at + 3) n) ≡ positional
   unfolding formOf
-  form-short h = let l = word-length in then-is _ _ _ (lt-ltb (length (partOf words (at + 3) n)) 2 (omega arith))
+  form-short h = let l = word-length words at kind n e in then-is _ _ _ (lt-ltb (length (partOf words (at + 3) n)) 2 (omega arith))
 
   abbrev first : ℕ
   first = getD words (at + 3) 0
@@ -100,7 +92,7 @@ module _ (words : List ℕ) (at kind n : ℕ) (e : frameFirst (drop at words) �
   zeroth h = let k : at + 3 + 0 ≡ at + 3 = omega arith in word-byte 0 h ∙ ap (λ (i : ℕ). getD words i 0) k
 
   longer : 2 ≤ n → ltb (length (partOf words (at + 3) n)) 2 ≡ false
-  longer h = let l = word-length in le-ltb (length (partOf words (at + 3) n)) 2 (omega arith)
+  longer h = let l = word-length words at kind n e in le-ltb (length (partOf words (at + 3) n)) 2 (omega arith)
 
   pub form-plain : 2 ≤ n → (first ≡ dash → ⊥) → formOf (partOf words (at + 3) n) ≡ positional
   unfolding formOf
@@ -115,32 +107,6 @@ module _ (words : List ℕ) (at kind n : ℕ) (e : frameFirst (drop at words) �
   unfolding formOf
   form-shorts h d f =
       else-is _ _ _ (longer h) ∙ then-is _ _ _ (ap (λ (b : ℕ). eqb b dash) (zeroth (omega arith)) ∙ eq-eqb first dash d) ∙ else-is _ _ _ (ap (λ (b : ℕ). eqb b dash) (word-byte 1 (omega arith)) ∙ ne-eqb (getD words (at + 3 + 1) 0) dash f)
-
-  -- its bytes
-  pub frame-is : Bytes words → take (at + 3 + n - at) (drop at words) ≡ frameOf kind (partOf words (at + 3) n)
-  frame-is b =
-      let k : at + 3 + n - at ≡ 3 + n = omega arith in
-      let t : take n (drop 3 (drop at words)) ≡ partOf words (at + 3) n = ap (take n) (drop-drop 3 at words) in
-      let l : length (frameOf kind (partOf words (at + 3) n)) ≡ 3 + n = length-frameOf kind _ ∙ ap (λ (m : ℕ). 3 + m) word-length in
-      let s : drop at words ≡ frameOf kind (partOf words (at + 3) n) ++ drop (3 + n) (drop at words) = frame-back (drop at words) kind n (bytes-drop at words b) e ∙ ap (λ (x : List ℕ). frameOf kind x ++ drop (3 + n) (drop at words)) t in
-      ap (λ (m : ℕ). take m (drop at words)) (k ∙ sym l) ∙ ap (take (length (frameOf kind (partOf words (at + 3) n)))) s
-      ∙ take-append-seam (frameOf kind (partOf words (at + 3) n)) (drop (3 + n) (drop at words))
-
--- WHOLE FRAMES, one more
-pub one-text : (kind : ℕ) (t : List ℕ) → length t < 256 ^ 2 → textsIn (frameOf kind t) ≡ t ∷ []
-unfolding textsIn textsFrom
-one-text kind t h = ap textsIn (sym (append-nil (frameOf kind t))) ∙ texts-written kind t [] h
-
-pub whole-frame : (kind : ℕ) (t : List ℕ) → length t < 256 ^ 2 → Whole (frameOf kind t)
-unfolding Whole
-whole-frame kind t h more =
-    texts-written kind t more h ∙ ap (λ (l : List (List ℕ)). l ++ textsIn more) (sym (one-text kind t h))
-
-pub whole-both : (a b : List ℕ) → Whole a → Whole b → Whole (a ++ b)
-unfolding Whole
-whole-both a b x y more =
-    ap textsIn (append-assoc a b more) ∙ x (b ++ more) ∙ ap (λ (l : List (List ℕ)). textsIn a ++ l) (y more)
-    ∙ sym (append-assoc (textsIn a) (textsIn b) (textsIn more)) ∙ ap (λ (l : List (List ℕ)). l ++ textsIn more) (sym (x b))
 
 -- ONE STEP over a word
 module _ (words image rest left : List ℕ) (s r : Scan) where

@@ -4,7 +4,7 @@ use Prim.Native.Nat.{ℕ, _+_, _<_, _≤_}
 use mathlib.Core.Path.{_≡_}
 use mathlib.Core.List.{List, _++_}
 use lib.ListN.{length, take, replicate}
-use Rattle.frame.specs.Series.{textsIn}
+use Rattle.frame.specs.Series.{textsIn, Whole}
 use Rattle.table.specs.Map.{putWithin}
 use Rattle.table.specs.Held.{partOf, sourceOf, mapOf, tabled, capacity}
 use Rattle.scan.specs.Meanings.{Means, aFlag, anOption, nothing}
@@ -67,10 +67,6 @@ abbrev pub NameSmall : Meaning → Type 0
 NameSmall (Flag name) = (name .start < 0x10000) × (name .length < 0x10000)
 NameSmall (Option name) = (name .start < 0x10000) × (name .length < 0x10000)
 NameSmall Unknown = Unit
-
--- whole frames: what stands behind them is read as if alone
-unfoldable pub Whole : List ℕ → Type 0
-Whole s = (more : List ℕ) → textsIn (s ++ more) ≡ textsIn s ++ textsIn more
 
 -- a state that can go on
 pub record Apt (rest : List ℕ) (s : Scan) : Type 0 where

@@ -6,8 +6,8 @@ use mathlib.Core.Option.{Option, none, some}
 use lib.ListN.{drop}
 use Rattle.image.specs.Frames.{Frame, node, option, flag}
 use Rattle.tree.specs.Images.{framesOf}
+use Rattle.tree.specs.Subtrees.{upTo}
 use Rattle.lookup.specs.Searches.{isNode}
-use Rattle.lookup.specs.Subtrees.{upTo}
 use Rattle.lookup.specs.Definitions.{hasKey, flagWith, optionWith}
 
 -- the definitions of a node, given its subtree: the frames behind it up to the next node of any depth

@@ -17,14 +17,16 @@ use Rattle.image.specs.Reading.{span, nodeLengths, definitionLengths, nodeFirst
 use Rattle.image.specs.Limits.{allShown, isName, isNote, isShort, definable, fair}
 use Rattle.tree.specs.Images.{itemsFrom, items, framesIn, framesOf, flat}
 use Rattle.tree.specs.Rules.{rises, follows, obeys, after, judge, obeyAll, checkTree}
-use Rattle.lookup.specs.Subtrees.{upTo, onFrom, subtree, treeNamed}
+use Rattle.lookup.specs.Subtrees.{treeNamed}
+use Rattle.tree.specs.Subtrees.{upTo, onFrom, subtree}
 use Rattle.words.specs.Tokens.{turnOf, tokensFrom, tokens, wordsOf, framesOf as framesOfWords}
 use Rattle.table.specs.Map.{put, look, has, among as amongTable, putWithin}
 use Rattle.scan.specs.Meanings.{definitionsOf, definitionsAt, firstName, meaning, isOption}
 use Rattle.scan.specs.Forms.{beforeEquals, longForm, formOf}
 use Rattle.scan.specs.Arguments.{withOption, withFlag, withPositional, shortSteps, args}
 use Rattle.report.specs.Report.{optionFrame, flagFrame, reportOf, faultOf, dashed, reportAnswer, reportLeaves}
-use Rattle.parse.specs.Commands.{descend, isMissing, missingRequired, concluded, parseIn, parseWords, parseLine}
+use Rattle.parse.specs.Commands.{isMissing, missingRequired, concluded, parseIn, parseWords, parseLine}
+use Rattle.tree.specs.Commands.{descend}
 use Rattle.parse.specs.Answer.{toldIn, outcomeAnswer, outcomeLeaves, parseAnswer, parseLeaves}
 use Rattle.ink.specs.Ascii.{ascii}
 use Rattle.shell.specs.Lines.{builtinOf, beginsHelp, helpWords, faultMessage, joined, handlerOf, carried, executeIn, execute, otherSaid, lineSaid, saidOf}

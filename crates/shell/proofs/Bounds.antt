@@ -12,19 +12,17 @@ use Rattle.text.specs.Decoding.{wellFormedLength}
 use Rattle.text.specs.Apart.{trimmed, blank, wordsBetween}
 use Rattle.text.proofs.Prefix.{prefix-fits}
 use Rattle.frame.specs.Text.{Bytes}
+use Rattle.words.specs.Tokens.{wordsOf, framesOf as wordFrames}
+use Rattle.words.specs.Answer.{written}
+use Rattle.words.proofs.Standing.{written-most}
 use Rattle.image.specs.Frames.{Frame}
 use Rattle.tree.specs.Images.{framesOf}
 use Rattle.tree.specs.Rules.{start, checkTree}
 use Rattle.tree.specs.declared.check.Checked.the-variants.{Good}
 use Rattle.tree.proofs.Wholes.{good-well-formed}
-use Rattle.lookup.specs.Subtrees.{subtree}
+use Rattle.tree.specs.Subtrees.{subtree}
+use Rattle.tree.specs.Commands.{descend}
 use Rattle.lookup.proofs.Few.{Few, obey-few, few-subtree}
-use Rattle.words.specs.Tokens.{wordsOf, framesOf as wordFrames}
-use Rattle.words.specs.Answer.{written}
-use Rattle.words.proofs.Standing.{written-most}
-use Rattle.parse.specs.Commands.{descend, Outcome, parsed, fault, emptyCommand, parseIn}
-use Rattle.parse.specs.Answer.{toldIn}
-use Rattle.parse.proofs.Bounds.{words-more, measure, path-within, parse-most}
 use Rattle.message.specs.Messages.{message, illFormed, clearScreen}
 use Rattle.message.specs.declared.told.Told.the-variants.{NoHandler}
 use Rattle.message.proofs.Bounds.{message-most, ill-formed-most, goodbye-most, clear-most, unknown-most}
@@ -32,6 +30,9 @@ use Rattle.layout.specs.Texts.{spaced, availableText}
 use Rattle.layout.proofs.Bounds.{spaced-more, spaced-most, available-most}
 use Rattle.help.specs.Answer.{Reply, said, unknown, wordless, helpOf}
 use Rattle.help.proofs.Bounds.{ReplyWithin, help-within}
+use Rattle.parse.specs.Commands.{Outcome, parsed, fault, emptyCommand, parseIn}
+use Rattle.parse.specs.Answer.{toldIn}
+use Rattle.parse.proofs.Bounds.{words-more, measure, path-within, parse-most}
 use Rattle.shell.specs.Lines.{Said, silence, text, farewell, handed, builtinOf, onBuiltin, beginsHelp, helpWords, helpSaid, faultMessage, joined, handlerOf, carried, executeIn, execute, otherSaid, lineSaid, saidOf}
 use Rattle.shell.specs.Answer.{bytesOf, named, saidAnswer, saidLeaves, runAnswer, runLeaves, Running}
 use Rattle.shell.specs.declared.answer.Ran.{Ran}

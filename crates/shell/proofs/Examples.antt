@@ -9,24 +9,25 @@ use Rattle.text.specs.Apart.{behindRun, trimEnd, trimmed, allWhite, blank, word
 use Rattle.frame.specs.Text.{number as numberIn, textOf}
 use Rattle.frame.specs.Framed.{frameOf}
 use Rattle.frame.specs.Series.{runs}
-use Rattle.image.specs.Frames.{absent, present, Frame, node, flag}
-use Rattle.lookup.specs.Searches.{keyed}
-use Rattle.lookup.specs.Subtrees.{upTo, onFrom, subtree}
-use Rattle.words.specs.Tokens.{turnOf, tokensFrom, tokens, wordsOf}
 use Rattle.table.specs.Map.{put, has}
-use Rattle.scan.specs.Meanings.{definitionsOf, firstName, meaning, isOption}
-use Rattle.scan.specs.Forms.{beforeEquals, longForm, formOf}
-use Rattle.scan.specs.Arguments.{withOption, withFlag, withPositional, shortSteps, args}
 use Rattle.report.specs.Report.{optionFrame, flagFrame, reportOf}
-use Rattle.parse.specs.Commands.{descend, isMissing, missingRequired, concluded, parseIn}
-use Rattle.parse.specs.Answer.{toldIn}
+use Rattle.words.specs.Tokens.{turnOf, tokensFrom, tokens, wordsOf}
+use Rattle.image.specs.Frames.{absent, present, Frame, node, flag}
+use Rattle.tree.specs.Subtrees.{upTo, onFrom, subtree}
+use Rattle.tree.specs.Commands.{descend}
+use Rattle.lookup.specs.Searches.{keyed}
 use Rattle.ink.specs.Ascii.{ascii}
+use Rattle.rows.specs.Rows.{blanks, padded, shortThen, shownAs, entry, flagRow, nodeRow, rows, titled}
 use Rattle.message.specs.Messages.{message, illFormed, clearScreen}
 use Rattle.message.specs.Debug.{debugByte, debugBytes, unknownHelp}
-use Rattle.rows.specs.Rows.{blanks, padded, shortThen, shownAs, entry, flagRow, nodeRow, rows, titled}
 use Rattle.layout.specs.Texts.{spaced, lists, about, helpText, availableText}
 use Rattle.help.specs.Paths.{followed}
 use Rattle.help.specs.Answer.{helpIn, helpOf}
+use Rattle.scan.specs.Meanings.{definitionsOf, firstName, meaning, isOption}
+use Rattle.scan.specs.Forms.{beforeEquals, longForm, formOf}
+use Rattle.scan.specs.Arguments.{withOption, withFlag, withPositional, shortSteps, args}
+use Rattle.parse.specs.Commands.{isMissing, missingRequired, concluded, parseIn}
+use Rattle.parse.specs.Answer.{toldIn}
 use Rattle.shell.specs.Lines.{silence, text, farewell, handed, builtinOf, beginsHelp, helpWords, faultMessage, joined, handlerOf, carried, executeIn, execute, otherSaid, lineSaid, saidOf}
 
 -- `log` with handler 2; `vm` with none, and its child `start` with handler 3 and a flag

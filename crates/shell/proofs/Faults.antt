@@ -9,17 +9,14 @@ use lib.Seq.{take-append-seam}
 use Rattle.buffer.specs.Write.{over}
 use Rattle.buffer.proofs.Choices.{else-is}
 use Rattle.buffer.proofs.Lending.{overAt-front}
-use Rattle.frame.specs.Text.{Bytes}
 use Rattle.frame.specs.Framed.{frameOf, frameFirst}
 use Rattle.frame.specs.Series.{textsIn}
 use Rattle.frame.specs.declared.framed.Framed.the-variants.{Frame}
 use Rattle.frame.proofs.Frames.{length-frameOf, frame-found}
-use Rattle.frame.proofs.Series.{texts-end}
+use Rattle.frame.proofs.Series.{texts-end, word-within, word-length, words-more}
 use Rattle.table.specs.Held.{partOf}
-use Rattle.scan.proofs.Walks.{word-within, word-length}
 use Rattle.report.specs.Report.{faultOf, dashed, reportAnswer, reportLeaves, Reporting}
 use Rattle.report.specs.declared.answer.Reported.{Reported}
-use Rattle.parse.proofs.Descents.{words-more, name-part}
 use Rattle.ink.specs.Ascii.{ascii}
 use Rattle.ink.specs.Inks.{Inked, Countable}
 use Rattle.ink.proofs.Inking.{inked-nothing, inked-both, inked-as}
@@ -79,14 +76,14 @@ module _ (path out₀ out : List ℕ) (at end : ℕ) (way : OnPath path out₀ o
       omega arith
 
   -- a word more, behind a space
-  pub goes-on : (kind n : ℕ) → Bytes path → length path ≤ 4096 → frameFirst (drop at path) ≡ Frame kind n
+  pub goes-on : (kind n : ℕ) → frameFirst (drop at path) ≡ Frame kind n
       → (p : ℕ) (mid : List ℕ) (r : ℕ) (left : List ℕ) → Inked (ascii " ") out end p mid → Inked (take (at + 3 + n - (at + 3)) (drop (at + 3) path)) mid p r left
       → OnPath path out₀ left (at + 3 + n) r
   unfolding spaced ascii
-  goes-on kind n b s e p mid r left a c =
+  goes-on kind n e p mid r left a c =
       let word : List ℕ = partOf path (at + 3) n in
       let l = word-length path at kind n e in
-      let w = inked-as _ word mid p r left (name-part path (at + 3) n) c in
+      let w = inked-as _ word mid p r left (let k : at + 3 + n - (at + 3) ≡ n = omega arith in ap (λ (m : ℕ). take m (drop (at + 3) path)) k) c in
       let i = inked-both (ascii " ") word out end p mid r left a w in
       let j = i .place in
       let k = length-append (ascii " ") word in
@@ -95,7 +92,7 @@ module _ (path out₀ out : List ℕ) (at end : ℕ) (way : OnPath path out₀ o
         within = word-within path at kind n e;
         size = i .size ∙ way .size;
         most = omega arith;
-        finish = λ z last x. way .finish z last (inked-as _ _ _ _ _ _ (ap spaced (sym (words-more path at kind n b s e))) (inked-both _ _ _ _ _ _ _ _ i x));
+        finish = λ z last x. way .finish z last (inked-as _ _ _ _ _ _ (ap spaced (sym (words-more path at kind n e))) (inked-both _ _ _ _ _ _ _ _ i x));
       }
 
 -- the words joined are what stands behind the first space

@@ -17,27 +17,29 @@ use Rattle.text.specs.declared.apart.Word.the-variants.{At, Nothing as NoWord}
 use Rattle.text.proofs.Prefix.{codes-scalars, whole-is}
 use Rattle.text.proofs.Pieces.{pieces-bytes}
 use Rattle.text.proofs.Splits.{trimming, bytes-append}
+use Rattle.frame.specs.Series.{textsIn}
+use Rattle.words.specs.Tokens.{wordsOf}
+use Rattle.words.specs.declared.tokenizer.Tokens.{Tokens}
+use Rattle.words.specs.declared.tokenizer.Tokens.the-variants.{Words, LineTooLong as TooLong, IllFormed as Ill, NoRoom as TooShort}
+use Rattle.words.proofs.tokenizer.Tokens.{the-type}
 use Rattle.image.specs.Frames.{Frame}
 use Rattle.tree.specs.Images.{framesOf}
 use Rattle.tree.specs.Rules.{checkTree}
 use Rattle.tree.specs.declared.check.Checked.{Checked}
 use Rattle.tree.specs.declared.check.Checked.the-variants.{Good, BadFrame}
-use Rattle.words.specs.Tokens.{wordsOf}
-use Rattle.words.specs.declared.tokenizer.Tokens.{Tokens}
-use Rattle.words.specs.declared.tokenizer.Tokens.the-variants.{Words, LineTooLong as TooLong, IllFormed as Ill, NoRoom as TooShort}
-use Rattle.words.proofs.tokenizer.Tokens.{the-type}
-use Rattle.parse.specs.Answer.{onChecked}
-use Rattle.parse.proofs.Lines.{LineTold}
+use Rattle.ink.specs.Ascii.{ascii}
+use Rattle.message.specs.Messages.{illFormed, clearScreen}
+use Rattle.message.specs.Debug.{unknownHelp}
 use Rattle.layout.specs.Texts.{helpText, availableText}
 use Rattle.layout.proofs.Words.{next-told, next-nothing}
 use Rattle.help.specs.Paths.{between, FoundAt, LostAt}
 use Rattle.help.specs.Answer.{helpOf, helpLine}
 use Rattle.help.proofs.Answers.{reply-none, reply-found, reply-lost}
-use Rattle.ink.specs.Ascii.{ascii}
-use Rattle.message.specs.Messages.{illFormed, clearScreen}
-use Rattle.message.specs.Debug.{unknownHelp}
+use Rattle.parse.specs.Answer.{onChecked}
+use Rattle.parse.proofs.Lines.{LineTold}
 use Rattle.shell.specs.Lines.{Said, silence, text, farewell, builtinOf, onBuiltin, beginsHelp, helpWords, helpSaid, execute, otherSaid, lineSaid, saidOf}
 use Rattle.shell.specs.Answer.{Answered, runAnswer, runLeaves, Running}
+use Rattle.shell.specs.Held.{Splits}
 use Rattle.shell.specs.declared.builtin.Builtin.{Builtin}
 use Rattle.shell.specs.declared.answer.Ran.{Ran}
 use Rattle.shell.specs.declared.answer.Ran.the-variants.{Nothing, BadTree, LineTooLong}
@@ -106,6 +108,14 @@ words-there line (TooLong n) h w x k = true-is-not-false (sym (x .0) ∙ le-ltb 
 words-there line (Ill n) h w x k = true-is-not-false (sym (x .1) ∙ le-ltb (wellFormedLength line) (length line) (omega arith))
 words-there line (TooShort n) h w x k = x
 
+-- the words of a line, once it is trimmed
+pub trimmed-splits : (line t words : List ℕ) → t ≡ trimmed line → (length t ≤ 1024 → wellFormedLength t ≡ length t → textsIn words ≡ wordsOf t) → Splits line words
+unfolding Splits
+trimmed-splits line t words e k h w =
+    let s = trimmed-short line in
+    let l = ap length e in
+    k (omega arith) (rw e (trimmed-whole line w)) ∙ ap wordsOf e
+
 -- THE HELP for words
 module _ (image words out : List ℕ) where
   abbrev asked : Said
@@ -138,14 +148,14 @@ module _ (line : List ℕ) where
   unfolding otherSaid
   other-blank frames b e = sym (else-is _ _ _ b ∙ then-is _ _ _ e)
 
+  pub other-command : (frames : List Frame) (words : List (List ℕ)) → beginsHelp line ≡ false → blank line ≡ false → words ≡ wordsOf (trimmed line) → execute frames words ≡ otherSaid frames line
+  unfolding otherSaid
+  other-command frames words b e q = ap (execute frames) q ∙ sym (else-is _ _ _ b ∙ else-is _ _ _ e)
+
   module _ (frames : List Frame) (t : List ℕ) where
     pub other-help : beginsHelp line ≡ true → t ≡ drop 5 line → helpSaid (helpOf frames (wordsBetween t)) ≡ otherSaid frames line
     unfolding otherSaid helpWords
     other-help b e = ap (λ (x : List ℕ). helpSaid (helpOf frames (wordsBetween x))) e ∙ sym (then-is _ _ _ b)
-
-    pub other-command : beginsHelp line ≡ false → blank line ≡ false → t ≡ trimmed line → execute frames (wordsOf t) ≡ otherSaid frames line
-    unfolding otherSaid
-    other-command b e q = ap (λ (x : List ℕ). execute frames (wordsOf x)) q ∙ sym (else-is _ _ _ b ∙ else-is _ _ _ e)
 
     pub builtin-is : (b known : Builtin) → t ≡ trimmed line → b ≡ builtinOf t → b ≡ known
         → onBuiltin known (text 0 (availableText frames)) farewell (text 0 clearScreen) (otherSaid frames line) ≡ lineSaid frames line

@@ -6,16 +6,17 @@ use lib.Dec.{ltb, eqb}
 use lib.ListN.{length}
 use Rattle.text.specs.Decoding.{wellFormedLength}
 use Rattle.text.specs.Apart.{trimmed, blank}
+use Rattle.words.specs.Tokens.{wordsOf}
 use Rattle.image.specs.Frames.{Frame}
 use Rattle.tree.specs.Images.{framesOf}
-use Rattle.lookup.specs.Subtrees.{subtree}
-use Rattle.words.specs.Tokens.{wordsOf}
-use Rattle.parse.specs.Commands.{descend, Outcome, parseWords, parseLine}
-use Rattle.parse.proofs.Answers.{Numbered, report, four, five, six, seven, numbered}
+use Rattle.tree.specs.Subtrees.{subtree}
+use Rattle.tree.specs.Commands.{descend}
 use Rattle.message.specs.Messages.{message, illFormed, clearScreen}
 use Rattle.message.specs.Debug.{unknownHelp}
 use Rattle.message.specs.declared.told.Told.the-variants.{UnknownCommand, UnknownOption, MissingValue, MissingRequired, NoHandler}
 use Rattle.help.specs.Answer.{Reply, said, unknown, wordless, helpOf}
+use Rattle.parse.specs.Commands.{Outcome, parseWords, parseLine}
+use Rattle.parse.proofs.Answers.{Numbered, report, four, five, six, seven, numbered}
 use Rattle.shell.specs.Lines.{Said, silence, text, farewell, handed, builtinOf, onBuiltin, beginsHelp, helpWords, helpSaid, faultMessage, joined, handlerOf, carried, executeIn, execute, otherSaid, lineSaid, saidOf}
 use Rattle.shell.specs.declared.builtin.Builtin.{Builtin}
 use Rattle.shell.specs.declared.builtin.Builtin.the-variants.{Help, Exit, Clear, None}

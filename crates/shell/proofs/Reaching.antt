@@ -11,9 +11,10 @@ use Rattle.image.specs.declared.head.Head.{Head}
 use Rattle.image.specs.declared.head.Head.the-variants.{Node, Option, Flag, Bad, End}
 use Rattle.image.proofs.head.Head.{the-type}
 use Rattle.tree.specs.Images.{framesOf}
-use Rattle.lookup.specs.Subtrees.{subtree}
-use Rattle.parse.specs.Commands.{onSubtree, Reached, descend, fault, parseIn, parseWords}
+use Rattle.tree.specs.Subtrees.{subtree}
+use Rattle.tree.specs.Commands.{onSubtree, Reached, descend}
 use Rattle.tree.proofs.Items.{frames-read}
+use Rattle.parse.specs.Commands.{fault, parseIn, parseWords}
 use Rattle.parse.proofs.Definitions.{frames-none}
 use Rattle.shell.specs.Lines.{handlerOf, carried, executeIn, execute}
 

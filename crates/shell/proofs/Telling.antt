@@ -1,26 +1,27 @@
 -- What is carried out of what was judged: a fault by its parts, and a command with its handler or without.
 use Prim.Native.Nat.{ℕ, _<_, _≤_}
 use mathlib.Core.Path.{_≡_, refl, sym, ap, _∙_}
-use mathlib.Core.List.{List, []}
+use mathlib.Core.List.{List}
 use native.Mathlib.Omega.{arith}
 use borrow.Author.Tests.{eq-eqb, ne-eqb}
 use lib.ListN.{length, take, length-take, length-drop}
 use Rattle.buffer.proofs.Choices.{then-is, else-is}
 use Rattle.frame.specs.Series.{textsIn}
+use Rattle.report.specs.Report.{dashed, reportOf}
 use Rattle.tree.specs.Images.{framesOf}
+use Rattle.tree.specs.Commands.{reachedBy, partAt}
+use Rattle.message.specs.Messages.{message}
+use Rattle.message.specs.declared.told.Told.{Told}
+use Rattle.message.specs.declared.told.Told.the-variants.{NoHandler}
 use Rattle.scan.specs.Arguments.{Found}
 use Rattle.scan.specs.Held.{foundOf}
-use Rattle.report.specs.Report.{dashed, reportOf}
-use Rattle.parse.specs.Commands.{descend, parseWords}
+use Rattle.parse.specs.Commands.{parseWords}
 use Rattle.parse.specs.Answer.{toldIn}
-use Rattle.parse.specs.Held.{partAt, outcomeIn, numberOf, dashesOf, textOf}
+use Rattle.parse.specs.Held.{outcomeIn, numberOf, dashesOf, textOf}
 use Rattle.parse.specs.declared.judging.Verdict.{Verdict}
 use Rattle.parse.specs.declared.judging.Verdict.the-variants.{Fine, NoWords, UnknownCommand, UnknownOption, MissingValue, MissingRequired}
 use Rattle.parse.specs.declared.judging.Judged.{Judged}
 use Rattle.parse.proofs.Tellings.{fault-told, report-told}
-use Rattle.message.specs.Messages.{message}
-use Rattle.message.specs.declared.told.Told.{Told}
-use Rattle.message.specs.declared.told.Told.the-variants.{NoHandler}
 use Rattle.shell.specs.Lines.{text, handed, faultMessage, joined, handlerOf, carried, execute}
 use Rattle.shell.proofs.Reaching.{execute-top}
 
@@ -80,6 +81,7 @@ module _ (words image rest : List ℕ) (j : Judged) (handler : ℕ) where
     handed-carried z = sym (ap (carried handler) (report-told words part path found (j .verdict) fine) ∙ else-is _ _ _ (ne-eqb handler 0 z))
 
   -- THE WORDS of a line
-  pub words-carried : outcomeIn words image rest j ≡ parseWords (framesOf image) (textsIn words) → handler ≡ handlerOf (descend 0 (framesOf image) [] (textsIn words) .frames)
+  pub words-carried : outcomeIn words image rest j ≡ parseWords (framesOf image) (textsIn words) → handler ≡ handlerOf (reachedBy image words .frames)
       → carried handler (outcomeIn words image rest j) ≡ execute (framesOf image) (textsIn words)
+  unfolding reachedBy
   words-carried o h = ap (carried handler) o ∙ ap (λ (k : ℕ). carried k (parseWords (framesOf image) (textsIn words))) h ∙ execute-top (framesOf image) (textsIn words)

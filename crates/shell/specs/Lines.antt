@@ -7,11 +7,10 @@ use lib.ListN.{length, take, drop}
 use Rattle.buffer.specs.Compare.{sameBytes}
 use Rattle.text.specs.Decoding.{wellFormedLength}
 use Rattle.text.specs.Apart.{trimmed, blank, wordsBetween}
-use Rattle.image.specs.Frames.{Frame, node, option, flag}
-use Rattle.lookup.specs.Subtrees.{subtree}
 use Rattle.words.specs.Tokens.{wordsOf}
-use Rattle.parse.specs.Commands.{descend, Outcome, parsed, fault, emptyCommand, parseIn}
-use Rattle.parse.specs.Answer.{toldIn}
+use Rattle.image.specs.Frames.{Frame, node, option, flag}
+use Rattle.tree.specs.Subtrees.{subtree}
+use Rattle.tree.specs.Commands.{descend}
 use Rattle.ink.specs.Ascii.{ascii}
 use Rattle.message.specs.Messages.{message, illFormed, clearScreen}
 use Rattle.message.specs.Debug.{unknownHelp}
@@ -19,6 +18,8 @@ use Rattle.message.specs.declared.told.Told.{Told}
 use Rattle.message.specs.declared.told.Told.the-variants.{UnknownCommand, UnknownOption, MissingValue, MissingRequired, NoHandler}
 use Rattle.layout.specs.Texts.{spaced, availableText}
 use Rattle.help.specs.Answer.{Reply, said, unknown, wordless, helpOf}
+use Rattle.parse.specs.Commands.{Outcome, parsed, fault, emptyCommand, parseIn}
+use Rattle.parse.specs.Answer.{toldIn}
 use Rattle.shell.specs.declared.builtin.Builtin.{Builtin}
 use Rattle.shell.specs.declared.builtin.Builtin.the-variants.{Help, Exit, Clear, None}
 

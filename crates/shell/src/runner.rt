@@ -22,7 +22,6 @@ use message::show_ill_formed;
 use message::show_message;
 use message::show_unknown_help;
 use parse::Judged;
-use parse::command_of;
 use parse::dashes_of;
 use parse::judge;
 use parse::number_of;
@@ -34,24 +33,27 @@ use text::next_word;
 use text::trim;
 use text::well_formed_prefix;
 use tree::Checked;
-use tree::check_tree;
+use tree::Place;
+use tree::find_command;
 use words::Tokens;
 use words::tokenize;
 ghost use mathlib.Core.Path.{_≡_};
 ghost use mathlib.Core.List.{List};
 ghost use Prim.Native.Nat.{ℕ, _≤_, min};
-ghost use lib.ListN.{length};
-ghost use Rattle.frame.specs.Series.{textsIn};
+ghost use lib.ListN.{length, take};
 ghost use Rattle.text.specs.Decoding.{wellFormedLength};
 ghost use Rattle.text.specs.Apart.{wordsBetween};
+ghost use Rattle.frame.specs.Series.{textsIn};
+ghost use Rattle.words.specs.Tokens.{wordsOf};
 ghost use Rattle.tree.specs.Images.{framesOf};
 ghost use Rattle.tree.specs.Rules.{checkTree};
 ghost use Rattle.tree.specs.declared.check.Checked.the-variants.{Good};
-ghost use Rattle.words.specs.Tokens.{wordsOf};
-ghost use Rattle.parse.specs.Held.{numberOf, outcomeIn, Within};
+ghost use Rattle.tree.specs.Commands.{reachedBy, Within, Descended};
 ghost use Rattle.help.specs.Answer.{helpOf};
+ghost use Rattle.parse.specs.Held.{numberOf, outcomeIn};
 ghost use Rattle.shell.specs.Lines.{helpSaid, carried, execute, otherSaid, lineSaid};
 ghost use Rattle.shell.specs.Answer.{Answered, Running};
+ghost use Rattle.shell.specs.Held.{Splits, Ready};
 
 // The length of a line that is too long, 65,535 if more.
 fn told_length(n: usize) -> usize
@@ -115,14 +117,13 @@ fn tell_command<'a>(
     )
 }
 
-// The words of a line under a well-formed tree.
-fn execute_words<'a>(words: &'a [u8], image: &'a [u8], out: &mut [u8]) -> Ran
-    requires { ⌜ (length (now words) ≤ 4096) × (checkTree (now image) ≡ Good) ⌝ }
+// The words of a line under a well-formed tree, in which they lead to a place.
+fn execute_command<'a>(words: &'a [u8], image: &'a [u8], place: Place, out: &mut [u8]) -> Ran
+    requires { ⌜ (length (now words) ≤ 4096) × (checkTree (now image) ≡ Good) × Descended (now words) (now image) place (reachedBy (now image) (now words)) ⌝ }
     ensures { λ r. ⌜ Answered (execute (framesOf (now (image .entry))) (textsIn (now (words .entry)))) (now (out .entry)) r (now (out .exit)) ⌝ }
 {
     let mut rest = [0u8; 4096];
-    let command = command_of(words, image);
-    let judged = judge(words, image, command, &mut rest);
+    let judged = judge(words, image, place, &mut rest);
     let verdict = judged.verdict;
     if number_of(verdict) != 0 {
         return tell_fault(words, image, judged, out);
@@ -132,18 +133,6 @@ fn execute_words<'a>(words: &'a [u8], image: &'a [u8], out: &mut [u8]) -> Ran
     let end = place.end;
     let handler = handler_of(&image[start..end]);
     tell_command(words, image, judged, &rest, handler, out)
-}
-
-// A trimmed line. Its words always find room: four bytes for each byte of a line.
-fn execute_command(image: &[u8], line: &[u8], out: &mut [u8]) -> Ran
-    requires { ⌜ (checkTree (now image) ≡ Good) × (length (now line) ≤ 1024) × (wellFormedLength (now line) ≡ length (now line)) ⌝ }
-    ensures { λ r. ⌜ Answered (execute (framesOf (now (image .entry))) (wordsOf (now (line .entry)))) (now (out .entry)) r (now (out .exit)) ⌝ }
-{
-    let mut words = [0u8; 4096];
-    let Tokens::Words(n) = tokenize(line, &mut words) else {
-        return Ran::Nothing;
-    };
-    execute_words(&words[..n], image, out)
 }
 
 // The help for words split on white space only.
@@ -164,9 +153,9 @@ fn help_for(image: &[u8], words: &[u8], out: &mut [u8]) -> Ran
     }
 }
 
-// A line that is no builtin: the word `help` with a space behind it asks for help, and all else is a command.
-fn run_other(image: &[u8], line: &[u8], out: &mut [u8]) -> Ran
-    requires { ⌜ (checkTree (now image) ≡ Good) × (length (now line) ≤ 1024) × (wellFormedLength (now line) ≡ length (now line)) ⌝ }
+// A line that is no builtin: the word `help` with a space behind it asks for help, and all else is a command, whose words lead to a place.
+fn run_other<'a>(image: &'a [u8], line: &[u8], words: &'a [u8], place: Place, out: &mut [u8]) -> Ran
+    requires { ⌜ Ready (now image) (now line) (now words) place ⌝ }
     ensures { λ r. ⌜ Answered (otherSaid (framesOf (now (image .entry))) (now (line .entry))) (now (out .entry)) r (now (out .exit)) ⌝ }
 {
     if same(part(line, 0, 5), b"help ") {
@@ -175,12 +164,18 @@ fn run_other(image: &[u8], line: &[u8], out: &mut [u8]) -> Ran
     if is_blank(line) {
         return Ran::Nothing;
     }
-    execute_command(image, trim(line), out)
+    execute_command(words, image, place, out)
 }
 
 // A well-formed line; the builtins come first.
-fn handle_builtin_commands(image: &[u8], line: &[u8], out: &mut [u8]) -> Ran
-    requires { ⌜ (checkTree (now image) ≡ Good) × (length (now line) ≤ 1024) × (wellFormedLength (now line) ≡ length (now line)) ⌝ }
+fn handle_builtin_commands<'a>(
+    image: &'a [u8],
+    line: &[u8],
+    words: &'a [u8],
+    place: Place,
+    out: &mut [u8],
+) -> Ran
+    requires { ⌜ Ready (now image) (now line) (now words) place ⌝ }
     ensures { λ r. ⌜ Answered (lineSaid (framesOf (now (image .entry))) (now (line .entry))) (now (out .entry)) r (now (out .exit)) ⌝ }
 {
     let trimmed = trim(line);
@@ -188,15 +183,18 @@ fn handle_builtin_commands(image: &[u8], line: &[u8], out: &mut [u8]) -> Ran
         Builtin::Help => shown(0, show_available_commands(image, out)),
         Builtin::Exit => ended(show_goodbye(out)),
         Builtin::Clear => shown(0, show_clear(out)),
-        Builtin::None => run_other(image, line, out),
+        Builtin::None => run_other(image, line, words, place, out),
     }
 }
 
-// Runs a line under a tree: its text, or the report for its handler, at the front of out.
-pub fn run(image: &[u8], line: &[u8], out: &mut [u8]) -> Ran
+// A line with the words that it has once trimmed. The image is tested, and on the way the words are followed.
+fn run_words<'a>(image: &'a [u8], line: &[u8], words: &'a [u8], out: &mut [u8]) -> Ran
+    requires { ⌜ (length (now words) ≤ 4096) × Splits (now line) (now words) ⌝ }
     ensures { λ r. ⌜ Running (now (image .entry)) (now (line .entry)) (now (out .entry)) r (now (out .exit)) ⌝ }
 {
-    if let Checked::BadFrame(n) = check_tree(image) {
+    let found = find_command(words, image);
+    let checked = found.checked;
+    if let Checked::BadFrame(n) = checked {
         return Ran::BadTree(n);
     }
     if 1024 < line.len() {
@@ -205,5 +203,27 @@ pub fn run(image: &[u8], line: &[u8], out: &mut [u8]) -> Ran
     if well_formed_prefix(line) < line.len() {
         return shown(3, show_ill_formed(out));
     }
-    handle_builtin_commands(image, line, out)
+    let place = found.place;
+    handle_builtin_commands(image, line, words, place, out)
+}
+
+// Splits a line into its words, as frames at the front of a buffer: how many bytes they take, 0 for a line that is refused. They always find
+// room: four bytes for each byte of a line.
+fn split(line: &[u8], words: &mut [u8]) -> usize
+    requires { ⌜ length (now words) ≡ 4096 ⌝ }
+    ensures { λ r. ⌜ (r ≤ 4096) × (length (now (words .exit)) ≡ 4096) × (length (now (line .entry)) ≤ 1024 → wellFormedLength (now (line .entry)) ≡ length (now (line .entry)) → textsIn (take r (now (words .exit))) ≡ wordsOf (now (line .entry))) ⌝ }
+{
+    let Tokens::Words(n) = tokenize(line, words) else {
+        return 0;
+    };
+    n
+}
+
+// Runs a line under a tree: its text, or the report for its handler, at the front of out.
+pub fn run(image: &[u8], line: &[u8], out: &mut [u8]) -> Ran
+    ensures { λ r. ⌜ Running (now (image .entry)) (now (line .entry)) (now (out .entry)) r (now (out .exit)) ⌝ }
+{
+    let mut words = [0u8; 4096];
+    let n = split(trim(line), &mut words);
+    run_words(image, line, &words[..n], out)
 }

@@ -1,63 +1,96 @@
--- Laws of the command of a name: what passing a frame makes of where it is noted.
-use Prim.Native.Nat.{ℕ, _+_, _-_, _<_, _≤_}
+-- Laws of the words that are followed down an image: what passing a frame makes of where they have led.
+use Prim.Native.Nat.{ℕ, zero, suc, _+_, _-_, _<_, _≤_}
 use mathlib.Core.Path.{_≡_, refl, sym, ap, _∙_}
-use mathlib.Core.Bool.{Bool, true, false}
-use mathlib.Core.List.{List, [], _∷_, _++_, append-assoc, append-nil}
+use mathlib.Core.Bool.{Bool, true, false, cond}
+use mathlib.Core.List.{List, [], _∷_, _++_, append-nil}
 use native.Mathlib.Omega.{arith}
-use lib.Dec.{eqb}
-use lib.ListN.{length, take, drop, getD, length-append, length-drop}
-use lib.Seq.{drop-drop, getD-drop, take-add, take-append-seam}
+use borrow.Author.Tests.{le-leb, lt-leb, leb-true, eq-eqb, ne-eqb}
+use lib.ListN.{length, take, drop, getD, length-append, length-take, length-drop}
+use lib.Seq.{append-snoc, drop-drop, getD-drop, take-add, take-append-seam}
 use Rattle.buffer.specs.Compare.{sameBytes}
 use Rattle.buffer.proofs.Choices.{then-is, else-is, true-is-not-false}
 use Rattle.frame.specs.Text.{Bytes}
-use Rattle.image.specs.Frames.{Frame, node, option, flag, encode}
+use Rattle.frame.specs.Framed.{frameFirst}
+use Rattle.frame.specs.Series.{textsIn}
+use Rattle.frame.specs.declared.framed.Framed.the-variants.{Frame as Framed}
+use Rattle.frame.proofs.Texts.{bytes-drop}
+use Rattle.frame.proofs.Series.{word-within, words-more, texts-none, whole-none, path-more, path-whole}
+use Rattle.image.specs.Frames.{Perhaps, Frame, node, option, flag, encode}
+use Rattle.image.specs.Limits.{both, fair}
 use Rattle.image.specs.Reading.{headFirst, readBy, Read, read, broken, ended, readFirst, nodeIn, optionIn, flagIn}
 use Rattle.image.specs.declared.head.Head.{Head}
 use Rattle.image.specs.declared.head.Head.the-variants.{Node, Option, Flag, Bad, End}
-use Rattle.image.proofs.Encoding.{read-back, read-within}
+use Rattle.image.proofs.Encoding.{read-back, read-within, fair-fits}
+use Rattle.image.proofs.Fields.{both-first, both-second, both-true}
 use Rattle.tree.specs.Images.{framesOf, flat}
 use Rattle.tree.specs.Rules.{obeys, checkTree}
-use Rattle.tree.specs.Steps.{nameAt, seenBy, startWalk, passed, stepBy}
-use Rattle.tree.specs.Commands.{isTop, isCommand, beforeTop, command, Holds, Trail, ahead, inside, behind, Surveying}
+use Rattle.tree.specs.Steps.{nameAt, seenBy, startWalk, passed as walked, stepBy}
+use Rattle.tree.specs.Subtrees.{isNamed, isUpper, upTo, onFrom, rooted, subtree}
+use Rattle.tree.specs.Commands.{Reached, onSubtree, descend, reachedBy, partAt, Descended, Finding, allFair, startTrail, isAbove, Inside, Followed, inside, behind, Passing}
 use Rattle.tree.specs.declared.walk.Walk.{Walk}
 use Rattle.tree.specs.declared.walk.Step.{Step}
-use Rattle.tree.specs.declared.command.Span.{Span}
+use Rattle.tree.specs.declared.command.Place.{Place}
+use Rattle.tree.specs.declared.command.Trail.{Trail}
 use Rattle.tree.specs.declared.check.Checked.the-variants.{Good, BadFrame}
-use Rattle.tree.specs.declared.check.Surveyed.{Surveyed}
-use Rattle.tree.proofs.Items.{bytes-drop, frames-read, frames-end}
+use Rattle.tree.specs.declared.check.Found.{Found}
+use Rattle.tree.proofs.Items.{frames-read, frames-end}
 use Rattle.tree.proofs.Told.{head-name}
 use Rattle.tree.proofs.Walks.{passed-at}
+use Rattle.tree.proofs.Wholes.{AllFit, flat-append, frames-flat}
 
--- A NODE OF DEPTH 0 is told by two bytes
-module _ (s : List ℕ) (b : Bytes s) (n : ℕ) where
-  top-not : (f : Frame) → readFirst s ≡ read f n → (getD s 0 0 ≡ 1 → ⊥) → false ≡ isTop f
-  unfolding encode
-  top-not (node d h name ds u) e k = absurd (k (ap (λ (x : List ℕ). getD x 0 0) (read-back s b (node d h name ds u) n e)))
-  top-not (option r c name l ds) e k = refl
-  top-not (flag c name l ds) e k = refl
+-- FRAMES UP TO A TEST, and from one on
+pub up-never : (test : Frame → Bool) → ((f : Frame) → test f ≡ false) → (fs : List Frame) → upTo test fs ≡ fs
+unfolding upTo
+up-never test n [] = refl
+up-never test n (f ∷ l) = else-is _ _ _ (n f) ∙ ap (λ (m : List Frame). f ∷ m) (up-never test n l)
 
-  top-by : (f : Frame) → readFirst s ≡ read f n → getD s 0 0 ≡ 1 → eqb (getD s 1 0) 0 ≡ isTop f
-  unfolding encode
-  top-by (node d h name ds u) e k = ap (λ (x : List ℕ). eqb (getD x 1 0) 0) (read-back s b (node d h name ds u) n e)
-  top-by (option r c name l ds) e k =
-      let z : getD s 0 0 ≡ 2 = ap (λ (x : List ℕ). getD x 0 0) (read-back s b (option r c name l ds) n e) in
-      absurd (omega arith)
-  top-by (flag c name l ds) e k =
-      let z : getD s 0 0 ≡ 3 = ap (λ (x : List ℕ). getD x 0 0) (read-back s b (flag c name l ds) n e) in
-      absurd (omega arith)
+-- a test that passes more ends earlier
+up-up : (far near : Frame → Bool) → ((f : Frame) → far f ≡ true → near f ≡ true) → (fs : List Frame) → upTo near (upTo far fs) ≡ upTo near fs
+unfolding upTo
+up-up far near k [] = refl
+up-up far near k (f ∷ l) = by (far f) refl (up-up far near k l)
+  where
+    by : (t : Bool) → far f ≡ t → upTo near (upTo far l) ≡ upTo near l → upTo near (cond t [] (f ∷ upTo far l)) ≡ cond (near f) [] (f ∷ upTo near l)
+    by true e more = sym (then-is _ _ _ (k f e))
+    by false e more = ap (λ (m : List Frame). cond (near f) [] (f ∷ m)) more
 
-module _ (image : List ℕ) (at n : ℕ) (f : Frame) (b : Bytes image) (e : readFirst (drop at image) ≡ read f n) where
-  zeroth : getD (drop at image) 0 0 ≡ getD image at 0
-  zeroth = let k : at + 0 ≡ at = omega arith in getD-drop at image 0 0 ∙ ap (λ (i : ℕ). getD image i 0) k
+on-behind : (test : Frame → Bool) (a b : List Frame) → onFrom test a ≡ [] → onFrom test (a ++ b) ≡ onFrom test b
+unfolding onFrom
+on-behind test [] b e = refl
+on-behind test (f ∷ a) b e = by (test f) e (on-behind test a b)
+  where
+    by : (t : Bool) → cond t (f ∷ a) (onFrom test a) ≡ [] → (onFrom test a ≡ [] → onFrom test (a ++ b) ≡ onFrom test b) → cond t (f ∷ (a ++ b)) (onFrom test (a ++ b)) ≡ onFrom test b
+    by true q more = absurd (let z : _≡_ {A = ℕ} 0 1 = cc in omega arith)
+    by false q more = more q
 
-  pub top-not-at : (getD image at 0 ≡ 1 → ⊥) → false ≡ isTop f
-  top-not-at k = top-not (drop at image) (bytes-drop at image b) n f e (λ z. k (sym zeroth ∙ z))
+-- a node by its depth
+above-is : (k d h : ℕ) (name ds : List ℕ) (u : Perhaps) → d < k → isAbove k (node d h name ds u) ≡ true
+above-is zero d h name ds u l = absurd (omega arith)
+above-is (suc k) d h name ds u l = le-leb d k (omega arith)
 
-  pub top-by-at : getD image at 0 ≡ 1 → eqb (getD image (at + 1) 0) 0 ≡ isTop f
-  top-by-at k = ap (λ (x : ℕ). eqb x 0) (sym (getD-drop at image 1 0)) ∙ top-by (drop at image) (bytes-drop at image b) n f e (zeroth ∙ k)
+above-not : (k d h : ℕ) (name ds : List ℕ) (u : Perhaps) → k ≤ d → isAbove k (node d h name ds u) ≡ false
+above-not zero d h name ds u l = refl
+above-not (suc k) d h name ds u l = lt-leb d k (omega arith)
 
--- its name stands four bytes on
-read-name : (image : List ℕ) (at d h : ℕ) (name ds : List ℕ) (u : _) (n : ℕ) → readFirst (drop at image) ≡ read (node d h name ds u) n → nameAt image (at + 4) ≡ name
+above-upper : (k : ℕ) (f : Frame) → isAbove k f ≡ true → isUpper k f ≡ true
+above-upper zero f e = absurd (true-is-not-false (sym e))
+above-upper (suc k) (node d h name ds u) e = let l : d ≤ k = leb-true d k e in le-leb d (suc k) (omega arith)
+above-upper (suc k) (option r c name l ds) e = absurd (true-is-not-false (sym e))
+above-upper (suc k) (flag c name l ds) e = absurd (true-is-not-false (sym e))
+
+-- frames within their limits
+pub all-fit : (fs : List Frame) → allFair fs ≡ true → AllFit fs
+unfolding allFair
+all-fit [] e = tt
+all-fit (f ∷ l) e = (fair-fits f (both-first (fair f) _ e), all-fit l (both-second (fair f) _ e))
+
+fair-both : (a b : List Frame) → allFair a ≡ true → allFair b ≡ true → allFair (a ++ b) ≡ true
+unfolding allFair
+fair-both [] b x y = y
+fair-both (f ∷ a) b x y = both-true _ _ (both-first (fair f) _ x) (fair-both a b (both-second (fair f) _ x) y)
+
+-- THE FRAME AT A PLACE: no node, or a node whose depth and name stand there
+read-name : (image : List ℕ) (at d h : ℕ) (name ds : List ℕ) (u : Perhaps) (n : ℕ) → readFirst (drop at image) ≡ read (node d h name ds u) n → nameAt image (at + 4) ≡ name
 unfolding readFirst nodeIn optionIn flagIn
 read-name image at d h name ds u n e = by (headFirst (drop at image)) refl e
   where
@@ -68,21 +101,85 @@ read-name image at d h name ds u n e = by (headFirst (drop at image)) refl e
     by Bad q r = cc
     by End q r = cc
 
-named-by : (image key : List ℕ) (at n : ℕ) (f : Frame) → readFirst (drop at image) ≡ read f n → isTop f ≡ true → isCommand key f ≡ sameBytes (nameAt image (at + 4)) key
-named-by image key at n (node d h name ds u) e t = rw (t, read-name image at d h name ds u n e) refl
-named-by image key at n (option r c name l ds) e t = cc
-named-by image key at n (flag c name l ds) e t = cc
+-- neither named nor above
+pub record Plain (f : Frame) : Type 0 where
+  pub below : (k : ℕ) → isAbove k f ≡ false
+  pub other : (k : ℕ) (w : List ℕ) → isNamed k w f ≡ false
 
-pub command-by : (image key : List ℕ) (at n : ℕ) (f : Frame) → readFirst (drop at image) ≡ read f n → isTop f ≡ true → (r : Bool) (x : List ℕ) → r ≡ sameBytes x key → x ≡ nameAt image (at + 4) → isCommand key f ≡ r
-command-by image key at n f e t r x a b = named-by image key at n f e t ∙ sym (a ∙ ap (λ (y : List ℕ). sameBytes y key) b)
+pub record NodeAt (image : List ℕ) (at : ℕ) (f : Frame) : Type 0 where
+  pub above : (k : ℕ) → getD image (at + 1) 0 < k → isAbove k f ≡ true
+  pub below : (k : ℕ) → k ≤ getD image (at + 1) 0 → isAbove k f ≡ false
+  pub other : (k : ℕ) (w : List ℕ) → (getD image (at + 1) 0 ≡ k → ⊥) → isNamed k w f ≡ false
+  pub named : (w : List ℕ) → isNamed (getD image (at + 1) 0) w f ≡ sameBytes (nameAt image (at + 4)) w
 
-not-command : (key : List ℕ) (f : Frame) → isTop f ≡ false → isCommand key f ≡ false
-not-command key (node d h name ds u) e = rw e refl
-not-command key (option r c name l ds) e = refl
-not-command key (flag c name l ds) e = refl
+plain-option : (r c : ℕ) (name : List ℕ) (l : Perhaps) (ds : List ℕ) → Plain (option r c name l ds)
+plain-option r c name l ds = record { below = by; other = λ k w. refl }
+  where
+    by : (k : ℕ) → isAbove k (option r c name l ds) ≡ false
+    by zero = refl
+    by (suc k) = refl
+
+plain-flag : (c : ℕ) (name : List ℕ) (l : Perhaps) (ds : List ℕ) → Plain (flag c name l ds)
+plain-flag c name l ds = record { below = by; other = λ k w. refl }
+  where
+    by : (k : ℕ) → isAbove k (flag c name l ds) ≡ false
+    by zero = refl
+    by (suc k) = refl
+
+module _ (image : List ℕ) (at n : ℕ) (b : Bytes image) where
+  byte-of : (i : ℕ) (f : Frame) → readFirst (drop at image) ≡ read f n → getD image (at + i) 0 ≡ getD (encode f ++ drop n (drop at image)) i 0
+  byte-of i f e = sym (getD-drop at image i 0) ∙ ap (λ (s : List ℕ). getD s i 0) (read-back (drop at image) (bytes-drop at image b) f n e)
+
+  kind-of : (f : Frame) → readFirst (drop at image) ≡ read f n → getD image at 0 ≡ getD (encode f ++ drop n (drop at image)) 0 0
+  kind-of f e = let k : at + 0 ≡ at = omega arith in ap (λ (i : ℕ). getD image i 0) (sym k) ∙ byte-of 0 f e
+
+  pub no-node : (f : Frame) → readFirst (drop at image) ≡ read f n → (getD image at 0 ≡ 1 → ⊥) → Plain f
+  unfolding encode
+  no-node (node d h name ds u) e k = absurd (k (kind-of (node d h name ds u) e))
+  no-node (option r c name l ds) e k = plain-option r c name l ds
+  no-node (flag c name l ds) e k = plain-flag c name l ds
+
+  pub node-at : (f : Frame) → readFirst (drop at image) ≡ read f n → getD image at 0 ≡ 1 → NodeAt image at f
+  unfolding encode
+  node-at (node d h name ds u) e k =
+      let q : getD image (at + 1) 0 ≡ d = byte-of 1 (node d h name ds u) e in
+      record {
+        above = λ m l. above-is m d h name ds u (omega arith);
+        below = λ m l. above-not m d h name ds u (omega arith);
+        other = λ m w l. ap (λ (t : Bool). both t (sameBytes name w)) (ne-eqb d m (λ z. l (q ∙ z)));
+        named = λ w. ap (λ (t : Bool). both t (sameBytes name w)) (eq-eqb d (getD image (at + 1) 0) (sym q)) ∙ ap (λ (x : List ℕ). sameBytes x w) (sym (read-name image at d h name ds u n e));
+      }
+  node-at (option r c name l ds) e k = let z : getD image at 0 ≡ 2 = kind-of (option r c name l ds) e in absurd (omega arith)
+  node-at (flag c name l ds) e k = let z : getD image at 0 ≡ 3 = kind-of (flag c name l ds) e in absurd (omega arith)
+
+-- WHERE THE WORDS HAVE LED, once the subtree is passed
+module _ (words image : List ℕ) (at : ℕ) (t : Trail) (passed : List Frame) (o : Inside words image at t passed) where
+  abbrev path : List (List ℕ)
+  path = textsIn (take (t .place .at) words)
+
+  abbrev left : List (List ℕ)
+  left = textsIn (drop (t .place .at) words)
+
+  stays : (l : List (List ℕ)) → left ≡ l → descend (t .depth) passed path l ≡ record { path = path; words = l; frames = passed }
+  unfolding descend subtree
+  stays [] e = refl
+  stays (w ∷ l) e =
+      ap (λ (fs : List Frame). onSubtree (rooted (t .depth) fs) (record { path = path; words = w ∷ l; frames = passed }) (λ child. descend (suc (t .depth)) child (path ++ (w ∷ [])) l)) (o .free w l e)
+
+  pub settles : upTo (isAbove (t .depth)) (framesOf (drop at image)) ≡ [] → (end : ℕ) → end ≡ at → Descended words image (record { start = t .place .start; end = end; at = t .place .at }) (reachedBy image words)
+  settles e end q =
+      let r : record { path = path; words = left; frames = passed } ≡ reachedBy image words = sym (stays left refl) ∙ ap (λ (fs : List Frame). descend (t .depth) fs path left) (sym (append-nil passed) ∙ ap (λ (l : List Frame). passed ++ l) (sym e)) ∙ o .steps in
+      let s : take (end - t .place .start) (drop (t .place .start) image) ≡ flat passed = ap (λ (m : ℕ). take (m - t .place .start) (drop (t .place .start) image)) q ∙ o .bytes in
+      record {
+        path = ap (λ (x : Reached). x .path) r;
+        left = ap (λ (x : Reached). x .words) r;
+        frames = ap framesOf s ∙ frames-flat passed (all-fit passed (o .fair)) ∙ ap (λ (x : Reached). x .frames) r;
+        within = record { order = let a = o .start in omega arith; inside = let a = o .within in omega arith; passed = o .behind };
+        none = λ z. o .none (ap (λ (x : Reached). x .path) r ∙ z);
+      }
 
 -- ONE FRAME MORE
-module _ (image key : List ℕ) (b : Bytes image) (at n : ℕ) (f : Frame) (e : readFirst (drop at image) ≡ read f n) where
+module _ (words image : List ℕ) (b : Bytes image) (at n : ℕ) (f : Frame) (e : readFirst (drop at image) ≡ read f n) (good : fair f ≡ true) (h : at < length image) where
   abbrev more : List Frame
   more = framesOf (drop (at + n) image)
 
@@ -98,12 +195,12 @@ module _ (image key : List ℕ) (b : Bytes image) (at n : ℕ) (f : Frame) (e : 
       let size : n ≡ length (encode f) = omega arith in
       ap (take n) back ∙ ap (λ (m : ℕ). take m (encode f ++ drop n (drop at image))) size ∙ take-append-seam (encode f) (drop n (drop at image))
 
-  within : at < length image → (0 < n) × (at + n ≤ length image)
-  within h = let l = length-drop at image in let w = read-within (drop at image) f n e in (w .0, let k = w .1 in omega arith)
+  within : at + n ≤ length image
+  within = let l = length-drop at image in let w = read-within (drop at image) f n e .1 in omega arith
 
   -- the bytes from a place before
   front-on : (start : ℕ) → start ≤ at → take (at + n - start) (drop start image) ≡ take (at - start) (drop start image) ++ encode f
-  front-on start h =
+  front-on start l =
       let k : at + n - start ≡ at - start + n = omega arith in
       let j : start + (at - start) ≡ at = omega arith in
       ap (λ (m : ℕ). take m (drop start image)) k
@@ -111,109 +208,208 @@ module _ (image key : List ℕ) (b : Bytes image) (at n : ℕ) (f : Frame) (e : 
       ∙ ap (λ (l : List ℕ). take (at - start) (drop start image) ++ take n l) (drop-drop (at - start) start image ∙ ap (λ (m : ℕ). drop m image) j)
       ∙ ap (λ (l : List ℕ). take (at - start) (drop start image) ++ l) bytes-on
 
-  command-on : isCommand key f ≡ false → command key more ≡ command key (framesOf (drop at image))
-  unfolding command
-  command-on c = sym (ap (command key) frames-on ∙ else-is _ _ _ c)
+  flat-one : flat (f ∷ []) ≡ encode f
+  unfolding flat
+  flat-one = append-nil (encode f)
 
-  before-on : isTop f ≡ false → encode f ++ flat (beforeTop more) ≡ flat (beforeTop (framesOf (drop at image)))
-  unfolding beforeTop flat
-  before-on t = sym (ap (λ (l : List Frame). flat (beforeTop l)) frames-on ∙ ap flat (else-is _ _ _ t))
+  fair-one : allFair (f ∷ []) ≡ true
+  unfolding allFair
+  fair-one = both-true _ _ good refl
 
-  before-none : isTop f ≡ true → beforeTop (framesOf (drop at image)) ≡ []
-  unfolding beforeTop
-  before-none t = ap beforeTop frames-on ∙ then-is _ _ _ t
+  up-past : (test : Frame → Bool) → test f ≡ false → upTo test (framesOf (drop at image)) ≡ f ∷ upTo test more
+  unfolding upTo
+  up-past test k = ap (upTo test) frames-on ∙ else-is _ _ _ k
 
-  command-here : isCommand key f ≡ true → encode f ++ flat (beforeTop more) ≡ flat (command key (framesOf (drop at image)))
-  unfolding command flat
-  command-here c = sym (ap (λ (l : List Frame). flat (command key l)) frames-on ∙ ap flat (then-is _ _ _ c))
+  up-here : (test : Frame → Bool) → test f ≡ true → upTo test (framesOf (drop at image)) ≡ []
+  unfolding upTo
+  up-here test k = ap (upTo test) frames-on ∙ then-is _ _ _ k
 
-  module _ (h : at < length image) (s : Span) where
-    -- no node of depth 0: all stays as it is
-    pub trail-on : isTop f ≡ false → Trail image key at s → Trail image key (at + n) s
-    trail-on t (ahead a z q) = ahead a z (command-on (not-command key f t) ∙ q)
-    trail-on t (inside a w z q) =
-        let k = within h in
-        inside (omega (arith, k .0)) (k .1) z
-        (ap (λ (l : List ℕ). l ++ flat (beforeTop more)) (front-on (s .start) (omega arith))
-        ∙ append-assoc (take (at - s .start) (drop (s .start) image)) (encode f) (flat (beforeTop more))
-        ∙ ap (λ (l : List ℕ). take (at - s .start) (drop (s .start) image) ++ l) (before-on t)
-        ∙ q)
-    trail-on t (behind a z q) = behind a z q
+  on-other : (test : Frame → Bool) → test f ≡ false → onFrom test (f ∷ []) ≡ []
+  unfolding onFrom
+  on-other test k = else-is _ _ _ k
 
-    -- one of another name
-    pub trail-other : isCommand key f ≡ false → s .start ≡ s .end → Trail image key at s → Trail image key (at + n) s
-    trail-other c o (ahead a z q) = ahead a z (command-on c ∙ q)
-    trail-other c o (inside a w z q) = absurd (omega arith)
-    trail-other c o (behind a z q) = absurd (omega arith)
+  on-met : (test : Frame → Bool) (l : List Frame) → test f ≡ true → onFrom test (f ∷ l) ≡ f ∷ l
+  unfolding onFrom
+  on-met test l k = then-is _ _ _ k
 
-    -- the one
-    pub trail-met : isCommand key f ≡ true → s .start ≡ s .end → Trail image key at s → Trail image key (at + n) (record { start = at; end = length image })
-    trail-met c o (ahead a z q) =
-        let k = within h in
-        let j : at + n - at ≡ n = omega arith in
-        inside (omega (arith, k .0)) (k .1) refl
-        (ap (λ (m : ℕ). take m (drop at image) ++ flat (beforeTop more)) j ∙ ap (λ (l : List ℕ). l ++ flat (beforeTop more)) bytes-on ∙ command-here c ∙ ap flat q)
-    trail-met c o (inside a w z q) = absurd (omega arith)
-    trail-met c o (behind a z q) = absurd (omega arith)
+  module _ (t : Trail) (passed : List Frame) (o : Inside words image at t passed) where
+    -- it is below, and no child that is named next
+    pub passes-by : isAbove (t .depth) f ≡ false → ((w : List ℕ) (l : List (List ℕ)) → left words image at t passed o ≡ w ∷ l → isNamed (t .depth) w f ≡ false) → Inside words image (at + n) t (passed ++ (f ∷ []))
+    passes-by a m =
+        record {
+          start = let s = o .start in omega arith;
+          within = within;
+          end = o .end;
+          behind = o .behind;
+          whole = o .whole;
+          none = o .none;
+          bytes = front-on (t .place .start) (o .start) ∙ ap (λ (s : List ℕ). s ++ encode f) (o .bytes) ∙ ap (λ (s : List ℕ). flat passed ++ s) (sym flat-one) ∙ sym (flat-append passed (f ∷ []));
+          fair = fair-both passed (f ∷ []) (o .fair) fair-one;
+          free = λ w l q. on-behind (isNamed (t .depth) w) passed (f ∷ []) (o .free w l q) ∙ on-other (isNamed (t .depth) w) (m w l q);
+          steps =
+              ap (λ (fs : List Frame). descend (t .depth) fs (path words image at t passed o) (left words image at t passed o)) (append-snoc passed f (upTo (isAbove (t .depth)) more) ∙ ap (λ (fs : List Frame). passed ++ fs) (sym (up-past (isAbove (t .depth)) a)))
+              ∙ o .steps;
+        }
 
-    -- the next one behind it
-    pub trail-left : isTop f ≡ true → (s .start ≡ s .end → ⊥) → s .end ≡ length image → Trail image key at s → Trail image key (at + n) (record { start = s .start; end = at })
-    unfolding flat
-    trail-left t o l (ahead a z q) = absurd (o (a ∙ sym z))
-    trail-left t o l (inside a w z q) =
-        behind a h
-        (sym (append-nil (take (at - s .start) (drop (s .start) image)))
-        ∙ sym (ap (λ (m : List Frame). take (at - s .start) (drop (s .start) image) ++ flat m) (before-none t)) ∙ q)
-    trail-left t o l (behind a z q) = absurd (omega arith)
+    -- it is above: the subtree is passed
+    pub closes : isAbove (t .depth) f ≡ true → Descended words image (record { start = t .place .start; end = at; at = t .place .at }) (reachedBy image words)
+    closes a = settles words image at t passed o (up-here (isAbove (t .depth)) a) at refl
 
-    -- a further one
-    pub trail-past : (s .start ≡ s .end → ⊥) → (s .end ≡ length image → ⊥) → Trail image key at s → Trail image key (at + n) s
-    trail-past o l (ahead a z q) = absurd (o (a ∙ sym z))
-    trail-past o l (inside a w z q) = absurd (l z)
-    trail-past o l (behind a z q) = behind a z q
+    -- it is the child that is named next
+    module _ (kind m : ℕ) (q : frameFirst (drop (t .place .at) words) ≡ Framed kind m) (bw : Bytes words) (s : length words ≤ 4096) (a : isAbove (t .depth) f ≡ false) where
+      abbrev word : List ℕ
+      word = take m (drop (t .place .at + 3) words)
+
+      abbrev next : Trail
+      next = record { place = record { start = at; end = length image; at = t .place .at + 3 + m }; depth = t .depth + 1 }
+
+      child : isNamed (t .depth) word f ≡ true → subtree (t .depth) word (passed ++ upTo (isAbove (t .depth)) (framesOf (drop at image))) ≡ f ∷ upTo (isUpper (t .depth)) more
+      unfolding subtree
+      child c =
+          ap (rooted (t .depth))
+          (ap (λ (l : List Frame). onFrom (isNamed (t .depth) word) (passed ++ l)) (up-past (isAbove (t .depth)) a)
+          ∙ on-behind (isNamed (t .depth) word) passed (f ∷ upTo (isAbove (t .depth)) more) (o .free word _ (words-more words (t .place .at) kind m q))
+          ∙ on-met (isNamed (t .depth) word) (upTo (isAbove (t .depth)) more) c)
+          ∙ ap (λ (l : List Frame). f ∷ l) (up-up (isAbove (t .depth)) (isUpper (t .depth)) (above-upper (t .depth)) more)
+
+      onward : isNamed (t .depth) word f ≡ true → descend (suc (t .depth)) (f ∷ upTo (isUpper (t .depth)) more) (path words image at t passed o ++ (word ∷ [])) (textsIn (drop (t .place .at + 3 + m) words)) ≡ reachedBy image words
+      unfolding descend
+      onward c =
+          sym (ap (λ (fs : List Frame). onSubtree fs (record { path = path words image at t passed o; words = word ∷ textsIn (drop (t .place .at + 3 + m) words); frames = passed ++ upTo (isAbove (t .depth)) (framesOf (drop at image)) }) (λ c₂. descend (suc (t .depth)) c₂ (path words image at t passed o ++ (word ∷ [])) (textsIn (drop (t .place .at + 3 + m) words)))) (child c))
+          ∙ sym (ap (descend (t .depth) (passed ++ upTo (isAbove (t .depth)) (framesOf (drop at image))) (path words image at t passed o)) (words-more words (t .place .at) kind m q))
+          ∙ o .steps
+
+      longer : (l : List (List ℕ)) → l ++ (word ∷ []) ≡ [] → ⊥
+      longer [] z = let y : _≡_ {A = ℕ} 0 1 = cc in omega arith
+      longer (x ∷ l) z = let y : _≡_ {A = ℕ} 0 1 = cc in omega arith
+
+      shorter : length words < 65536
+      shorter = omega arith
+
+      pub enters : isNamed (t .depth) word f ≡ true → ((w : List ℕ) → isNamed (t .depth + 1) w f ≡ false) → Inside words image (at + n) next (f ∷ [])
+      enters c d =
+          let k : at + n - at ≡ n = omega arith in
+          let j : t .depth + 1 ≡ suc (t .depth) = omega arith in
+          let p = path-more words (t .place .at) kind m q bw shorter (o .whole) in
+          record {
+            start = omega arith;
+            within = within;
+            end = refl;
+            behind = word-within words (t .place .at) kind m q;
+            whole = path-whole words (t .place .at) kind m q bw shorter (o .whole);
+            none = λ z. absurd (longer (path words image at t passed o) (sym p ∙ z));
+            bytes = ap (λ (i : ℕ). take i (drop at image)) k ∙ bytes-on ∙ sym flat-one;
+            fair = fair-one;
+            free = λ w l r. on-other (isNamed (t .depth + 1) w) (d w);
+            steps =
+                ap (λ (i : ℕ). descend i (f ∷ upTo (isAbove i) more) (textsIn (take (t .place .at + 3 + m) words)) (textsIn (drop (t .place .at + 3 + m) words))) j
+                ∙ ap (λ (r : List (List ℕ)). descend (suc (t .depth)) (f ∷ upTo (isUpper (t .depth)) more) r (textsIn (drop (t .place .at + 3 + m) words))) p
+                ∙ onward c;
+          }
+
+-- THE TURNS OF THE CODE
+module _ (words image : List ℕ) (b : Bytes image) (at : ℕ) (h : at < length image) (t : Trail) where
+  -- no node
+  pub past-plain : (getD image at 0 ≡ 1 → ⊥) → Passing words image at t t
+  past-plain k f n e g (inside passed o) =
+      let x = no-node image at n b f e k in
+      inside _ (passes-by words image b at n f e g h t passed o (x .below (t .depth)) (λ w l q. x .other (t .depth) w))
+  past-plain k f n e g (behind z d) = behind z d
+
+  -- the subtree is passed already
+  pub past-behind : t .place .end < length image → Passing words image at t t
+  past-behind k f n e g (inside passed o) = absurd (let q = o .end in omega arith)
+  past-behind k f n e g (behind z d) = behind z d
+
+  module _ (kind : getD image at 0 ≡ 1) where
+    -- a node below a child
+    pub past-deep : t .depth < getD image (at + 1) 0 → Passing words image at t t
+    past-deep k f n e g (inside passed o) =
+        let x = node-at image at n b f e kind in
+        inside _ (passes-by words image b at n f e g h t passed o (x .below (t .depth) (omega arith)) (λ w l q. x .other (t .depth) w (λ z. omega arith)))
+    past-deep k f n e g (behind z d) = behind z d
+
+    -- a node that is not below
+    pub past-above : getD image (at + 1) 0 < t .depth → length image ≤ t .place .end → Passing words image at t (record { place = record { start = t .place .start; end = at; at = t .place .at }; depth = t .depth })
+    past-above k l f n e g (inside passed o) =
+        let x = node-at image at n b f e kind in
+        behind h (closes words image b at n f e g h t passed o (x .above (t .depth) k))
+    past-above k l f n e g (behind z d) = absurd (omega arith)
+
+    -- a child, where no word is left, of another name, and of the name that is next
+    module _ (deep : getD image (at + 1) 0 ≡ t .depth) (end : length image ≤ t .place .end) where
+      pub past-last : textsIn (drop (t .place .at) words) ≡ [] → Passing words image at t t
+      past-last k f n e g (inside passed o) =
+          let x = node-at image at n b f e kind in
+          inside _ (passes-by words image b at n f e g h t passed o (x .below (t .depth) (omega arith)) (λ w l q. absurd (let z : _≡_ {A = ℕ} 0 1 = cc in omega arith)))
+      past-last k f n e g (behind z d) = absurd (omega arith)
+
+      module _ (framed m : ℕ) (q : frameFirst (drop (t .place .at) words) ≡ Framed framed m) (name word : List ℕ) (r : Bool)
+          (is-name : name ≡ nameAt image (at + 4)) (is-word : word ≡ take m (drop (t .place .at + 3) words)) (is-same : r ≡ sameBytes name word) where
+        named-as : (f : Frame) (n : ℕ) → readFirst (drop at image) ≡ read f n → isNamed (t .depth) (take m (drop (t .place .at + 3) words)) f ≡ r
+        named-as f n e =
+            let x = node-at image at n b f e kind in
+            ap (λ (k : ℕ). isNamed k (take m (drop (t .place .at + 3) words)) f) (sym deep) ∙ x .named (take m (drop (t .place .at + 3) words))
+            ∙ sym (is-same ∙ ap (λ (s : List ℕ). sameBytes s word) is-name ∙ ap (sameBytes (nameAt image (at + 4))) is-word)
+
+        pub past-other : r ≡ false → Passing words image at t t
+        past-other k f n e g (inside passed o) =
+            let x = node-at image at n b f e kind in
+            inside _
+            (passes-by words image b at n f e g h t passed o (x .below (t .depth) (omega arith))
+            (λ w l z. let y : w ≡ take m (drop (t .place .at + 3) words) = cc (z, words-more words (t .place .at) framed m q) in ap (λ (s : List ℕ). isNamed (t .depth) s f) y ∙ named-as f n e ∙ k))
+        past-other k f n e g (behind z d) = absurd (omega arith)
+
+        pub past-named : Bytes words → length words ≤ 4096 → r ≡ true → Passing words image at t (record { place = record { start = at; end = length image; at = t .place .at + 3 + m }; depth = t .depth + 1 })
+        past-named bw s k f n e g (inside passed o) =
+            let x = node-at image at n b f e kind in
+            inside _
+            (enters words image b at n f e g h t passed o framed m q bw s (x .below (t .depth) (omega arith)) (named-as f n e ∙ k)
+            (λ w. x .other (t .depth + 1) w (λ z. omega arith)))
+        past-named bw s k f n e g (behind z d) = absurd (omega arith)
 
 -- THE START AND THE END
-pub trail-sets-out : (image key : List ℕ) (walk : Walk) (s : Span) → walk ≡ startWalk → s .start ≡ 0 → s .end ≡ 0 → Trail image key (walk .at) s
-trail-sets-out image key walk s e a z = rw e (ahead a z refl)
+pub follows-start : (words image : List ℕ) (walk : Walk) (t : Trail) → walk ≡ startWalk → t ≡ startTrail image → Followed words image (walk .at) t
+unfolding flat allFair onFrom reachedBy
+follows-start words image walk t e q =
+    rw (e, q)
+    (inside []
+    (record {
+      start = omega arith;
+      within = omega arith;
+      end = refl;
+      behind = omega arith;
+      whole = whole-none;
+      none = λ z. refl;
+      bytes = refl;
+      fair = refl;
+      free = λ w l z. refl;
+      steps = ap (λ (fs : List Frame). descend 0 fs (textsIn []) (textsIn words)) (up-never (isAbove 0) (λ f. refl) (framesOf image)) ∙ ap (λ (p : List (List ℕ)). descend 0 (framesOf image) p (textsIn words)) texts-none;
+    }))
 
-pub trail-ends : (image key : List ℕ) (at : ℕ) (s : Span) → length image ≤ at → Trail image key at s → Holds image (command key (framesOf image)) s
-unfolding command beforeTop flat
-trail-ends image key at s h (ahead a z q) =
-    let k : s .end - s .start ≡ 0 = omega arith in
-    let none : command key (framesOf (drop at image)) ≡ [] = ap (command key) (frames-end image at h) in
-    record {
-      order = omega arith;
-      inside = omega arith;
-      bytes = ap (λ (m : ℕ). take m (drop (s .start) image)) k ∙ sym (ap flat (sym q ∙ none));
-    }
-trail-ends image key at s h (inside a w z q) =
-    let none : beforeTop (framesOf (drop at image)) ≡ [] = ap beforeTop (frames-end image at h) in
-    let k : s .end - s .start ≡ at - s .start = omega arith in
-    record {
-      order = omega arith;
-      inside = omega arith;
-      bytes =
-          ap (λ (m : ℕ). take m (drop (s .start) image)) k
-          ∙ sym (append-nil (take (at - s .start) (drop (s .start) image)))
-          ∙ sym (ap (λ (m : List Frame). take (at - s .start) (drop (s .start) image) ++ flat m) none) ∙ q;
-    }
-trail-ends image key at s h (behind a z q) = record { order = omega arith; inside = omega arith; bytes = q }
+pub follows-end : (words image : List ℕ) (at : ℕ) (t : Trail) → length image ≤ at → Followed words image at t → Descended words image (t .place) (reachedBy image words)
+unfolding upTo
+follows-end words image at t h (inside passed o) =
+    settles words image at t passed o (ap (upTo (isAbove (t .depth))) (frames-end image at h)) (t .place .end) (let a = o .end in let b = o .within in omega arith)
+follows-end words image at t h (behind z d) = d
 
 -- one turn of the walk
-pub trail-turn : (image key : List ℕ) (walk : Walk) (r : Step) (s t : Span) (x : Read) → readFirst (drop (walk .at) image) ≡ x → r ≡ stepBy (seenBy image walk) walk x → r .ok ≡ true
-    → ((f : Frame) (n : ℕ) → readFirst (drop (walk .at) image) ≡ read f n → Trail image key (walk .at) s → Trail image key (walk .at + n) t)
-    → Trail image key (walk .at) s → Trail image key (r .walk .at) t
-unfolding stepBy
-trail-turn image key walk r s t (read f n) e st o turn i =
+pub follows-turn : (words image : List ℕ) (walk : Walk) (r : Step) (t u : Trail) (x : Read) → readFirst (drop (walk .at) image) ≡ x → r ≡ stepBy (seenBy image walk) walk x → r .ok ≡ true
+    → Passing words image (walk .at) t u → Followed words image (walk .at) t → Followed words image (r .walk .at) u
+unfolding stepBy obeys
+follows-turn words image walk r t u (read f n) e st o turn i =
     let obeyed : obeys (seenBy image walk) f ≡ true = sym (ap (λ (step : Step). step .ok) st) ∙ o in
-    let next : r .walk ≡ passed walk f n = ap (λ (step : Step). step .walk) st ∙ then-is _ _ _ obeyed in
-    rw (ap (λ (w : Walk). w .at) next ∙ passed-at walk f n) (turn f n e i)
-trail-turn image key walk r s t broken e st o turn i = absurd (true-is-not-false (sym o ∙ ap (λ (step : Step). step .ok) st))
-trail-turn image key walk r s t ended e st o turn i = absurd (true-is-not-false (sym o ∙ ap (λ (step : Step). step .ok) st))
+    let next : r .walk ≡ walked walk f n = ap (λ (step : Step). step .walk) st ∙ then-is _ _ _ obeyed in
+    rw (ap (λ (w : Walk). w .at) next ∙ passed-at walk f n) (turn f n e (both-first (fair f) _ obeyed) i)
+follows-turn words image walk r t u broken e st o turn i = absurd (true-is-not-false (sym o ∙ ap (λ (step : Step). step .ok) st))
+follows-turn words image walk r t u ended e st o turn i = absurd (true-is-not-false (sym o ∙ ap (λ (step : Step). step .ok) st))
+
+pub part-most : (image : List ℕ) (place : Place) → length (partAt image place) ≤ place .end - place .start
+part-most image place = rw length-take (omega arith)
 
 -- THE ANSWER
-pub survey-bad : (image key : List ℕ) (r : Surveyed) (n : ℕ) → r .checked ≡ BadFrame n → BadFrame n ≡ checkTree image → Surveying image key r
-survey-bad image key r n e q = record { checked = e ∙ q; command = λ g. absurd (let z : _≡_ {A = ℕ} 0 1 = cc in omega arith) }
+pub found-bad : (words image : List ℕ) (r : Found) (n : ℕ) → r .checked ≡ BadFrame n → BadFrame n ≡ checkTree image → Finding words image r
+found-bad words image r n e q = record { checked = e ∙ q; place = λ g. absurd (let z : _≡_ {A = ℕ} 0 1 = cc in omega arith) }
 
-pub survey-good : (image key : List ℕ) (s : Span) → Good ≡ checkTree image → Holds image (command key (framesOf image)) s → Surveying image key (record { checked = Good; command = s })
-survey-good image key s e h = record { checked = e; command = λ g. h }
+pub found-good : (words image : List ℕ) (p : Place) → Good ≡ checkTree image → Descended words image p (reachedBy image words) → Finding words image (record { checked = Good; place = p })
+found-good words image p e d = record { checked = e; place = λ g. d }

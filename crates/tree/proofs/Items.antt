@@ -5,11 +5,10 @@ use mathlib.Core.Bool.{true, false}
 use mathlib.Core.List.{List, [], _∷_}
 use native.Mathlib.Omega.{arith}
 use lib.ListN.{length, drop, length-drop}
-use lib.Seq.{getD-drop, drop-drop}
+use lib.Seq.{drop-drop}
 use borrow.Author.Tests.{lt-ltb, le-ltb}
 use Rattle.buffer.proofs.Lists.{drop-end}
 use Rattle.buffer.proofs.Choices.{then-is, true-is-not-false}
-use Rattle.frame.specs.Text.{Bytes}
 use Rattle.image.specs.Frames.{Frame}
 use Rattle.image.specs.Reading.{headFirst, Read, read, broken, ended, readFirst}
 use Rattle.image.proofs.Encoding.{read-within, read-ended}
@@ -20,11 +19,6 @@ use Rattle.tree.specs.declared.walk.Walk.{Walk}
 use Rattle.tree.specs.declared.walk.Step.{Step}
 use Rattle.tree.specs.declared.check.Checked.the-variants.{Good, BadFrame}
 use Rattle.tree.proofs.Told.{passes}
-
--- bytes from a place on are bytes
-pub bytes-drop : (n : ℕ) (s : List ℕ) → Bytes s → Bytes (drop n s)
-unfolding Bytes
-bytes-drop n s b i = rw (getD-drop n s i 0) (b (n + i))
 
 items-skip : (s : List ℕ) (j : ℕ) → itemsFrom s j ≡ itemsFrom (drop j s) 0
 unfolding itemsFrom

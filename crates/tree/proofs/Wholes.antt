@@ -1,14 +1,15 @@
 -- An image is well-formed exactly if it is frames, joined, that all obey, within the byte limit; and so is each prefix of its frames.
 use Prim.Native.Nat.{ℕ, zero, suc, _+_, _≤_}
-use mathlib.Core.Path.{_≡_, refl, ap, _∙_}
+use mathlib.Core.Path.{_≡_, refl, sym, ap, _∙_}
 use mathlib.Core.Bool.{Bool, true, false, cond}
-use mathlib.Core.List.{List, [], _∷_, _++_, map}
+use mathlib.Core.List.{List, [], _∷_, _++_, append-assoc, map}
 use native.Mathlib.Omega.{arith}
 use lib.Dec.{ltb}
 use lib.ListN.{length, take, drop, length-append}
 use lib.Seq.{drop-append-seam}
 use borrow.Author.Tests.{le-ltb, ltb-false}
 use Rattle.frame.specs.Text.{Bytes}
+use Rattle.frame.proofs.Texts.{bytes-drop}
 use Rattle.image.specs.Frames.{Frame, encode}
 use Rattle.image.specs.Limits.{both, fair}
 use Rattle.image.specs.Reading.{Read, read, broken, ended, readFirst}
@@ -17,11 +18,16 @@ use Rattle.image.proofs.Encoding.{Fits, fair-fits, frame-read, read-back, read-
 use Rattle.tree.specs.Images.{Item, whole, torn, items, framesIn, framesOf, flat}
 use Rattle.tree.specs.Rules.{Seen, start, follows, obeys, after, judge, obeyAll, checkTree}
 use Rattle.tree.specs.declared.check.Checked.the-variants.{Good, BadFrame}
-use Rattle.tree.proofs.Items.{items-read, items-broken, items-none, bytes-drop}
+use Rattle.tree.proofs.Items.{items-read, items-broken, items-none}
 
 abbrev pub AllFit : List Frame → Type 0
 AllFit [] = Unit
 AllFit (f ∷ l) = Fits f × AllFit l
+
+pub flat-append : (a b : List Frame) → flat (a ++ b) ≡ flat a ++ flat b
+unfolding flat
+flat-append [] b = refl
+flat-append (f ∷ a) b = rw (flat-append a b) (sym (append-assoc (encode f) (flat a) (flat b)))
 
 -- frames that were joined are read back
 pub items-flat : (fs : List Frame) → AllFit fs → items (flat fs) ≡ map whole fs

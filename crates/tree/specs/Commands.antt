@@ -1,56 +1,100 @@
--- The command of a name in a list of frames: its node of depth 0 and all frames before the next node of depth 0. And how the code notes where it lies.
-use Prim.Native.Nat.{ℕ, _+_, _-_, _<_, _≤_}
+-- The command that words name (01, "Arguments"): the first word names a node of depth 0, and words are followed while they name a child. And how the code follows them
+-- while the frames of the image are passed.
+use Prim.Native.Nat.{ℕ, zero, suc, _+_, _-_, _<_, _≤_}
 use mathlib.Core.Path.{_≡_}
-use mathlib.Core.Bool.{Bool, false, cond}
+use mathlib.Core.Bool.{Bool, true, false}
 use mathlib.Core.List.{List, [], _∷_, _++_}
-use lib.Dec.{eqb}
 use lib.ListN.{length, take, drop}
-use Rattle.buffer.specs.Compare.{sameBytes}
-use Rattle.image.specs.Frames.{Frame, node, option, flag}
-use Rattle.image.specs.Limits.{both}
+use Rattle.frame.specs.Series.{textsIn, Whole}
+use Rattle.image.specs.Frames.{Frame}
+use Rattle.image.specs.Reading.{read, readFirst}
+use Rattle.image.specs.Limits.{both, fair}
 use Rattle.tree.specs.Images.{framesOf, flat}
 use Rattle.tree.specs.Rules.{checkTree}
+use Rattle.tree.specs.Subtrees.{isNamed, isUpper, upTo, onFrom, subtree}
 use Rattle.tree.specs.declared.check.Checked.the-variants.{Good}
-use Rattle.tree.specs.declared.check.Surveyed.{Surveyed}
-use Rattle.tree.specs.declared.command.Span.{Span}
+use Rattle.tree.specs.declared.check.Found.{Found}
+use Rattle.tree.specs.declared.command.Place.{Place}
+use Rattle.tree.specs.declared.command.Trail.{Trail}
 
--- a node of depth 0
-abbrev pub isTop : Frame → Bool
-isTop (node d h name description usage) = eqb d 0
-isTop (option r c name long description) = false
-isTop (flag c name long description) = false
+-- the command that words lead to: its path, the words left over, and its subtree
+pub record Reached : Type 0 where
+  pub path : List (List ℕ)
+  pub words : List (List ℕ)
+  pub frames : List Frame
 
--- one of that name
-abbrev pub isCommand : List ℕ → Frame → Bool
-isCommand key (node d h name description usage) = both (eqb d 0) (sameBytes name key)
-isCommand key (option r c name long description) = false
-isCommand key (flag c name long description) = false
+abbrev pub onSubtree : {A : Type 0} → List Frame → A → (List Frame → A) → A
+onSubtree [] absent found = absent
+onSubtree (f ∷ l) absent found = found (f ∷ l)
 
-unfoldable pub beforeTop : List Frame → List Frame
-beforeTop [] = []
-beforeTop (f ∷ l) = cond (isTop f) [] (f ∷ beforeTop l)
+-- words are followed while they name a child, which is a node of that depth in the subtree
+unfoldable pub descend : ℕ → List Frame → List (List ℕ) → List (List ℕ) → Reached
+descend depth frames path [] = record { path = path; words = []; frames = frames }
+descend depth frames path (w ∷ words) =
+    onSubtree (subtree depth w frames)
+    (record { path = path; words = w ∷ words; frames = frames })
+    (λ child. descend (suc depth) child (path ++ (w ∷ [])) words)
 
-unfoldable pub command : List ℕ → List Frame → List Frame
-command key [] = []
-command key (f ∷ l) = cond (isCommand key f) (f ∷ beforeTop l) (command key l)
+-- from the top of a tree; where the first word names no command the path is empty
+unfoldable pub reachedBy : List ℕ → List ℕ → Reached
+reachedBy image words = descend 0 (framesOf image) [] (textsIn words)
 
-abbrev pub spanned : List ℕ → Span → List ℕ
-spanned image s = take (s .end - s .start) (drop (s .start) image)
+-- a part of the image
+abbrev pub partAt : List ℕ → Place → List ℕ
+partAt image place = take (place .end - place .start) (drop (place .start) image)
 
--- a part that holds these frames and nothing else, empty where there are none
-pub record Holds (image : List ℕ) (frames : List Frame) (s : Span) : Type 0 where
-  pub order : s .start ≤ s .end
-  pub inside : s .end ≤ length image
-  pub bytes : spanned image s ≡ flat frames
+-- a place within the image and the words
+pub record Within (words image : List ℕ) (place : Place) : Type 0 where
+  pub order : place .start ≤ place .end
+  pub inside : place .end ≤ length image
+  pub passed : place .at ≤ length words
 
--- what is noted when the bytes before a place are passed: the command is still ahead, the place is inside of it, or it is behind
-pub data Trail (image key : List ℕ) (at : ℕ) (s : Span) : Type 0 where
-  ahead : s .start ≡ 0 → s .end ≡ 0 → command key (framesOf (drop at image)) ≡ command key (framesOf image) → Trail image key at s
-  inside : s .start < at → at ≤ length image → s .end ≡ length image
-      → take (at - s .start) (drop (s .start) image) ++ flat (beforeTop (framesOf (drop at image))) ≡ flat (command key (framesOf image)) → Trail image key at s
-  behind : s .start < s .end → s .end < length image → spanned image s ≡ flat (command key (framesOf image)) → Trail image key at s
+-- a place that words have led to: the command's part of the image, and the words behind its path
+pub record Descended (words image : List ℕ) (place : Place) (r : Reached) : Type 0 where
+  pub path : textsIn (take (place .at) words) ≡ r .path
+  pub left : textsIn (drop (place .at) words) ≡ r .words
+  pub frames : framesOf (partAt image place) ≡ r .frames
+  pub within : Within words image place
+  pub none : r .path ≡ [] → place .at ≡ 0
 
--- an image tested, and where the command of a name lies in it
-pub record Surveying (image key : List ℕ) (r : Surveyed) : Type 0 where
+-- an image tested, and where the words lead in it
+pub record Finding (words image : List ℕ) (r : Found) : Type 0 where
   pub checked : r .checked ≡ checkTree image
-  pub command : checkTree image ≡ Good → Holds image (command key (framesOf image)) (r .command)
+  pub place : checkTree image ≡ Good → Descended words image (r .place) (reachedBy image words)
+
+-- frames within their limits
+unfoldable pub allFair : List Frame → Bool
+allFair [] = true
+allFair (f ∷ l) = both (fair f) (allFair l)
+
+-- no frame is passed
+abbrev pub startTrail : List ℕ → Trail
+startTrail image = record { place = record { start = 0; end = length image; at = 0 }; depth = 0 }
+
+-- a node above those of a depth
+abbrev pub isAbove : ℕ → Frame → Bool
+isAbove zero f = false
+isAbove (suc d) f = isUpper d f
+
+-- the words have led to a node of whose subtree these frames are passed, the rest is still ahead, and no child among them has the next word's name
+pub record Inside (words image : List ℕ) (at : ℕ) (t : Trail) (passed : List Frame) : Type 0 where
+  pub start : t .place .start ≤ at
+  pub within : at ≤ length image
+  pub end : t .place .end ≡ length image
+  pub behind : t .place .at ≤ length words
+  pub whole : Whole (take (t .place .at) words)
+  pub none : textsIn (take (t .place .at) words) ≡ [] → t .place .at ≡ 0
+  pub bytes : take (at - t .place .start) (drop (t .place .start) image) ≡ flat passed
+  pub fair : allFair passed ≡ true
+  pub free : (w : List ℕ) (l : List (List ℕ)) → textsIn (drop (t .place .at) words) ≡ w ∷ l → onFrom (isNamed (t .depth) w) passed ≡ []
+  pub steps : descend (t .depth) (passed ++ upTo (isAbove (t .depth)) (framesOf (drop at image))) (textsIn (take (t .place .at) words)) (textsIn (drop (t .place .at) words))
+      ≡ reachedBy image words
+
+-- what is known when the bytes before a place are passed: the place is inside the subtree of the last node named, or behind it, and nothing more is named
+pub data Followed (words image : List ℕ) (at : ℕ) (t : Trail) : Type 0 where
+  inside : (passed : List Frame) → Inside words image at t passed → Followed words image at t
+  behind : t .place .end < length image → Descended words image (t .place) (reachedBy image words) → Followed words image at t
+
+-- one frame more, which keeps its limits
+abbrev pub Passing : List ℕ → List ℕ → ℕ → Trail → Trail → Type 0
+Passing words image at t r = (f : Frame) (n : ℕ) → readFirst (drop at image) ≡ read f n → fair f ≡ true → Followed words image at t → Followed words image (at + n) r

@@ -1,11 +1,14 @@
-// The image test: whether a whole image keeps the rules, and if not the number of the first frame that breaks one; and on the way the part of a command.
-use super::command::Span;
+// The image test: whether a whole image keeps the rules, and if not the number of the first frame that breaks one; and on the way the command that words name.
+use super::command::Place;
+use super::command::Trail;
 use super::walk::Walk;
 use super::walk::step_at;
 use image::part;
 ghost use mathlib.Core.Path.{_≡_};
+ghost use Prim.Native.Nat.{_≤_};
+ghost use lib.ListN.{length};
 ghost use Rattle.tree.specs.Rules.{checkTree};
-ghost use Rattle.tree.specs.Commands.{Surveying};
+ghost use Rattle.tree.specs.Commands.{Finding};
 ghost use Rattle.tree.specs.declared.check.Checked.the-variants.{BadFrame};
 
 // What an image is: well-formed, or bad with the number, from 0, of the first frame that breaks a rule.
@@ -14,45 +17,51 @@ pub enum Checked {
     BadFrame(usize),
 }
 
-// What an image is, and where the command of a name lies in one that is well-formed.
-pub struct Surveyed {
+// What an image is, and where words lead in one that is well-formed.
+pub struct Found {
     pub checked: Checked,
-    pub command: Span,
+    pub place: Place,
 }
 
 // An image that is bad at that frame.
-fn bad(n: usize) -> Surveyed
+fn bad(n: usize) -> Found
     ensures { λ r. ⌜ r .checked ≡ BadFrame n ⌝ }
 {
-    Surveyed {
+    Found {
         checked: Checked::BadFrame(n),
-        command: Span::none(),
+        place: Place {
+            start: 0,
+            end: 0,
+            at: 0,
+        },
     }
 }
 
-// Tests an image and notes the part of the command of that name; an image over 32,768 bytes is bad at frame 0.
-pub fn survey(image: &[u8], name: &[u8]) -> Surveyed
-    ensures { λ r. ⌜ Surveying (now (image .entry)) (now (name .entry)) r ⌝ }
+// Tests an image and follows words, which come as frames, down to the command that they name; an image over 32,768 bytes is bad at frame 0.
+pub fn find_command(words: &[u8], image: &[u8]) -> Found
+    requires { ⌜ length (now words) ≤ 4096 ⌝ }
+    ensures { λ r. ⌜ Finding (now (words .entry)) (now (image .entry)) r ⌝ }
 {
     if 32768 < image.len() {
         return bad(0);
     }
     let mut walk = Walk::start();
-    let mut command = Span::none();
+    let mut trail = Trail::start(image);
     let mut n = 0;
     while walk.at < image.len() {
         let step = step_at(image, walk);
         if !step.ok {
             return bad(n);
         }
-        command = command.past(image, name, walk.at);
+        trail = trail.past(words, image, walk.at);
         let past = step.walk;
         walk = past;
         n += 1;
     }
-    Surveyed {
+    let place = trail.place;
+    Found {
         checked: Checked::Good,
-        command,
+        place,
     }
 }
 
@@ -60,6 +69,6 @@ pub fn survey(image: &[u8], name: &[u8]) -> Surveyed
 pub fn check_tree(image: &[u8]) -> Checked
     ensures { λ r. ⌜ r ≡ checkTree (now (image .entry)) ⌝ }
 {
-    let surveyed = survey(image, part(image, 0, 0));
-    surveyed.checked
+    let found = find_command(part(image, 0, 0), image);
+    found.checked
 }

@@ -1,61 +1,93 @@
-// Where a command lies in an image, noted while the frames are passed.
+// Words followed down an image, while its frames are passed: where the command is that they name.
 use super::walk::name_at;
 use buffer::same;
+use frame::Framed;
+use frame::read_frame;
 use image::byte_at;
+use image::part;
 ghost use mathlib.Core.Path.{_≡_};
-ghost use Prim.Native.Nat.{ℕ, _+_, _≤_, _<_};
-ghost use lib.ListN.{length, drop};
-ghost use Rattle.image.specs.Frames.{Frame};
-ghost use Rattle.image.specs.Reading.{read, readFirst};
-ghost use Rattle.tree.specs.Commands.{isTop, Trail};
+ghost use Prim.Native.Nat.{_+_, _≤_, _<_};
+ghost use lib.ListN.{length, getD};
+ghost use Rattle.tree.specs.Commands.{startTrail, Passing};
 
-// A part of an image, empty where there is no such command. The end is that of the image until the next node of depth 0 comes.
-pub struct Span {
+// Where words have led: the part of the image that their command has, and the place in the words behind its path. It is the whole image, and
+// no word is passed, where the first word names no command.
+pub struct Place {
     pub start: usize,
     pub end: usize,
+    pub at: usize,
 }
 
-// Whether the frame at a place is a node of depth 0.
-fn is_top(image: &[u8], at: usize) -> bool
-    requires { ⌜ at < length (now image) ⌝ }
-    ensures { λ r. ⌜ ((f : Frame) (n : ℕ) → readFirst (drop at (now (image .entry))) ≡ read f n → r ≡ isTop f) ⌝ }
-{
-    if image[at] != 0x01 {
-        return false;
-    }
-    byte_at(image, at + 1) == 0
+// Where they have led so far, and the depth of a child there. The part ends with the image until a node comes that is not below.
+pub struct Trail {
+    pub place: Place,
+    pub depth: usize,
 }
 
-impl Span {
-    pub fn none() -> Self
-        ensures { λ r. ⌜ (r .start ≡ 0) × (r .end ≡ 0) ⌝ }
+impl Trail {
+    // No frame is passed.
+    pub fn start(image: &[u8]) -> Trail
+        ensures { λ r. ⌜ r ≡ startTrail (now (image .entry)) ⌝ }
     {
-        Self { start: 0, end: 0 }
+        Trail {
+            place: Place {
+                start: 0,
+                end: image.len(),
+                at: 0,
+            },
+            depth: 0,
+        }
     }
 
-    // The frame at a place is passed.
-    pub fn past(self, image: &[u8], name: &[u8], at: usize) -> Self
-        requires { ⌜ (at < length (now image)) × (length (now image) ≤ 32768) ⌝ }
-        ensures { λ r. ⌜ ((f : Frame) (n : ℕ) → readFirst (drop at (now (image .entry))) ≡ read f n → Trail (now (image .entry)) (now (name .entry)) at self → Trail (now (image .entry)) (now (name .entry)) (at + n) r) ⌝ }
+    // The child at a place of the image is passed: it is followed if it has the name that the next word is.
+    fn past_child(self, words: &[u8], image: &[u8], at: usize) -> Trail
+        requires { ⌜ (length (now words) ≤ 4096) × (length (now image) ≤ 32768) × (at < length (now image)) ⌝ }
+        requires { ⌜ (getD (now image) at 0 ≡ 1) × (getD (now image) (at + 1) 0 ≡ self .depth) × (length (now image) ≤ self .place .end) × (self .depth < 256) ⌝ }
+        ensures { λ r. ⌜ Passing (now (words .entry)) (now (image .entry)) at self r ⌝ }
     {
-        if !is_top(image, at) {
+        let next = self.place.at;
+        let Framed::Frame { kind: _, length } = read_frame(words, next) else {
+            return self;
+        };
+        let name = next + 3;
+        if !same(name_at(image, at + 4), part(words, name, length)) {
             return self;
         }
-        if self.start == self.end {
-            if same(name_at(image, at + 4), name) {
-                return Self {
-                    start: at,
-                    end: image.len(),
-                };
-            }
+        Trail {
+            place: Place {
+                start: at,
+                end: image.len(),
+                at: name + length,
+            },
+            depth: self.depth + 1,
+        }
+    }
+
+    // The frame at a place of the image is passed.
+    pub fn past(self, words: &[u8], image: &[u8], at: usize) -> Trail
+        requires { ⌜ (length (now words) ≤ 4096) × (length (now image) ≤ 32768) × (at < length (now image)) ⌝ }
+        ensures { λ r. ⌜ Passing (now (words .entry)) (now (image .entry)) at self r ⌝ }
+    {
+        if image[at] != 0x01 {
             return self;
         }
-        if self.end == image.len() {
-            return Self {
-                start: self.start,
+        let depth = byte_at(image, at + 1);
+        if self.depth < depth {
+            return self;
+        }
+        if self.place.end < image.len() {
+            return self;
+        }
+        if depth == self.depth {
+            return self.past_child(words, image, at);
+        }
+        Trail {
+            place: Place {
+                start: self.place.start,
                 end: at,
-            };
+                at: self.place.at,
+            },
+            depth: self.depth,
         }
-        self
     }
 }

@@ -1,10 +1,9 @@
--- `parse::judging::judge` meets its contract: the first word names the command, and what its part says is what the image says.
-use mathlib.Core.Path.{sym, _∙_}
+-- `parse::judging::judge` meets its contract: what is judged at the place that the words lead to is what the image says of them.
+use mathlib.Core.Path.{refl, sym, _∙_}
 use native.Mathlib.Omega.{arith}
 use Rattle.frame.specs.Text.{Bytes}
 use Rattle.frame.proofs.Series.{texts-stop}
-use Rattle.scan.proofs.Walks.{word-within}
-use Rattle.parse.proofs.Judgements.{good-short, whole-first, first-unknown, first-within, first-sound, first-judged, first-frames, judged-as, judged-without, no-words}
+use Rattle.parse.proofs.Judgements.{good-short, first-unknown, first-judged, judged-as, judged-without, no-words}
 use borrow.Author.Needs.{needs}
 use Rattle.parse.proofs.judging.judge.Statement.{statement}
 use Rattle.parse.proofs.judging.judge.Tie as tie
@@ -19,40 +18,25 @@ without-command-requires : tie.Need-without-command-requires
 without-command-requires c κs = search needs
 
 returns : tie.Need-returns
-returns c =
-    let w = c .without-command .ensures in
-    judged-without (c .before .before .before .before .before .before .args .words .now) (c .before .before .before .before .before .before .args .image .now) (c .before .before .before .before .before .before .args .rest .now) _ _ _ _ (w .0) (w .1) (w .2) (λ part path found. no-words (c .before .before .before .before .before .before .args .words .now) (c .before .before .before .before .before .before .args .image .now) (texts-stop _ _ (sym (c .before .before .read-frame .ensures)) (c .before .match .keys2))) (λ z. omega arith)
+returns c = let w = c .without-command .ensures in judged-without (c .before .before .before .before .before .before .args .words .now) (c .before .before .before .before .before .before .args .image .now) (c .before .before .before .before .before .before .args .rest .now) _ _ _ _ (w .0) (w .1) (w .2) (λ part path found. no-words (c .before .before .before .before .before .before .args .words .now) (c .before .before .before .before .before .before .args .image .now) (texts-stop _ _ (sym (c .before .before .read-frame .ensures)) (c .before .match .keys2))) (λ z. omega arith)
 
 without-command-requires-2 : tie.Need-without-command-requires-2
 without-command-requires-2 c κs = search needs
 
 returns-2 : tie.Need-returns-2
 unfolding Bytes
-returns-2 c =
-    let w = c .without-command2 .ensures in
-    judged-without (c .before .before .before .before .before .before .before .before .before .args .words .now) (c .before .before .before .before .before .before .before .before .before .args .image .now) (c .before .before .before .before .before .before .before .before .before .args .rest .now) _ _ _ _ (w .0) (w .1) (w .2) (λ part path found. first-unknown (c .before .before .before .before .before .before .before .before .before .args .words .now) (c .before .before .before .before .before .before .before .before .before .args .image .now) _ (c .before .before .before .length .given .0 .1 .0) (λ i. c .before .before .before .before .before .before .before .before .shared-slice-known .given i .fits) (c .before .before .before .before .before .before .before .before .before .pre .0) (sym (c .before .before .before .before .before .read-frame .ensures) ∙ c .before .before .before .length .given .1) (λ i. c .before .before .before .before .before .before .before .shared-slice-known2 .given i .fits) (c .before .before .before .before .before .before .before .before .before .pre .2) (c .before .before .before .before .before .before .before .before .before .args .command) (c .before .before .before .before .before .before .before .before .before .pre .3) (c .before .if1 .taken)) (λ z. omega arith)
-
-add-t14 : tie.Need-add-t14
-add-t14 c =
-    let h = word-within (c .before .before .before .before .before .before .before .before .args .words .now) 0 _ (c .before .before .length .given .0 .1 .0) (sym (c .before .before .before .before .read-frame .ensures) ∙ c .before .before .length .given .1) in
-    let z = c .before .before .before .before .before .before .before .before .pre .0 in
-    omega arith
-
-find-command-requires : tie.Need-find-command-requires
-unfolding Bytes
-find-command-requires c κs =
-    ((first-within (c .before .before .before .before .before .before .before .before .args .words .now) (c .before .before .before .before .before .before .before .before .args .image .now) _ (c .before .before .length .given .0 .1 .0) (λ i. c .before .before .before .before .before .before .before .shared-slice-known .given i .fits) (c .before .before .before .before .before .before .before .before .pre .0) (sym (c .before .before .before .before .read-frame .ensures) ∙ c .before .before .length .given .1) (λ i. c .before .before .before .before .before .before .shared-slice-known2 .given i .fits) (c .before .before .before .before .before .before .before .before .pre .2) (c .before .before .before .before .before .before .before .before .args .command) (c .before .before .before .before .before .before .before .before .pre .3) (c .if1 .left), first-sound (c .before .before .before .before .before .before .before .before .args .words .now) (c .before .before .before .before .before .before .before .before .args .image .now) _ (c .before .before .length .given .0 .1 .0) (λ i. c .before .before .before .before .before .before .before .shared-slice-known .given i .fits) (c .before .before .before .before .before .before .before .before .pre .0) (sym (c .before .before .before .before .read-frame .ensures) ∙ c .before .before .length .given .1) (λ i. c .before .before .before .before .before .before .shared-slice-known2 .given i .fits) (c .before .before .before .before .before .before .before .before .pre .2) (c .before .before .before .before .before .before .before .before .args .command) (c .before .before .before .before .before .before .before .before .pre .3) (c .if1 .left), whole-first (c .before .before .before .before .before .before .before .before .args .words .now) (c .before .before .before .before .before .before .before .before .args .image .now) _ (c .before .before .length .given .0 .1 .0) (λ i. c .before .before .before .before .before .before .before .shared-slice-known .given i .fits) (c .before .before .before .before .before .before .before .before .pre .0) (sym (c .before .before .before .before .read-frame .ensures) ∙ c .before .before .length .given .1) (λ i. c .before .before .before .before .before .before .shared-slice-known2 .given i .fits) (c .before .before .before .before .before .before .before .before .pre .2)), (c .before .before .before .before .before .before .before .before .pre .0, good-short (c .before .before .before .before .before .before .before .before .args .image .now) (λ i. c .before .before .before .before .before .before .shared-slice-known2 .given i .fits) (c .before .before .before .before .before .before .before .before .pre .2)))
+returns-2 c = let w = c .without-command2 .ensures in judged-without (c .before .before .before .before .before .before .before .before .before .before .args .words .now) (c .before .before .before .before .before .before .before .before .before .before .args .image .now) (c .before .before .before .before .before .before .before .before .before .before .args .rest .now) _ _ _ _ (w .0) (w .1) (w .2) (λ part path found. first-unknown (c .before .before .before .before .before .before .before .before .before .before .args .words .now) (c .before .before .before .before .before .before .before .before .before .before .args .image .now) _ (c .before .before .before .before .length .given .0 .1 .0) (sym (c .before .before .before .before .before .before .read-frame .ensures) ∙ c .before .before .before .before .length .given .1) (λ i. c .before .before .before .before .before .before .before .before .shared-slice-known2 .given i .fits) (c .before .before .before .before .before .before .before .before .before .before .pre .2) (c .before .before .before .before .before .before .before .before .before .before .args .place) (c .before .before .before .before .before .before .before .before .before .before .pre .3) (c .before .if1 .taken)) (λ z. omega arith)
 
 judge-arguments-requires : tie.Need-judge-arguments-requires
 unfolding Bytes
-judge-arguments-requires c κs = (c .before .before .before .before .before .before .before .before .before .before .pre .0, good-short (c .before .before .before .before .before .before .before .before .before .before .args .image .now) (λ i. c .before .before .before .before .before .before .before .before .shared-slice-known2 .given i .fits) (c .before .before .before .before .before .before .before .before .before .before .pre .2), c .before .before .before .before .before .before .before .before .before .before .pre .1, c .before .find-command .ensures .within)
+judge-arguments-requires c κs = (c .before .before .before .before .before .before .before .before .before .before .pre .0, good-short (c .before .before .before .before .before .before .before .before .before .before .args .image .now) (λ i. c .before .before .before .before .before .before .before .before .shared-slice-known2 .given i .fits) (c .before .before .before .before .before .before .before .before .before .before .pre .2), c .before .before .before .before .before .before .before .before .before .before .pre .1, c .before .before .before .before .before .before .before .before .before .before .pre .3 .within)
 
 same-length : tie.Need-same-length
 same-length c = search needs
 
 returns-3 : tie.Need-returns-3
 unfolding Bytes
-returns-3 c = judged-as _ _ _ _ _ _ _ _ _ (first-judged (c .before .before .before .before .before .before .before .before .before .before .before .before .before .args .words .now) (c .before .before .before .before .before .before .before .before .before .before .before .before .before .args .image .now) _ (c .before .before .before .before .before .before .before .length .given .0 .1 .0) (λ i. c .before .before .before .before .before .before .before .before .before .before .before .before .shared-slice-known .given i .fits) (c .before .before .before .before .before .before .before .before .before .before .before .before .before .pre .0) (sym (c .before .before .before .before .before .before .before .before .before .read-frame .ensures) ∙ c .before .before .before .before .before .before .before .length .given .1) (λ i. c .before .before .before .before .before .before .before .before .before .before .before .shared-slice-known2 .given i .fits) (c .before .before .before .before .before .before .before .before .before .before .before .before .before .pre .2) (c .before .before .before .before .before .before .before .before .before .before .before .before .before .args .command) (c .before .before .before .before .before .before .before .before .before .before .before .before .before .pre .3) (c .before .before .before .before .before .if1 .left)) (first-frames (c .before .before .before .before .before .before .before .before .before .before .before .before .before .args .words .now) (c .before .before .before .before .before .before .before .before .before .before .before .before .before .args .image .now) _ (c .before .before .before .before .before .before .before .length .given .0 .1 .0) (λ i. c .before .before .before .before .before .before .before .before .before .before .before .before .shared-slice-known .given i .fits) (c .before .before .before .before .before .before .before .before .before .before .before .before .before .pre .0) (sym (c .before .before .before .before .before .before .before .before .before .read-frame .ensures) ∙ c .before .before .before .before .before .before .before .length .given .1) (λ i. c .before .before .before .before .before .before .before .before .before .before .before .shared-slice-known2 .given i .fits) (c .before .before .before .before .before .before .before .before .before .before .before .before .before .pre .2) (c .before .before .before .before .before .before .before .before .before .before .before .before .before .args .command) (c .before .before .before .before .before .before .before .before .before .before .before .before .before .pre .3) (c .before .before .before .before .before .if1 .left)) (c .before .before .judge-arguments .ensures _ (c .before .before .before .before .find-command .ensures))
+returns-3 c = judged-as _ _ _ _ _ _ _ _ _ (first-judged (c .before .before .before .before .before .before .before .before .before .before .before .before .before .args .words .now) (c .before .before .before .before .before .before .before .before .before .before .before .before .before .args .image .now) _ (c .before .before .before .before .before .before .before .length .given .0 .1 .0) (sym (c .before .before .before .before .before .before .before .before .before .read-frame .ensures) ∙ c .before .before .before .before .before .before .before .length .given .1) (λ i. c .before .before .before .before .before .before .before .before .before .before .before .shared-slice-known2 .given i .fits) (c .before .before .before .before .before .before .before .before .before .before .before .before .before .pre .2) (c .before .before .before .before .before .before .before .before .before .before .before .before .before .args .place) (c .before .before .before .before .before .before .before .before .before .before .before .before .before .pre .3) (c .before .before .before .before .if1 .left)) refl (c .before .before .judge-arguments .ensures _ (c .before .before .before .before .before .before .before .before .before .before .before .before .before .pre .3))
 
 pub judge-spec : {M : Type 1} → statement M
 judge-spec =
@@ -64,8 +48,6 @@ judge-spec =
     returns
     without-command-requires-2
     returns-2
-    add-t14
-    find-command-requires
     judge-arguments-requires
     same-length
     returns-3)

@@ -5,9 +5,10 @@ use native.Mathlib.Omega.{arith}
 use lib.ListN.{length, take, length-take}
 use lib.Seq.{length-take-le}
 use Rattle.frame.specs.Series.{textsIn}
+use Rattle.tree.specs.Commands.{partAt}
+use Rattle.tree.proofs.Commands.{part-most}
 use Rattle.scan.specs.Held.{foundOf}
-use Rattle.parse.specs.Held.{partAt, outcomeIn, textOf}
-use Rattle.parse.proofs.Descents.{part-most}
+use Rattle.parse.specs.Held.{outcomeIn, textOf}
 use Rattle.parse.proofs.Tellings.{text-short, fault-telling, report-telling}
 use borrow.Author.Needs.{needs}
 use Rattle.parse.proofs.parser.tell.Statement.{statement}

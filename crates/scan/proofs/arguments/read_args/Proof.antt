@@ -4,10 +4,10 @@ use mathlib.Core.Path.{sym, _∙_, ap}
 use native.Mathlib.Omega.{arith}
 use borrow.Author.Needs.{needs}
 use lib.ListN.{length}
-use Rattle.frame.proofs.Series.{texts-stop, texts-end}
-use Rattle.scan.specs.Meanings.{definitionsAt}
-use Rattle.scan.proofs.Walks.{ArgsAt, args-start, args-turn, args-end, word-within}
+use Rattle.frame.proofs.Series.{texts-stop, texts-end, word-within}
 use Rattle.table.specs.Held.{Fit}
+use Rattle.scan.specs.Meanings.{definitionsAt}
+use Rattle.scan.proofs.Walks.{ArgsAt, args-start, args-turn, args-end}
 use Rattle.scan.specs.Held.{held}
 use Rattle.scan.specs.declared.standing.Stage.{Stage}
 use Rattle.scan.proofs.Moves.{fit-as, stage-starts, stage-apt}

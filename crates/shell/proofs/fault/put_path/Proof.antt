@@ -4,9 +4,7 @@ use mathlib.Core.Path.{sym, _∙_}
 use native.Mathlib.Omega.{arith}
 use borrow.Author.Needs.{needs}
 use lib.ListN.{length}
-use Rattle.frame.proofs.Series.{texts-stop}
-use Rattle.frame.specs.Text.{Bytes}
-use Rattle.scan.proofs.Walks.{word-within}
+use Rattle.frame.proofs.Series.{texts-stop, word-within}
 use Rattle.ink.specs.Ascii.{ascii}
 use Rattle.shell.proofs.Faults.{word-counts, OnPath, sets-out, stops, arrives, goes-on}
 use Rattle.shell.proofs.fault.put_path.Statement.{statement}
@@ -63,8 +61,8 @@ loop-less : tie.Need-loop-less Inv-loop μ-loop
 loop-less c = let w = word-within (c .before .before .before .before .before .before .before .before .before .before .before .before .before .before .before .before .before .before .args .path .now) (c .before .before .before .before .before .before .before .before .before .before .before .before .before .before .before .loop .at) _ _ (sym (c .before .before .before .before .before .before .before .before .before .before .before .before .before .read-frame .ensures) ∙ c .before .before .before .before .before .before .before .before .before .before .before .length .given .1) in omega arith
 
 loop-again : tie.Need-loop-again Inv-loop μ-loop
-unfolding Bytes ascii
-loop-again c = goes-on (c .before .before .before .before .before .before .before .before .before .before .before .before .before .before .before .before .before .before .args .path .now) _ _ (c .before .before .before .before .before .before .before .before .before .before .before .before .before .before .before .loop .at) _ (c .before .before .before .before .before .before .before .before .before .before .before .before .before .before .before .loop .inv) _ (c .before .before .before .before .before .before .before .before .before .before .before .length .given .0 .1 .0) (λ i. c .before .before .before .before .before .before .before .before .before .before .before .before .before .before .before .before .before .shared-slice-known .given i .fits) (c .before .before .before .before .before .before .before .before .before .before .before .before .before .before .before .before .before .before .pre) (sym (c .before .before .before .before .before .before .before .before .before .before .before .before .before .read-frame .ensures) ∙ c .before .before .before .before .before .before .before .before .before .before .before .length .given .1) _ _ _ _ (c .before .before .before .before .before .before .before .put .ensures) (c .before .before .put2 .ensures)
+unfolding ascii
+loop-again c = goes-on (c .before .before .before .before .before .before .before .before .before .before .before .before .before .before .before .before .before .before .args .path .now) _ _ (c .before .before .before .before .before .before .before .before .before .before .before .before .before .before .before .loop .at) _ (c .before .before .before .before .before .before .before .before .before .before .before .before .before .before .before .loop .inv) _ (c .before .before .before .before .before .before .before .before .before .before .before .length .given .0 .1 .0) (sym (c .before .before .before .before .before .before .before .before .before .before .before .before .before .read-frame .ensures) ∙ c .before .before .before .before .before .before .before .before .before .before .before .length .given .1) _ _ _ _ (c .before .before .before .before .before .before .before .put .ensures) (c .before .before .put2 .ensures)
 
 same-length-2 : tie.Need-same-length-2 Inv-loop μ-loop
 same-length-2 c = c .before .loop .inv .size

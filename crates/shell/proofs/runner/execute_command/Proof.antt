@@ -1,62 +1,72 @@
--- `shell::runner::execute_command` meets its contract: the words are the line's, and they always find room.
-use Prim.Native.Nat.{ℕ}
+-- `shell::runner::execute_command` meets its contract: what is told is what was judged, with the handler of the node reached.
 use mathlib.Core.Path.{refl, sym, ap, _∙_}
-use mathlib.Core.List.{List}
-use native.Mathlib.Omega.{arith}
-use borrow.Author.Needs.{needs}
-use lib.Seq.{length-take-le}
-use lib.ListN.{length}
-use Rattle.frame.specs.Series.{textsIn}
-use Rattle.tree.specs.Images.{framesOf}
-use Rattle.parse.proofs.Lines.{line-by, line-words, line-texts, left-length}
-use Rattle.shell.specs.Lines.{execute}
+use Rattle.frame.specs.Text.{Bytes}
+use Rattle.parse.proofs.Judgements.{good-short}
+use Rattle.shell.specs.Lines.{handlerOf}
 use Rattle.shell.proofs.Answering.{said-same}
-use Rattle.shell.proofs.Lines.{words-there}
+use Rattle.shell.proofs.Telling.{words-carried}
+use borrow.Author.Needs.{needs}
 use Rattle.shell.proofs.runner.execute_command.Statement.{statement}
 use Rattle.shell.proofs.runner.execute_command.Tie as tie
 
-slice-aggregate-tokenize : tie.Need-slice-aggregate-tokenize
-slice-aggregate-tokenize c = search needs
+slice-aggregate-judge : tie.Need-slice-aggregate-judge
+slice-aggregate-judge c = search needs
 
-tokenize-requires : tie.Need-tokenize-requires
-tokenize-requires c κs = search needs
+judge-requires : tie.Need-judge-requires
+judge-requires c κs = search needs
 
-enum-known-n : tie.Need-enum-known-n
-enum-known-n c = search needs
+number-of-requires : tie.Need-number-of-requires
+number-of-requires c κs = search needs
 
-returns : tie.Need-returns
-returns c = absurd (words-there (c .before .before .before .before .before .before .before .args .line .now) (c .before .before .tokenize .result) (c .before .before .before .before .before .before .before .pre .1) (c .before .before .before .before .before .before .before .pre .2) (line-by (c .before .before .before .before .before .before .before .args .line .now) _ _ _ (c .before .before .tokenize .ensures) refl _ refl) (c .match .keys2))
-
-array-share-prefix-words : tie.Need-array-share-prefix-words
-array-share-prefix-words c = left-length (c .before .before .before .before .before .before .before .before .before .args .line .now) _ _ _ (c .before .before .before .before .tokenize .ensures) refl _ (c .before .n .given .1)
-
-slice-aggregate-execute-words : tie.Need-slice-aggregate-execute-words
-slice-aggregate-execute-words c = sym (length-take-le _ _ (left-length (c .before .before .before .before .before .before .before .before .before .before .args .line .now) _ _ _ (c .before .before .before .before .before .tokenize .ensures) refl _ (c .before .before .n .given .1)))
-
-execute-words-requires : tie.Need-execute-words-requires
-execute-words-requires c κs =
-    let e = ap length (line-words (c .before .before .before .before .before .before .before .before .before .before .before .args .line .now) _ _ _ (c .before .before .before .before .before .before .tokenize .ensures) refl _ (c .before .before .before .n .given .1)) in
-    let h = line-by (c .before .before .before .before .before .before .before .before .before .before .before .args .line .now) _ _ _ (c .before .before .before .before .before .before .tokenize .ensures) refl _ (c .before .before .before .n .given .1) .2 in
-    (omega arith, c .before .before .before .before .before .before .before .before .before .before .before .pre .0)
+tell-fault-requires : tie.Need-tell-fault-requires
+unfolding Bytes
+tell-fault-requires c κs = (c .before .before .before .before .judge .ensures .within, c .before .before .before .before .before .before .before .before .before .pre .0, good-short (c .before .before .before .before .before .before .before .before .before .args .image .now) (λ i. c .before .before .before .before .before .before .before .shared-slice-known2 .given i .fits) (c .before .before .before .before .before .before .before .before .before .pre .1), λ q. c .before .if1 .taken (c .before .before .number-of .ensures ∙ q))
 
 same-length : tie.Need-same-length
 same-length c = search needs
 
+returns : tie.Need-returns
+returns c = said-same _ _ _ _ _ (words-carried (c .before .before .before .before .before .before .before .before .before .before .before .before .args .words .now) (c .before .before .before .before .before .before .before .before .before .before .before .before .args .image .now) _ _ _ (c .before .before .before .before .before .before .before .judge .ensures .outcome) refl) (c .before .before .tell-fault .ensures _ _)
+
+sub-handler-of : tie.Need-sub-handler-of
+sub-handler-of c = search needs
+
+part-handler-of-start : tie.Need-part-handler-of-start
+part-handler-of-start c = search needs
+
+part-handler-of-end : tie.Need-part-handler-of-end
+part-handler-of-end c = search needs
+
+handler-of-requires : tie.Need-handler-of-requires
+handler-of-requires c κs = search needs
+
+slice-aggregate-tell-command : tie.Need-slice-aggregate-tell-command
+slice-aggregate-tell-command c = search needs
+
+tell-command-requires : tie.Need-tell-command-requires
+tell-command-requires c κs = search needs
+
+same-length-2 : tie.Need-same-length-2
+same-length-2 c = search needs
+
 returns-2 : tie.Need-returns-2
-returns-2 c =
-    let t = line-by (c .before .before .before .before .before .before .before .before .before .before .before .before .before .before .args .line .now) _ _ _ (c .before .before .before .before .before .before .before .before .before .tokenize .ensures) refl _ (c .before .before .before .before .before .before .n .given .1) in
-    said-same _ _ _ _ _ (ap (λ (s : List ℕ). execute (framesOf (c .before .before .before .before .before .before .before .before .before .before .before .before .before .before .args .image .now)) (textsIn s)) (line-words (c .before .before .before .before .before .before .before .before .before .before .before .before .before .before .args .line .now) _ _ _ (c .before .before .before .before .before .before .before .before .before .tokenize .ensures) refl _ (c .before .before .before .before .before .before .n .given .1)) ∙ ap (execute (framesOf (c .before .before .before .before .before .before .before .before .before .before .before .before .before .before .args .image .now))) (line-texts (c .before .before .before .before .before .before .before .before .before .before .before .before .before .before .args .line .now) (t .2))) (c .before .before .execute-words .ensures)
+returns-2 c = let j = c .before .before .before .before .before .before .before .before .before .before .before .judge .ensures in let h = c .before .before .before .before .before .handler-of .ensures ∙ ap handlerOf (j .command (sym (c .before .before .before .before .before .before .before .before .before .number-of .ensures) ∙ c .before .before .before .before .before .before .before .before .if1 .left)) in said-same _ _ _ _ _ (words-carried (c .before .before .before .before .before .before .before .before .before .before .before .before .before .before .before .before .args .words .now) (c .before .before .before .before .before .before .before .before .before .before .before .before .before .before .before .before .args .image .now) _ _ _ (j .outcome) h) (c .before .before .tell-command .ensures)
 
 pub execute-command-spec : {M : Type 1} → statement M
 execute-command-spec =
     tie.close
     (tie.spec
-    slice-aggregate-tokenize
-    tokenize-requires
-    enum-known-n
-    returns
-    array-share-prefix-words
-    slice-aggregate-execute-words
-    execute-words-requires
+    slice-aggregate-judge
+    judge-requires
+    number-of-requires
+    tell-fault-requires
     same-length
+    returns
+    sub-handler-of
+    part-handler-of-start
+    part-handler-of-end
+    handler-of-requires
+    slice-aggregate-tell-command
+    tell-command-requires
+    same-length-2
     returns-2)

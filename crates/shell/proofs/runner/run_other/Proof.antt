@@ -1,12 +1,12 @@
 -- `shell::runner::run_other` meets its contract: the tests in their order.
 use mathlib.Core.Path.{sym, ap, _∙_}
 use native.Mathlib.Omega.{arith}
-use borrow.Author.Needs.{needs}
 use lib.ListN.{length-drop, length}
 use Rattle.tree.specs.Images.{framesOf}
 use Rattle.ink.specs.Ascii.{ascii}
 use Rattle.shell.proofs.Answering.{said-same, said-nothing}
-use Rattle.shell.proofs.Lines.{begins-is, other-help, other-blank, other-command, trimmed-whole, trimmed-short}
+use Rattle.shell.proofs.Lines.{begins-is, other-help, other-blank, other-command}
+use borrow.Author.Needs.{needs}
 use Rattle.shell.proofs.runner.run_other.Statement.{statement}
 use Rattle.shell.proofs.runner.run_other.Tie as tie
 
@@ -23,34 +23,31 @@ rest-requires : tie.Need-rest-requires
 rest-requires c κs = search needs
 
 help-for-requires : tie.Need-help-for-requires
-help-for-requires c κs = let e = ap length (c .before .rest .ensures) ∙ length-drop 5 (c .before .before .before .before .before .before .before .before .before .args .line .now) in let h = c .before .before .before .before .before .before .before .before .before .pre .1 in (c .before .before .before .before .before .before .before .before .before .pre .0, omega arith)
+help-for-requires c κs = let e = ap length (c .before .rest .ensures) ∙ length-drop 5 (c .before .before .before .before .before .before .before .before .before .before .args .line .now) in let h = c .before .before .before .before .before .before .before .before .before .before .pre .short in (c .before .before .before .before .before .before .before .before .before .before .pre .good, omega arith)
 
 same-length : tie.Need-same-length
 same-length c = search needs
 
 returns : tie.Need-returns
 unfolding ascii
-returns c = said-same _ _ _ _ _ (other-help (c .before .before .before .before .before .before .before .before .before .before .before .before .args .line .now) (framesOf (c .before .before .before .before .before .before .before .before .before .before .before .before .args .image .now)) _ (begins-is (c .before .before .before .before .before .before .before .before .before .before .before .before .args .line .now) _ _ (c .before .before .before .before .before .before .before .before .part .ensures) (c .before .before .before .before .before .before .same .ensures) ∙ c .before .before .before .before .before .if1 .taken) (c .before .before .before .before .rest .ensures)) (c .before .before .help-for .ensures)
+returns c = said-same _ _ _ _ _ (other-help (c .before .before .before .before .before .before .before .before .before .before .before .before .before .args .line .now) (framesOf (c .before .before .before .before .before .before .before .before .before .before .before .before .before .args .image .now)) _ (begins-is (c .before .before .before .before .before .before .before .before .before .before .before .before .before .args .line .now) _ _ (c .before .before .before .before .before .before .before .before .part .ensures) (c .before .before .before .before .before .before .same .ensures) ∙ c .before .before .before .before .before .if1 .taken) (c .before .before .before .before .rest .ensures)) (c .before .before .help-for .ensures)
 
 is-blank-requires : tie.Need-is-blank-requires
 is-blank-requires c κs = search needs
 
 returns-2 : tie.Need-returns-2
 unfolding ascii
-returns-2 c = said-same _ _ _ _ _ (other-blank (c .before .before .before .before .before .before .before .before .before .args .line .now) (framesOf (c .before .before .before .before .before .before .before .before .before .args .image .now)) (begins-is (c .before .before .before .before .before .before .before .before .before .args .line .now) _ _ (c .before .before .before .before .before .part .ensures) (c .before .before .before .same .ensures) ∙ c .before .before .if1 .left) (sym (c .before .is-blank .ensures) ∙ c .if2 .taken)) (said-nothing _)
-
-trim-requires : tie.Need-trim-requires
-trim-requires c κs = search needs
+returns-2 c = said-same _ _ _ _ _ (other-blank (c .before .before .before .before .before .before .before .before .before .before .args .line .now) (framesOf (c .before .before .before .before .before .before .before .before .before .before .args .image .now)) (begins-is (c .before .before .before .before .before .before .before .before .before .before .args .line .now) _ _ (c .before .before .before .before .before .part .ensures) (c .before .before .before .same .ensures) ∙ c .before .before .if1 .left) (sym (c .before .is-blank .ensures) ∙ c .if2 .taken)) (said-nothing _)
 
 execute-command-requires : tie.Need-execute-command-requires
-execute-command-requires c κs = let e = c .before .trim .ensures in let k = ap length e in let s = trimmed-short (c .before .before .before .before .before .before .before .before .before .before .before .args .line .now) in let h = c .before .before .before .before .before .before .before .before .before .before .before .pre .1 in (c .before .before .before .before .before .before .before .before .before .before .before .pre .0, omega arith, rw e (trimmed-whole (c .before .before .before .before .before .before .before .before .before .before .before .args .line .now) (c .before .before .before .before .before .before .before .before .before .before .before .pre .2)))
+execute-command-requires c κs = (c .before .before .before .before .before .before .before .before .before .before .before .pre .room, c .before .before .before .before .before .before .before .before .before .before .before .pre .good, c .before .before .before .before .before .before .before .before .before .before .before .pre .leads)
 
 same-length-2 : tie.Need-same-length-2
 same-length-2 c = search needs
 
 returns-3 : tie.Need-returns-3
 unfolding ascii
-returns-3 c = said-same _ _ _ _ _ (other-command (c .before .before .before .before .before .before .before .before .before .before .before .before .before .before .args .line .now) (framesOf (c .before .before .before .before .before .before .before .before .before .before .before .before .before .before .args .image .now)) _ (begins-is (c .before .before .before .before .before .before .before .before .before .before .before .before .before .before .args .line .now) _ _ (c .before .before .before .before .before .before .before .before .before .before .part .ensures) (c .before .before .before .before .before .before .before .before .same .ensures) ∙ c .before .before .before .before .before .before .before .if1 .left) (sym (c .before .before .before .before .before .before .is-blank .ensures) ∙ c .before .before .before .before .before .if2 .left) (c .before .before .before .before .trim .ensures)) (c .before .before .execute-command .ensures)
+returns-3 c = said-same _ _ _ _ _ (other-command (c .before .before .before .before .before .before .before .before .before .before .before .before .before .before .args .line .now) (framesOf (c .before .before .before .before .before .before .before .before .before .before .before .before .before .before .args .image .now)) _ (begins-is (c .before .before .before .before .before .before .before .before .before .before .before .before .before .before .args .line .now) _ _ (c .before .before .before .before .before .before .before .before .before .part .ensures) (c .before .before .before .before .before .before .before .same .ensures) ∙ c .before .before .before .before .before .before .if1 .left) (sym (c .before .before .before .before .before .is-blank .ensures) ∙ c .before .before .before .before .if2 .left) (c .before .before .before .before .before .before .before .before .before .before .before .before .before .before .pre .split)) (c .before .before .execute-command .ensures)
 
 pub run-other-spec : {M : Type 1} → statement M
 run-other-spec =
@@ -65,7 +62,6 @@ run-other-spec =
     returns
     is-blank-requires
     returns-2
-    trim-requires
     execute-command-requires
     same-length-2
     returns-3)

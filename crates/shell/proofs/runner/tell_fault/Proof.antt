@@ -4,9 +4,10 @@ use mathlib.Core.Path.{ap, _∙_}
 use native.Mathlib.Omega.{arith}
 use borrow.Author.Needs.{needs}
 use lib.ListN.{length}
+use Rattle.tree.proofs.Commands.{part-most}
+use Rattle.tree.specs.Commands.{partAt}
 use Rattle.parse.proofs.Tellings.{text-short}
-use Rattle.parse.proofs.Descents.{part-most}
-use Rattle.parse.specs.Held.{partAt, textOf}
+use Rattle.parse.specs.Held.{textOf}
 use Rattle.shell.proofs.Answering.{said-same}
 use Rattle.shell.proofs.Telling.{number-small, dashed-short, fault-carried, plain-carried}
 use Rattle.shell.proofs.runner.tell_fault.Statement.{statement}

@@ -4,8 +4,9 @@ use mathlib.Core.Path.{sym, ap, _∙_}
 use mathlib.Core.List.{List}
 use native.Mathlib.Omega.{arith}
 use lib.ListN.{length, take, drop}
-use Rattle.frame.specs.Text.{Bytes}
 use Rattle.text.specs.Decoding.{codesIn}
+use Rattle.frame.specs.Text.{Bytes}
+use Rattle.frame.proofs.Series.{word-within, word-length, frame-is}
 use Rattle.table.specs.Held.{partOf}
 use Rattle.scan.specs.Meanings.{definitionsAt}
 use Rattle.scan.specs.Forms.{longForm}
@@ -13,7 +14,7 @@ use Rattle.scan.specs.Arguments.{Stand, go, formStep, shortSteps}
 use Rattle.scan.specs.Held.{stored, foundOf, held}
 use Rattle.scan.specs.declared.standing.Progress.the-variants.{Going}
 use Rattle.scan.proofs.Steps.{stand-by}
-use Rattle.scan.proofs.Walks.{word-within, word-length, word-behind, form-short, form-plain, form-long, form-shorts, frame-is, kept-as, stepped-as, kept-stepped, moved-stepped}
+use Rattle.scan.proofs.Walks.{word-behind, form-short, form-plain, form-long, form-shorts, kept-as, stepped-as, kept-stepped, moved-stepped}
 use borrow.Author.Needs.{needs}
 use Rattle.scan.proofs.Moves.{fit-as}
 use Rattle.scan.proofs.standing.Stage.argument.Statement.{statement}

@@ -2,13 +2,14 @@
 use Prim.Native.Nat.{_+_}
 use mathlib.Core.Path.{refl, sym, ap}
 use native.Mathlib.Omega.{arith}
+use Rattle.frame.proofs.Series.{word-within}
 use Rattle.table.specs.Held.{partOf}
 use Rattle.scan.specs.Meanings.{definitionsAt}
 use Rattle.scan.specs.Arguments.{Stand, wordStep}
 use Rattle.scan.specs.Held.{stored, held}
 use Rattle.scan.specs.declared.standing.Progress.the-variants.{Going}
 use Rattle.scan.proofs.Steps.{stand-by, key-small, fault-stays}
-use Rattle.scan.proofs.Walks.{word-within, stepped-as, moved-stepped}
+use Rattle.scan.proofs.Walks.{stepped-as, moved-stepped}
 use borrow.Author.Needs.{needs}
 use Rattle.scan.proofs.Moves.{fit-as}
 use Rattle.scan.proofs.standing.Stage.word.Statement.{statement}
