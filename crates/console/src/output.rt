@@ -2,6 +2,9 @@
 use libc::STDOUT_FILENO;
 use session::Printing;
 use session::Session;
+ghost use mathlib.Core.Path.{_≡_};
+ghost use lib.ListN.{length};
+ghost use Rattle.console.specs.Steps.{starting, closing, placeBehind, afterwards, Written};
 
 // Where the console is: the session, whether it is over, and how many bytes wait at the front of the output's buffer.
 pub struct Console {
@@ -11,7 +14,9 @@ pub struct Console {
 }
 
 impl Console {
-    pub fn start() -> Console {
+    pub fn start() -> Console
+        ensures { λ r. ⌜ r ≡ starting ⌝ }
+    {
         Console {
             session: Session::fresh(),
             over: false,
@@ -20,7 +25,9 @@ impl Console {
     }
 
     // The same at its end.
-    pub fn closed(self) -> Console {
+    pub fn closed(self) -> Console
+        ensures { λ r. ⌜ r ≡ closing self ⌝ }
+    {
         let session = self.session;
         Console {
             session,
@@ -30,7 +37,9 @@ impl Console {
     }
 
     // Writes what waits. An output that is closed ends the console.
-    pub fn flush(self, out: &[u8]) -> Console {
+    pub fn flush(self, out: &[u8]) -> Console
+        ensures { λ r. ⌜ Written 0 self r ⌝ }
+    {
         let session = self.session;
         let over = self.over;
         let waiting = self.waiting;
@@ -50,7 +59,9 @@ impl Console {
     }
 
     // Writes what waits if behind it there is no room for what one key may print.
-    pub fn with_room(self, out: &[u8]) -> Console {
+    pub fn with_room(self, out: &[u8]) -> Console
+        ensures { λ r. ⌜ Written 131072 self r ⌝ }
+    {
         if self.waiting <= 131072 {
             return self;
         }
@@ -59,7 +70,9 @@ impl Console {
 }
 
 // The place behind n bytes at a place, within the buffer.
-fn behind(at: usize, n: usize, out: &[u8]) -> usize {
+fn behind(at: usize, n: usize, out: &[u8]) -> usize
+    ensures { λ r. ⌜ r ≡ placeBehind at n (length (now (out .entry))) ⌝ }
+{
     if out.len() < at {
         return at;
     }
@@ -70,7 +83,9 @@ fn behind(at: usize, n: usize, out: &[u8]) -> usize {
 }
 
 // The console after a key or a line that printed at a place of out.
-pub fn after(session: Session, answer: Printing, out: &[u8], at: usize) -> Console {
+pub fn after(session: Session, answer: Printing, out: &[u8], at: usize) -> Console
+    ensures { λ r. ⌜ r ≡ afterwards session answer (length (now (out .entry))) at ⌝ }
+{
     match answer {
         Printing::Goes(n) => Console {
             session,

@@ -45,17 +45,16 @@ use Rattle.ink.specs.Answer.{Showing}
 use Rattle.ink.specs.declared.show.Shown.{Shown}
 use Rattle.ink.proofs.Inking.{one-answer as one-show}
 use Rattle.abi.specs.Calls.{WordsCall, QuoteCall, FreshCall, KeyCall, AddCall, TreeCall, ParseCall, HelpCall, RunCall}
-use Rattle.tree.specs.Rules.{checkTree}
-use Rattle.tree.specs.declared.check.Checked.the-variants.{Good}
 use Rattle.tree.specs.declared.walk.Walk.{Walk}
 use Rattle.tree.specs.declared.walk.Step.{Step}
 use Rattle.growth.specs.Growth.{Grows}
 use Rattle.growth.proofs.Adding.{one-answer as one-frame}
-use Rattle.session.specs.Calls.{imageOf, TakingLine, PressingKey}
+use Rattle.session.specs.Calls.{TakingLine, PressingKey, RefusingLine}
+use Rattle.session.specs.declared.running.Printing.{Printing}
 use Rattle.session.specs.declared.standing.Session.{Session}
 use Rattle.session.specs.declared.taking.Took.{Took}
 use Rattle.session.specs.declared.pressing.Pressing.{Pressing as SessionKey}
-use Rattle.session.proofs.Followed.{one-line, one-press}
+use Rattle.session.proofs.Followed.{one-line, one-press, one-refusal}
 
 -- a single equation
 pub one : {A : Type 0} (r q is : A) → r ≡ is → q ≡ is → r ≡ q
@@ -171,11 +170,14 @@ module _ (state slots : List ℕ) (state₁ slots₁ state₂ slots₂ : List �
 pub add-frame : (walk : Walk) (frame buffer left other : List ℕ) (r q : Step) → Grows walk frame buffer r left → Grows walk frame buffer q other → (r ≡ q) × (left ≡ other)
 add-frame = one-frame
 
--- a session: its lines and its keys, under a well-formed image
+-- a session: its lines, its keys, and the line that ends it
 pub take-line : (h : Session) (line image frame : List ℕ) (r q : Took) (i f i′ f′ : List ℕ) → TakingLine h line image frame r i f → TakingLine h line image frame q i′ f′
     → (r ≡ q) × (i ≡ i′) × (f ≡ f′)
 take-line = one-line
 
-pub press-key : (h : Session) (image slots : List ℕ) (byte : ℕ) (out : List ℕ) → checkTree (imageOf h image) ≡ Good → (r q : SessionKey) (l o l′ o′ : List ℕ)
+pub press-key : (h : Session) (image slots : List ℕ) (byte : ℕ) (out : List ℕ) (r q : SessionKey) (l o l′ o′ : List ℕ)
     → PressingKey h image slots byte out r l o → PressingKey h image slots byte out q l′ o′ → (r .answer ≡ q .answer) × (r .session ≡ q .session) × (l ≡ l′) × (o ≡ o′)
 press-key = one-press
+
+pub refuse : (number : ℕ) (out : List ℕ) (r q : Printing) (o o′ : List ℕ) → RefusingLine number out r o → RefusingLine number out q o′ → (r ≡ q) × (o ≡ o′)
+refuse = one-refusal

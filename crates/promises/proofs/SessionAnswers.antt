@@ -1,46 +1,59 @@
 -- Demand 1 for a session: each call's refusals, with number, value, and what stands in each lent buffer and state; and that from the fresh session on none is ever met but a bad line.
 use Prim.Native.Nat.{ℕ, _≤_, _<_}
 use mathlib.Core.Path.{_≡_, ap, _∙_}
-use mathlib.Core.Bool.{false}
+use mathlib.Core.Bool.{true, false}
 use mathlib.Core.List.{List, []}
-use borrow.Author.Tests.{lt-ltb}
 use lib.ListN.{length}
 use Rattle.buffer.proofs.Choices.{then-is}
+use Rattle.tree.specs.Rules.{checkTree}
+use Rattle.tree.specs.declared.check.Checked.the-variants.{Good, BadFrame}
 use Rattle.history.specs.Slots.{layout}
 use Rattle.editor.specs.Answer.{goodState}
 use Rattle.session.specs.Lines.{Standing, beginning, takeLine, pressKey}
 use Rattle.session.specs.Held.{Laid}
-use Rattle.session.specs.Calls.{fresh, onLine, most, Kept, TakingLine, PressingKey, RefusingLine}
+use Rattle.session.specs.Calls.{fresh, TakingLine, imageOf, isEnter, treeBefore, most, Kept, PressingKey, RefusingLine}
 use Rattle.session.specs.Answer.{number, value, lineNumber, lineValue}
 use Rattle.session.specs.declared.running.Printing.{Printing}
 use Rattle.session.specs.declared.standing.Session.{Session}
+use Rattle.session.specs.declared.taking.Taken.the-variants.{NoRoom}
 use Rattle.session.specs.declared.taking.Took.{Took}
 use Rattle.session.specs.declared.pressing.Pressing.{Pressing}
+use Rattle.session.proofs.Takings.{frame-narrow, image-narrow}
 use Rattle.session.proofs.Held.{Holds, holds-fresh, key-held}
 use Rattle.session.proofs.Followed.{Brings, line-held}
 
--- PRESS: 9, then 12; both keep the session and every byte
+-- PRESS: 9, then 1 at a 0D or a 0A, then 12; each keeps the session and every byte
 module _ (h : Session) (image slots : List ℕ) (byte : ℕ) (out : List ℕ) (r : Pressing) (slots′ out′ : List ℕ) (p : PressingKey h image slots byte out r slots′ out′) where
   pub press-9 : length out < most → (number (r .answer) ≡ 9) × (value (r .answer) ≡ most) × Kept h slots out r slots′ out′
   press-9 e = (ap number (p .short e .0), ap value (p .short e .0), p .short e .1)
 
-  pub press-12 : most ≤ length out → goodState (h .editor) (h .history) slots ≡ false → (number (r .answer) ≡ 12) × (value (r .answer) ≡ 0) × Kept h slots out r slots′ out′
-  press-12 m e = (ap number (p .bad m e .0), ap value (p .bad m e .0), p .bad m e .1)
+  pub press-1 : most ≤ length out → (n : ℕ) → isEnter byte ≡ true → checkTree (imageOf h image) ≡ BadFrame n
+      → (number (r .answer) ≡ 1) × (value (r .answer) ≡ n) × Kept h slots out r slots′ out′
+  unfolding treeBefore
+  press-1 m n e f = let told = p .badTree m n (then-is _ _ _ e ∙ f) in (ap number (told .0), ap value (told .0), told .1)
 
--- TAKE_LINE: 9 where the buffer for a frame is too short
-pub line-9 : (h : Session) (line image frame : List ℕ) (r : Took) (image′ frame′ : List ℕ) → TakingLine h line image frame r image′ frame′ → h .lines < 65535 → length frame < 512
-    → (lineNumber (r .answer) ≡ 9) × (lineValue (r .answer) ≡ 512) × (r .session ≡ h) × (image′ ≡ image) × (frame′ ≡ frame)
-unfolding onLine
-line-9 h line image frame r image′ frame′ p early e =
-    let a = lt-ltb (h .lines) 65535 early in
-    let b = lt-ltb (length frame) 512 e in
-    let told = p .answer ∙ then-is _ _ _ a ∙ then-is _ _ _ b in (
-      ap (λ (x : Took). lineNumber (x .answer)) told,
-      ap (λ (x : Took). lineValue (x .answer)) told,
-      ap (λ (x : Took). x .session) told,
-      p .built ∙ then-is _ _ _ a ∙ then-is _ _ _ b,
-      p .read ∙ then-is _ _ _ a ∙ then-is _ _ _ b,
-    )
+  pub press-12 : most ≤ length out → treeBefore byte (imageOf h image) ≡ Good → goodState (h .editor) (h .history) slots ≡ false
+      → (number (r .answer) ≡ 12) × (value (r .answer) ≡ 0) × Kept h slots out r slots′ out′
+  press-12 m g e = let told = p .badState m g e in (ap number (told .0), ap value (told .0), told .1)
+
+-- TAKE_LINE: 9 where the buffer for a frame is too short, then where the one for the image is; both keep the session and every byte
+module _ (h : Session) (line image frame : List ℕ) (r : Took) (image′ frame′ : List ℕ) (p : TakingLine h line image frame r image′ frame′)
+    (early : h .lines < 65535) where
+  abbrev pub Needs : ℕ → Type 0
+  Needs n = (lineNumber (r .answer) ≡ 9) × (lineValue (r .answer) ≡ n) × (r .session ≡ h) × (image′ ≡ image) × (frame′ ≡ frame)
+
+  needs-by : (n : ℕ) → r ≡ record { session = h; answer = NoRoom n } → image′ ≡ image → frame′ ≡ frame → Needs n
+  needs-by n e k l = (ap (λ (x : Took). lineNumber (x .answer)) e, ap (λ (x : Took). lineValue (x .answer)) e, ap (λ (x : Took). x .session) e, k, l)
+
+  pub line-9 : length frame < 512 → Needs 512
+  line-9 l =
+      needs-by 512 (p .answer ∙ frame-narrow h line image frame early l _ _ _) (p .built ∙ frame-narrow h line image frame early l _ _ _)
+      (p .read ∙ frame-narrow h line image frame early l _ _ _)
+
+  pub line-9-image : 512 ≤ length frame → length image < 32768 → Needs 32768
+  line-9-image w l =
+      needs-by 32768 (p .answer ∙ image-narrow h line image frame early w l _ _ _) (p .built ∙ image-narrow h line image frame early w l _ _ _)
+      (p .read ∙ image-narrow h line image frame early w l _ _ _)
 
 -- REFUSE: 9
 pub refuse-9 : (n : ℕ) (out : List ℕ) (r : Printing) (out′ : List ℕ) → RefusingLine n out r out′ → length out < 7 → (number r ≡ 9) × (value r ≡ 7) × (out′ ≡ out)

@@ -4,12 +4,12 @@ use mathlib.Core.Path.{_≡_, refl, sym, ap, _∙_, subst}
 use mathlib.Core.Bool.{Bool, true, false, cond}
 use mathlib.Core.List.{List, [], _∷_, _++_, append-nil}
 use native.Mathlib.Omega.{arith}
-use borrow.Author.Tests.{lt-ltb, le-ltb, ltb-true, ltb-false, eqb-true}
+use borrow.Author.Tests.{ltb-true, ltb-false, eqb-true}
 use lib.Dec.{eqb, ltb}
 use lib.ListN.{length, take, drop}
 use lib.Seq.{take-append-seam}
 use Rattle.buffer.specs.Write.{over, overAt}
-use Rattle.buffer.proofs.Choices.{then-is, else-is}
+use Rattle.buffer.proofs.Choices.{then-is, else-is, true-is-not-false}
 use Rattle.frame.specs.Text.{Bytes}
 use Rattle.frame.specs.Hex.{unhex}
 use Rattle.frame.specs.House.{digitsOf, readHouse, leftBy, houseLeaves}
@@ -18,26 +18,26 @@ use Rattle.frame.specs.declared.house.House.the-variants.{Frame, Unended, Empty
 use Rattle.frame.proofs.Digits.{unhex-bytes}
 use Rattle.image.specs.Reading.{readFirst}
 use Rattle.image.specs.Frames.{Frame as TreeFrame}
-use Rattle.tree.specs.Rules.{checkTree}
-use Rattle.tree.specs.declared.check.Checked.the-variants.{Good}
+use Rattle.tree.specs.declared.check.Checked.{Checked}
+use Rattle.tree.specs.declared.check.Checked.the-variants.{Good, BadFrame}
 use Rattle.tree.specs.Steps.{stepIf}
 use Rattle.tree.specs.declared.walk.Step.{Step}
 use Rattle.growth.specs.Growth.{takes, admits, passedBy}
 use Rattle.growth.proofs.Standing.{Growth, grows as grows-by, grows-whole}
-use Rattle.editor.specs.Keys.{State, Kind, shows, enters, drops, turnOf}
+use Rattle.editor.specs.Keys.{State, Kind, shows, enters, drops, Turn, turnOf}
 use Rattle.editor.specs.Answer.{goodState}
 use Rattle.editor.proofs.Fine.{Fine}
 use Rattle.shell.specs.Lines.{saidOf}
-use Rattle.session.specs.Prints.{Printed, shown, prompt, answered, turnPrints, keyPrints}
+use Rattle.session.specs.Prints.{Printed, shown, prompt, answered, turnPrints, keyPrints, turnEnds, keyEnds}
 use Rattle.session.specs.Lines.{Form, tree, keys, formless, formOf, formBy, lineForm, Standing, withImage, withKeys as keyedNow, Taking, grown, pressing, refused, takeForm, takeLine}
-use Rattle.session.specs.Calls.{withWalk, withKeys, refusing, tookBy, imageBy, onLine, TakingLine, imageOf, most, Kept, PressingKey}
+use Rattle.session.specs.Calls.{withWalk, withKeys, refusing, tookBy, imageBy, TakingLine, imageOf, isEnter, treeBefore, most, Kept, PressingKey, RefusingLine}
 use Rattle.session.specs.declared.running.Printing.{Printing}
-use Rattle.session.specs.declared.running.Printing.the-variants.{BadState, NoRoom}
+use Rattle.session.specs.declared.running.Printing.the-variants.{BadTree, BadState, NoRoom}
 use Rattle.session.specs.declared.pressing.Pressing.{Pressing}
 use Rattle.session.specs.declared.standing.Session.{Session}
 use Rattle.session.specs.declared.taking.Taken.the-variants.{Tree, Keys, BadLine}
 use Rattle.session.specs.declared.taking.Took.{Took}
-use Rattle.session.proofs.Takings.{house-room}
+use Rattle.session.proofs.Takings.{house-room, both-wide}
 use Rattle.session.proofs.Screens.{Plain, screen-plain}
 use Rattle.session.proofs.Held.{Holds}
 
@@ -130,13 +130,12 @@ module _ (s : Standing) (h : Session) (image slots : List ℕ) (k : Holds s h im
   -- a line is what the definition says, and leads where it says
   pub line-held : (line frame : List ℕ) (r : Took) (image′ frame′ : List ℕ) → s .lines < 65535 → 512 ≤ length frame → TakingLine h line image frame r image′ frame′
       → Brings (takeLine s line) image slots r image′ frame′
-  unfolding onLine takeLine takeForm tookBy imageBy lineForm houseLeaves
+  unfolding takeLine takeForm tookBy imageBy lineForm houseLeaves
   line-held line frame r image′ frame′ early wide p =
-      let late : ltb (h .lines) 65535 ≡ true = let n = k .lines in lt-ltb (h .lines) 65535 (omega arith) in
-      let fits : ltb (length frame) 512 ≡ false = le-ltb (length frame) 512 wide in
+      let goes : h .lines < 65535 = let n = k .lines in omega arith in
       by (lineForm line) refl
-      (p .answer ∙ then-is _ _ _ late ∙ else-is _ _ _ fits) (p .built ∙ then-is _ _ _ late ∙ else-is _ _ _ fits)
-      (p .read ∙ then-is _ _ _ late ∙ else-is _ _ _ fits ∙ ap (λ (x : House). leftBy x (unhex (digitsOf line)) frame) (house-room line (length frame) wide))
+      (p .answer ∙ both-wide h line image frame goes wide room _ _ _) (p .built ∙ both-wide h line image frame goes wide room _ _ _)
+      (p .read ∙ both-wide h line image frame goes wide room _ _ _ ∙ ap (λ (x : House). leftBy x (unhex (digitsOf line)) frame) (house-room line (length frame) wide))
     where
       by : (f : Form) → lineForm line ≡ f → r ≡ tookBy h image f → image′ ≡ imageBy h image f → frame′ ≡ leftBy (readHouse line 512) (unhex (digitsOf line)) frame
           → Brings (takeForm s f) image slots r image′ frame′
@@ -177,18 +176,39 @@ pub shows-then : (frames : List TreeFrame) (s : State) (byte : ℕ) → Fine s
 unfolding keyPrints shown
 shows-then frames s byte f = by (turnOf prompt s byte .kind) (screen-plain prompt s byte f)
   where
-    by : (q : Kind) → Plain q (turnOf prompt s byte .screen)
+    by : (q : Kind) → Plain byte q (turnOf prompt s byte .screen)
         → turnPrints frames (turnOf prompt s byte) q ≡ shown (turnOf prompt s byte .screen) ++ atEnter q (answered (saidOf frames (turnOf prompt s byte .submitted)))
     by shows p = sym (append-nil (shown (turnOf prompt s byte .screen)))
-    by enters p = ap (λ (x : List ℕ). shown x ++ answered (saidOf frames (turnOf prompt s byte .submitted))) (sym p)
+    by enters p = ap (λ (x : List ℕ). shown x ++ answered (saidOf frames (turnOf prompt s byte .submitted))) (sym (p .0))
     by drops p = ap (λ (x : List ℕ). shown x ++ []) (sym p)
+
+-- a byte that is none of Enter's prints the same under every tree
+pub treeless : (frames other : List TreeFrame) (s : State) (byte : ℕ) → Fine s → isEnter byte ≡ false
+    → (keyPrints frames (turnOf prompt s byte) ≡ keyPrints other (turnOf prompt s byte)) × (keyEnds frames (turnOf prompt s byte) ≡ keyEnds other (turnOf prompt s byte))
+unfolding keyPrints keyEnds
+treeless frames other s byte f n = by (turnOf prompt s byte .kind) (screen-plain prompt s byte f)
+  where
+    t : Turn
+    t = turnOf prompt s byte
+
+    by : (q : Kind) → Plain byte q (turnOf prompt s byte .screen) → (turnPrints frames t q ≡ turnPrints other t q) × (turnEnds frames t q ≡ turnEnds other t q)
+    by shows p = (refl, refl)
+    by enters p = absurd (true-is-not-false (sym (p .1) ∙ n))
+    by drops p = (refl, refl)
 
 -- no second answer
 pub one-line : (h : Session) (line image frame : List ℕ) (r q : Took) (i f i′ f′ : List ℕ) → TakingLine h line image frame r i f → TakingLine h line image frame q i′ f′
     → (r ≡ q) × (i ≡ i′) × (f ≡ f′)
 one-line h line image frame r q i f i′ f′ a b = (a .answer ∙ sym (b .answer), a .built ∙ sym (b .built), a .read ∙ sym (b .read))
 
-module _ (h : Session) (image slots : List ℕ) (byte : ℕ) (out : List ℕ) (good : checkTree (imageOf h image) ≡ Good) (r q : Pressing) (l o l′ o′ : List ℕ)
+pub one-refusal : (number : ℕ) (out : List ℕ) (r q : Printing) (o o′ : List ℕ) → RefusingLine number out r o → RefusingLine number out q o′ → (r ≡ q) × (o ≡ o′)
+one-refusal number out r q o o′ a b = by (ltb (length out) 7) refl
+  where
+    by : (t : Bool) → ltb (length out) 7 ≡ t → (r ≡ q) × (o ≡ o′)
+    by true e = let x = a .short (ltb-true _ _ e) in let y = b .short (ltb-true _ _ e) in (x .0 ∙ sym (y .0), x .1 ∙ sym (y .1))
+    by false e = let x = a .told (ltb-false _ _ e) in let y = b .told (ltb-false _ _ e) in (x .answer ∙ sym (y .answer), x .bytes ∙ sym (y .bytes))
+
+module _ (h : Session) (image slots : List ℕ) (byte : ℕ) (out : List ℕ) (r q : Pressing) (l o l′ o′ : List ℕ)
     (a : PressingKey h image slots byte out r l o) (b : PressingKey h image slots byte out q l′ o′) where
   kept : (x : Printing) → (r .answer ≡ x) × Kept h slots out r l o → (q .answer ≡ x) × Kept h slots out q l′ o′ → (r .answer ≡ q .answer) × (r .session ≡ q .session) × (l ≡ l′) × (o ≡ o′)
   kept x m n = (m .0 ∙ sym (n .0), m .1 .session ∙ sym (n .1 .session), m .1 .held ∙ sym (n .1 .held), m .1 .bytes ∙ sym (n .1 .bytes))
@@ -196,13 +216,18 @@ module _ (h : Session) (image slots : List ℕ) (byte : ℕ) (out : List ℕ) (g
   pub one-press : (r .answer ≡ q .answer) × (r .session ≡ q .session) × (l ≡ l′) × (o ≡ o′)
   one-press = roomy (ltb (length out) most) refl
     where
-      state : most ≤ length out → (t : Bool) → goodState (h .editor) (h .history) slots ≡ t → (r .answer ≡ q .answer) × (r .session ≡ q .session) × (l ≡ l′) × (o ≡ o′)
-      state m true e =
-          let x = a .pressed m e good in
-          let y = b .pressed m e good in
+      state : most ≤ length out → treeBefore byte (imageOf h image) ≡ Good → (t : Bool) → goodState (h .editor) (h .history) slots ≡ t
+          → (r .answer ≡ q .answer) × (r .session ≡ q .session) × (l ≡ l′) × (o ≡ o′)
+      state m g true e =
+          let x = a .pressed m g e in
+          let y = b .pressed m g e in
           (x .lines .answer ∙ sym (y .lines .answer), x .session ∙ sym (y .session), x .held ∙ sym (y .held), x .lines .bytes ∙ sym (y .lines .bytes))
-      state m false e = kept BadState (a .bad m e) (b .bad m e)
+      state m g false e = kept BadState (a .badState m g e) (b .badState m g e)
+
+      tested : most ≤ length out → (x : Checked) → treeBefore byte (imageOf h image) ≡ x → (r .answer ≡ q .answer) × (r .session ≡ q .session) × (l ≡ l′) × (o ≡ o′)
+      tested m Good e = state m e (goodState (h .editor) (h .history) slots) refl
+      tested m (BadFrame n) e = kept (BadTree n) (a .badTree m n e) (b .badTree m n e)
 
       roomy : (t : Bool) → ltb (length out) most ≡ t → (r .answer ≡ q .answer) × (r .session ≡ q .session) × (l ≡ l′) × (o ≡ o′)
       roomy true e = kept (NoRoom most) (a .short (ltb-true _ _ e)) (b .short (ltb-true _ _ e))
-      roomy false e = state (ltb-false _ _ e) (goodState (h .editor) (h .history) slots) refl
+      roomy false e = tested (ltb-false _ _ e) (treeBefore byte (imageOf h image)) refl

@@ -1,7 +1,7 @@
 -- A session from its first line on: what the calls hold is where the definitions say that the session stands, key after key.
 use Prim.Native.Nat.{ℕ, _≤_}
 use mathlib.Core.Path.{_≡_, refl, sym, ap, _∙_, subst}
-use mathlib.Core.Bool.{true}
+use mathlib.Core.Bool.{Bool, true, false, cond}
 use mathlib.Core.List.{List, []}
 use lib.ListN.{length}
 use Rattle.tree.specs.Images.{framesOf}
@@ -20,7 +20,7 @@ use Rattle.editor.proofs.Called.{held-state}
 use Rattle.session.specs.Prints.{prompt, keyPrints, keyEnds}
 use Rattle.session.specs.Lines.{Standing, beginning, pressKey}
 use Rattle.session.specs.Held.{Laid}
-use Rattle.session.specs.Calls.{fresh, imageOf, turnIn, most, PressingKey}
+use Rattle.session.specs.Calls.{fresh, imageOf, turnIn, isEnter, treeBefore, most, PressingKey}
 use Rattle.session.specs.declared.standing.Session.{Session}
 use Rattle.session.specs.declared.pressing.Pressing.{Pressing}
 
@@ -63,12 +63,20 @@ module _ (s : Standing) (h : Session) (image slots : List ℕ) (k : Holds s h im
   pub holds-tree : checkTree (imageOf h image) ≡ Good
   holds-tree = stands-good image (h .walk) (k .stands)
 
+  holds-tested : (byte : ℕ) → treeBefore byte (imageOf h image) ≡ Good
+  unfolding treeBefore
+  holds-tested byte = by (isEnter byte)
+    where
+      by : (t : Bool) → cond t (checkTree (imageOf h image)) Good ≡ Good
+      by true = holds-tree
+      by false = refl
+
   -- a key prints what the definition says, and leads where it says: a key is never refused, whatever it is
   pub key-held : (byte : ℕ) (out : List ℕ) (r : Pressing) (slots′ out′ : List ℕ) → most ≤ length out → PressingKey h image slots byte out r slots′ out′
       → Laid (pressKey s byte .prints) (pressKey s byte .ends) out (r .answer) out′ × Holds (pressKey s byte .after) (r .session) image slots′
   unfolding pressKey
   key-held byte out r slots′ out′ room p =
-      let d = p .pressed room holds-good holds-tree in
+      let d = p .pressed room (holds-tested byte) holds-good in
       let t : turnIn h slots byte ≡ turnOf prompt (s .state) byte = ap (λ (x : State). turnOf prompt x byte) holds-state in
       let after : State = turnOf prompt (s .state) byte .after in
       let w : r .session .walk ≡ h .walk = ap (λ (x : Session). x .walk) (d .session) in

@@ -1,14 +1,12 @@
 -- Laws of a line that was run: the buffer that holds what it said, and what is printed of it.
-use Prim.Native.Nat.{ℕ, suc, _+_, _-_, _*_, _≤_, min}
+use Prim.Native.Nat.{ℕ, suc, _+_, _-_, _*_, _≤_}
 use mathlib.Core.Path.{_≡_, refl, sym, ap, _∙_, subst}
-use mathlib.Core.Bool.{Bool, true, false, cond}
+use mathlib.Core.Bool.{true, false}
 use mathlib.Core.List.{List, [], _∷_, _++_}
 use native.Mathlib.Omega.{arith}
-use borrow.Author.Tests.{ltb-false}
 use borrow.Rule.Slice.PartMut.{putMid}
 use types.Run.{OneOf, miss}
 use denote.Enum.Declared.{tagOf}
-use lib.Dec.{ltb}
 use lib.ListN.{length, take, drop, getD, set, length-drop}
 use lib.Seq.{drop-cons, length-take-le, take-append-add, take-append-seam}
 use Rattle.buffer.specs.Write.{over, Pushed}
@@ -19,14 +17,12 @@ use Rattle.frame.specs.House.{houseLine}
 use Rattle.frame.proofs.Lines.{length-houseLine}
 use Rattle.tree.specs.Images.{framesOf}
 use Rattle.tree.specs.Rules.{checkTree}
-use Rattle.tree.specs.declared.check.Checked.{Checked}
-use Rattle.tree.specs.declared.check.Checked.the-variants.{Good, BadFrame}
-use Rattle.parse.specs.Answer.{onChecked}
+use Rattle.tree.specs.declared.check.Checked.the-variants.{Good}
 use Rattle.shell.specs.Lines.{Said, silence, text, farewell, handed, saidOf}
-use Rattle.shell.specs.Answer.{bytesOf, named, saidAnswer, saidLeaves, runAnswer, runLeaves, Running}
+use Rattle.shell.specs.Answer.{bytesOf, named, Running}
 use Rattle.shell.specs.declared.answer.Ran.{Ran}
-use Rattle.shell.specs.declared.answer.Ran.the-variants.{Nothing, Text, Exit, Handler, BadTree, LineTooLong, NoRoom}
-use Rattle.shell.proofs.Bounds.{run-answered, run-written}
+use Rattle.shell.specs.declared.answer.Ran.the-variants.{Text, Exit, Handler}
+use Rattle.shell.proofs.Bounds.{said-fits, run-answered, run-written}
 use Rattle.shell.proofs.answer.Ran.{the-type}
 use Rattle.session.specs.Prints.{Printed, handler, exit, wide, frameOf, linesOf, shown, prompt, answered, leaves}
 use Rattle.session.specs.Held.{Fits, Says, Answers}
@@ -97,15 +93,16 @@ ends said out left at r e p = record { answer = ap Ends (p .place) ∙ rw e refl
 
 -- each thing that a line may say, printed
 module _ (said : Said) (ran : Ran) (s : List ℕ) (h : Says said ran s) (out left : List ℕ) (at r : ℕ) where
-  pub prints-nothing : ran ≡ Nothing → Pushed (linesOf (shown prompt)) out at r left → Answers said out at (Goes r) left
+  -- no text, no exit and no handler: what is said is no refusal, so it is nothing
+  pub prints-nothing : OneOf (0 ∷ 4 ∷ 5 ∷ 6 ∷ []) (tagOf the-type ran) → Pushed (linesOf (shown prompt)) out at r left → Answers said out at (Goes r) left
   unfolding answered leaves
-  prints-nothing e p = by said (sym (h .answer) ∙ e)
+  prints-nothing e p = by said (subst (λ (x : Ran). OneOf (0 ∷ 4 ∷ 5 ∷ 6 ∷ []) (tagOf the-type x)) (h .answer) e)
     where
-      by : (x : Said) → named x (length (bytesOf said)) ≡ Nothing → Answers x out at (Goes r) left
+      by : (x : Said) → OneOf (0 ∷ 4 ∷ 5 ∷ 6 ∷ []) (tagOf the-type (named x (length (bytesOf said)))) → Answers x out at (Goes r) left
       by silence k = goes silence out left at r refl p
-      by (text m b) k = absurd (let z : _≡_ {A = ℕ} 0 1 = cc in omega arith)
-      by farewell k = absurd (let z : _≡_ {A = ℕ} 0 1 = cc in omega arith)
-      by (handed m b) k = absurd (let z : _≡_ {A = ℕ} 0 1 = cc in omega arith)
+      by (text m b) k = absurd (miss (0 ∷ 4 ∷ 5 ∷ 6 ∷ []) 1 tt k)
+      by farewell k = absurd (miss (0 ∷ 4 ∷ 5 ∷ 6 ∷ []) 2 tt k)
+      by (handed m b) k = absurd (miss (0 ∷ 4 ∷ 5 ∷ 6 ∷ []) 3 tt k)
 
   -- what a text prints, with whatever is printed behind it
   shown-behind : (b : List ℕ) (n p : ℕ) (mid : List ℕ) (more : List Printed) → n ≡ length b → take (length b) (drop 3 s) ≡ b → n ≤ 65533 → at + 131096 ≤ length out
@@ -162,81 +159,47 @@ module _ (said : Said) (ran : Ran) (s : List ℕ) (h : Says said ran s) (out lef
           let narrow : at + length (linesOf (handler number b ∷ [])) ≤ length out = let w = ap length line in omega arith in
           goes (handed number b) out left at r refl (both (handler number b ∷ []) (shown prompt) out mid left at p r narrow (subst (λ (z : List ℕ). Pushed z out at p mid) line x) y)
 
-  -- what is said is no refusal
-  pub prints-never : OneOf (4 ∷ 5 ∷ 6 ∷ []) (tagOf the-type ran) → ⊥
-  prints-never k = by said (subst (λ (x : Ran). OneOf (4 ∷ 5 ∷ 6 ∷ []) (tagOf the-type x)) (h .answer) k)
-    where
-      by : (q : Said) → OneOf (4 ∷ 5 ∷ 6 ∷ []) (tagOf the-type (named q (length (bytesOf said)))) → ⊥
-      by silence k = miss (4 ∷ 5 ∷ 6 ∷ []) 0 tt k
-      by (text number b) k = miss (4 ∷ 5 ∷ 6 ∷ []) 1 tt k
-      by farewell k = miss (4 ∷ 5 ∷ 6 ∷ []) 2 tt k
-      by (handed number b) k = miss (4 ∷ 5 ∷ 6 ∷ []) 3 tt k
-
--- a line that was run under any tree answers within its buffer
-pub run-fits : (image line out left : List ℕ) (ran : Ran) → Running image line out ran left → Fits ran (length out)
-unfolding runAnswer saidAnswer
-run-fits image line out left ran r = subst (λ (x : Ran). Fits x (length out)) (sym (r .answer)) (tested (checkTree image))
-  where
-    s : Said
-    s = saidOf (framesOf image) line
-
-    each : (q : Said) → length (bytesOf q) ≤ length out → Fits (named q (length (bytesOf q))) (length out)
-    each silence h = tt
-    each (text number b) h = h
-    each farewell h = h
-    each (handed number b) h = h
-
-    roomy : (t : Bool) → ltb (length out) (length (bytesOf s)) ≡ t → Fits (cond t (NoRoom (length (bytesOf s))) (named s (length (bytesOf s)))) (length out)
-    roomy true h = tt
-    roomy false h = each s (ltb-false _ _ h)
-
-    lined : (t : Bool) → Fits (cond t (LineTooLong (min (length line) 65535)) (saidAnswer s (length out))) (length out)
-    lined true = tt
-    lined false = roomy (ltb (length out) (length (bytesOf s))) refl
-
-    tested : (x : Checked) → Fits (onChecked x (λ n. BadTree n) (cond (ltb 1024 (length line)) (LineTooLong (min (length line) 65535)) (saidAnswer s (length out)))) (length out)
-    tested (BadFrame n) = tt
-    tested Good = lined (ltb 1024 (length line))
-
--- what a line says under a well-formed tree, with room for it
-module _ (image line out left : List ℕ) (ran : Ran) (r : Running image line out ran left) where
-  abbrev pub heard : Said
+-- a line that was run under a well-formed tree, into the part behind the kind of a text
+module _ (s e : List ℕ) (full : length s ≡ 65536) (image line : List ℕ) (ran : Ran) (bytes : Bytes image) (good : checkTree image ≡ Good) (short : length line ≤ 255)
+    (r : Running image line (take (length (set s 2 0x22) - 3) (drop 3 (set s 2 0x22))) ran e) where
+  abbrev heard : Said
   heard = saidOf (framesOf image) line
 
-  pub run-length : length left ≡ length out
-  unfolding runLeaves saidLeaves
-  run-length = ap length (r .bytes) ∙ tested (checkTree image)
+  abbrev lent : List ℕ
+  lent = take (length (set s 2 0x22) - 3) (drop 3 (set s 2 0x22))
+
+  lent-is : length lent ≡ 65533
+  lent-is = lent-size s e 2 65536 full (omega arith)
+
+  heard-fits : length (bytesOf heard) ≤ 65533
+  heard-fits = said-fits image line bytes good short
+
+  ran-is : ran ≡ named heard (length (bytesOf heard))
+  ran-is = run-answered image line lent e ran bytes good short (let l = lent-is in omega arith) r
+
+  left-is : e ≡ over (bytesOf heard) lent
+  left-is = run-written image line lent e ran bytes good short (let l = lent-is in omega arith) r
+
+  pub run-back : length (putMid 3 (length (set s 2 0x22) - 3) (set s 2 0x22) e) ≡ 65536
+  run-back =
+      returned-size s e 2 65536 full (omega arith)
+      (ap length left-is ∙ length-over (bytesOf heard) lent (let l = lent-is in let f = heard-fits in omega arith) ∙ lent-is)
+
+  pub run-ready : Fits ran 65533 × (length (putMid 3 (length (set s 2 0x22) - 3) (set s 2 0x22) e) ≡ 65536)
+      × (getD (putMid 3 (length (set s 2 0x22) - 3) (set s 2 0x22) e) 2 0 ≡ 0x22)
+  run-ready = (subst (λ (x : Ran). Fits x 65533) (sym ran-is) (each heard heard-fits), run-back, returned-kind s e 2 65536 full (omega arith))
     where
-      roomy : (t : Bool) → ltb (length out) (length (bytesOf heard)) ≡ t → length (cond t out (over (bytesOf heard) out)) ≡ length out
-      roomy true h = refl
-      roomy false h = length-over (bytesOf heard) out (ltb-false _ _ h)
+      each : (q : Said) → length (bytesOf q) ≤ 65533 → Fits (named q (length (bytesOf q))) 65533
+      each silence h = tt
+      each (text number b) h = h
+      each farewell h = h
+      each (handed number b) h = h
 
-      lined : (t : Bool) → length (cond t out (saidLeaves heard out)) ≡ length out
-      lined true = refl
-      lined false = roomy (ltb (length out) (length (bytesOf heard))) refl
-
-      tested : (x : Checked) → length (onChecked x (λ n. out) (cond (ltb 1024 (length line)) out (saidLeaves heard out))) ≡ length out
-      tested (BadFrame n) = refl
-      tested Good = lined (ltb 1024 (length line))
-
--- a line that was run into the part behind the kind of a text
-module _ (s e : List ℕ) (full : length s ≡ 65536) where
-  pub run-back : (image line : List ℕ) (ran : Ran) → Running image line (take (length (set s 2 0x22) - 3) (drop 3 (set s 2 0x22))) ran e → length (putMid 3 (length (set s 2 0x22) - 3) (set s 2 0x22) e) ≡ 65536
-  run-back image line ran r = returned-size s e 2 65536 full (omega arith) (run-length image line _ e ran r ∙ lent-size s e 2 65536 full (omega arith))
-
-  pub run-ready : (image line : List ℕ) (ran : Ran) → Running image line (take (length (set s 2 0x22) - 3) (drop 3 (set s 2 0x22))) ran e
-      → Fits ran 65533 × (length (putMid 3 (length (set s 2 0x22) - 3) (set s 2 0x22) e) ≡ 65536) × (getD (putMid 3 (length (set s 2 0x22) - 3) (set s 2 0x22) e) 2 0 ≡ 0x22)
-  run-ready image line ran r =
-      (subst (λ (n : ℕ). Fits ran n) (lent-size s e 2 65536 full (omega arith)) (run-fits image line _ e ran r), run-back image line ran r, returned-kind s e 2 65536 full (omega arith))
-
-  pub run-says : (image line : List ℕ) (ran : Ran) → Running image line (take (length (set s 2 0x22) - 3) (drop 3 (set s 2 0x22))) ran e → Bytes image
-      → checkTree image ≡ Good → length line ≤ 255 → Says (saidOf (framesOf image) line) ran (putMid 3 (length (set s 2 0x22) - 3) (set s 2 0x22) e)
+  pub run-says : Says heard ran (putMid 3 (length (set s 2 0x22) - 3) (set s 2 0x22) e)
   unfolding over
-  run-says image line ran r bytes good short =
-      let out : List ℕ = take (length (set s 2 0x22) - 3) (drop 3 (set s 2 0x22)) in
-      let b : List ℕ = bytesOf (saidOf (framesOf image) line) in
-      let wide : 65533 ≤ length out = let l = lent-size s e 2 65536 full (omega arith) in omega arith in
+  run-says =
       record {
-        answer = run-answered image line out e ran bytes good short wide r;
-        bytes = ap (λ (x : List ℕ). take (length b) x) (returned-behind s e 2 65536 full (omega arith) ∙ run-written image line out e ran bytes good short wide r) ∙ take-append-seam b (drop (length b) out);
+        answer = ran-is;
+        bytes = ap (λ (x : List ℕ). take (length (bytesOf heard)) x) (returned-behind s e 2 65536 full (omega arith) ∙ left-is)
+            ∙ take-append-seam (bytesOf heard) (drop (length (bytesOf heard)) lent);
       }

@@ -155,26 +155,34 @@ module _ (h : Session) (line image frame : List ℕ) where
       record { answer = sym (else-is _ _ _ e); built = sym (else-is _ _ _ e); read = sym (else-is _ _ _ e) }
 
   module _ (early : h .lines < 65535) where
+    -- a choice by the session and its buffers: no room for a frame, no room for an image, or room for both
+    pub frame-narrow : length frame < 512 → {A : Type 0} (late : A) (narrow : ℕ → A) (read : A) → onLine h image frame late narrow read ≡ narrow 512
+    unfolding onLine
+    frame-narrow l late narrow read = then-is _ _ _ (lt-ltb (h .lines) 65535 early) ∙ then-is _ _ _ (lt-ltb (length frame) 512 l)
+
+    module _ (wide : 512 ≤ length frame) where
+      pub image-narrow : length image < 32768 → {A : Type 0} (late : A) (narrow : ℕ → A) (read : A) → onLine h image frame late narrow read ≡ narrow 32768
+      unfolding onLine
+      image-narrow l late narrow read =
+          then-is _ _ _ (lt-ltb (h .lines) 65535 early) ∙ else-is _ _ _ (le-ltb (length frame) 512 wide) ∙ then-is _ _ _ (lt-ltb (length image) 32768 l)
+
+      pub both-wide : 32768 ≤ length image → {A : Type 0} (late : A) (narrow : ℕ → A) (read : A) → onLine h image frame late narrow read ≡ read
+      unfolding onLine
+      both-wide l late narrow read =
+          then-is _ _ _ (lt-ltb (h .lines) 65535 early) ∙ else-is _ _ _ (le-ltb (length frame) 512 wide) ∙ else-is _ _ _ (le-ltb (length image) 32768 l)
+
     pub line-narrow : length frame < 512 → TakingLine h line image frame (record { session = h; answer = NoRoom 512 }) image frame
-    unfolding onLine
-    line-narrow l =
-        let e = lt-ltb (h .lines) 65535 early in
-        let k = lt-ltb (length frame) 512 l in
-        record { answer = sym (then-is _ _ _ e ∙ then-is _ _ _ k); built = sym (then-is _ _ _ e ∙ then-is _ _ _ k); read = sym (then-is _ _ _ e ∙ then-is _ _ _ k) }
+    line-narrow l = record { answer = sym (frame-narrow l _ _ _); built = sym (frame-narrow l _ _ _); read = sym (frame-narrow l _ _ _) }
 
-    pub line-taken : 512 ≤ length frame → (x : House) (left : List ℕ) → HouseRead line frame x left → (r : Took) (image′ : List ℕ)
+    pub line-small : 512 ≤ length frame → length image < 32768 → TakingLine h line image frame (record { session = h; answer = NoRoom 32768 }) image frame
+    line-small w l = record { answer = sym (image-narrow w l _ _ _); built = sym (image-narrow w l _ _ _); read = sym (image-narrow w l _ _ _) }
+
+    pub line-taken : 512 ≤ length frame → 32768 ≤ length image → (x : House) (left : List ℕ) → HouseRead line frame x left → (r : Took) (image′ : List ℕ)
         → (r ≡ tookBy h image (lineForm line)) × (image′ ≡ imageBy h image (lineForm line)) → TakingLine h line image frame r image′ left
-    unfolding onLine
-    line-taken l x left g r image′ t =
-        let e = lt-ltb (h .lines) 65535 early in
-        let k = le-ltb (length frame) 512 l in
-        record {
-          answer = t .0 ∙ sym (then-is _ _ _ e ∙ else-is _ _ _ k);
-          built = t .1 ∙ sym (then-is _ _ _ e ∙ else-is _ _ _ k);
-          read = g .bytes ∙ sym (then-is _ _ _ e ∙ else-is _ _ _ k);
-        }
+    line-taken w l x left g r image′ t =
+        record { answer = t .0 ∙ sym (both-wide w l _ _ _); built = t .1 ∙ sym (both-wide w l _ _ _); read = g .bytes ∙ sym (both-wide w l _ _ _) }
 
-    pub line-refused : 512 ≤ length frame → (x : House) (left : List ℕ) → HouseRead line frame x left → (r : Took) → lineForm line ≡ formless → r ≡ refusing h
-        → TakingLine h line image frame r image left
+    pub line-refused : 512 ≤ length frame → 32768 ≤ length image → (x : House) (left : List ℕ) → HouseRead line frame x left → (r : Took) → lineForm line ≡ formless
+        → r ≡ refusing h → TakingLine h line image frame r image left
     unfolding tookBy imageBy
-    line-refused l x left g r f k = line-taken l x left g r image (rw f (k, refl))
+    line-refused w l x left g r f k = line-taken w l x left g r image (rw f (k, refl))

@@ -1,10 +1,10 @@
 -- Laws of a key that is pressed: what the editor answered, and what is printed of it.
-use Prim.Native.Nat.{ℕ, suc, _+_, _-_, _*_, _≤_}
+use Prim.Native.Nat.{ℕ, suc, _+_, _-_, _*_, _≤_, _<_}
 use mathlib.Core.Path.{_≡_, refl, sym, ap, _∙_, subst}
 use mathlib.Core.Bool.{Bool, true, false, cond}
 use mathlib.Core.List.{List, [], _∷_, _++_}
 use native.Mathlib.Omega.{arith}
-use borrow.Author.Tests.{le-ltb, ltb-false}
+use borrow.Author.Tests.{le-ltb}
 use borrow.Rule.Slice.PartMut.{putMid}
 use types.Run.{OneOf, miss}
 use denote.Enum.Declared.{tagOf}
@@ -24,7 +24,8 @@ use Rattle.frame.proofs.Lines.{length-houseLine}
 use Rattle.image.specs.Frames.{Frame}
 use Rattle.tree.specs.Images.{framesOf}
 use Rattle.tree.specs.Rules.{checkTree}
-use Rattle.tree.specs.declared.check.Checked.the-variants.{Good}
+use Rattle.tree.specs.declared.check.Checked.{Checked}
+use Rattle.tree.specs.declared.check.Checked.the-variants.{Good, BadFrame}
 use Rattle.history.specs.declared.past.History.{History}
 use Rattle.editor.specs.declared.line.Editor.{Editor}
 use Rattle.editor.specs.declared.drawing.Key.{Key}
@@ -38,13 +39,13 @@ use Rattle.editor.proofs.drawing.Pressed.{the-type}
 use Rattle.shell.specs.Lines.{Said, saidOf}
 use Rattle.session.specs.Prints.{badLine, frameOf, linesOf, shown, prompt, answered, leaves, turnPrints, keyPrints, turnEnds, keyEnds}
 use Rattle.session.specs.Held.{printing, Answers, Laid, Enters, Within, Tells}
-use Rattle.session.specs.Calls.{withState, withKey, imageOf, turnIn, most, PressingKey}
+use Rattle.session.specs.Calls.{withState, withKey, imageOf, turnIn, treeBefore, most, PressingKey}
 use Rattle.session.specs.declared.running.Printing.{Printing}
-use Rattle.session.specs.declared.running.Printing.the-variants.{Goes, Ends, BadState}
+use Rattle.session.specs.declared.running.Printing.the-variants.{Goes, Ends, BadTree, BadState, NoRoom}
 use Rattle.session.specs.declared.standing.Session.{Session}
 use Rattle.session.proofs.Printings.{line-alone, lines-both, shown-some}
 use Rattle.session.proofs.Marks.{lent-size, returned-size, returned-kind, returned-behind}
-use Rattle.session.proofs.Screens.{screen-short, submitted-short}
+use Rattle.session.proofs.Screens.{screen-short, submitted-short, enters-tested}
 
 -- screen bytes behind their kind
 module _ (s : List ℕ) (size : ℕ) (h : size ≤ 1023) (k : getD s 0 0 ≡ 0x22) where
@@ -94,8 +95,15 @@ module _ (out mid : List ℕ) (p : ℕ) (h : most ≤ length out) (w : Pushed (h
 
 -- what each answer of the editor prints
 module _ (answer : Pressed) (image line screen out left : List ℕ) where
-  pub within-shown : (n : ℕ) → Within answer → answer ≡ Shown n → n ≤ 1023
-  within-shown n w e = subst Within e w
+  pub within-shown : (n : ℕ) → Within image answer → answer ≡ Shown n → n ≤ 1023
+  within-shown n w e = subst (Within image) e w
+
+  pub within-entered : (n : ℕ) (part : List ℕ) → Within image answer → answer ≡ Entered n → part ≡ take n line → (checkTree image ≡ Good) × (length part ≤ 255)
+  within-entered n part w e k =
+      let both : (checkTree image ≡ Good) × (n ≤ 255) = subst (Within image) e w in
+      let short = both .1 in
+      let size = ap length k ∙ length-take n line in
+      (both .0, omega arith)
 
   pub tells-shown : (n r : ℕ) → answer ≡ Shown n → Pushed (linesOf (shown (take n (drop 1 screen)))) out 0 r left → Tells answer image line screen out (Goes r) left
   tells-shown n r e p =
@@ -103,10 +111,9 @@ module _ (answer : Pressed) (image line screen out left : List ℕ) where
       subst (λ (x : Pressed). Tells x image line screen out (Goes r) left) (sym e) (record { answer = ap Goes (w .count); bytes = w .bytes })
 
   pub tells-entered : (n : ℕ) (part : List ℕ) (r : Printing) → answer ≡ Entered n → part ≡ take n line
-      → (checkTree image ≡ Good → length part ≤ 255 → Enters (framesOf image) part out r left) → Tells answer image line screen out r left
+      → Enters (framesOf image) part out r left → Tells answer image line screen out r left
   tells-entered n part r e k f =
-      subst (λ (x : Pressed). Tells x image line screen out r left) (sym e)
-      (subst (λ (x : List ℕ). checkTree image ≡ Good → length x ≤ 255 → Enters (framesOf image) x out r left) k f)
+      subst (λ (x : Pressed). Tells x image line screen out r left) (sym e) (subst (λ (x : List ℕ). Enters (framesOf image) x out r left) k f)
 
   pub tells-dropped : answer ≡ Dropped → left ≡ out → Tells answer image line screen out (Goes 0) left
   unfolding linesOf over
@@ -142,58 +149,49 @@ module _ (h : Session) (slots line lent : List ℕ) (byte : ℕ) (k : Key) (slot
   unfolding limit
   in-limit = le-ltb (length line) 255 (omega arith)
 
+  screen-fits : is ≡ true → length (t .screen) ≤ 1023
+  screen-fits g = screen-short prompt (stateOf (h .editor) (h .history) slots) byte (fine-of (h .editor) (h .history) slots g) prompt-size
+
   pub key-good : is ≡ true → k .answer ≡ taken t (t .kind)
   unfolding keyAnswer turnAnswer
   key-good g =
-      let short = screen-short prompt (stateOf (h .editor) (h .history) slots) byte (fine-of (h .editor) (h .history) slots g) prompt-size in
+      let short = screen-fits g in
       p .answer ∙ then-is _ _ _ g ∙ then-is _ _ _ prompt-good ∙ else-is _ _ _ in-limit ∙ else-is _ _ _ (le-ltb (length lent) (length (t .screen)) (omega arith))
 
   pub key-bad : is ≡ false → k .answer ≡ BadKey
   unfolding keyAnswer
   key-bad g = p .answer ∙ else-is _ _ _ g
 
-  -- what holds of each answer holds of this one
-  told-by : (P : Pressed → Type 0) → P BadKey → ((n : ℕ) → P (BadPrompt n)) → ((n : ℕ) → P (NoScreen n)) → ((q : Kind) → length (t .screen) ≤ length lent → P (taken t q)) → P (k .answer)
-  unfolding keyAnswer turnAnswer
-  told-by P bad prompts rooms kinds = subst P (sym (p .answer)) (state is)
-    where
-      roomy : (b : Bool) → ltb (length lent) (length (t .screen)) ≡ b → P (cond b (NoScreen (length (t .screen))) (taken t (t .kind)))
-      roomy true l = rooms (length (t .screen))
-      roomy false l = kinds (t .kind) (ltb-false (length lent) (length (t .screen)) l)
-
-      lined : (b : Bool) → P (cond b (NoScreen limit) (cond (ltb (length lent) (length (t .screen))) (NoScreen (length (t .screen))) (taken t (t .kind))))
-      lined true = rooms limit
-      lined false = roomy (ltb (length lent) (length (t .screen))) refl
-
-      prompted : (b : Bool) → P (cond b (turnAnswer t (length line) (length lent)) (BadPrompt (length prompt)))
-      prompted true = lined (ltb (length line) limit)
-      prompted false = prompts (length prompt)
-
-      state : (b : Bool) → P (cond b (cond (goodPrompt prompt) (turnAnswer t (length line) (length lent)) (BadPrompt (length prompt))) BadKey)
-      state true = prompted (goodPrompt prompt)
-      state false = bad
-
-  -- what is shown fits the screen's buffer, which comes back as long as it was
-  pub key-within : Within (k .answer)
-  key-within = told-by Within tt (λ n. tt) (λ n. tt) kinds
-    where
-      kinds : (q : Kind) → length (t .screen) ≤ length lent → Within (taken t q)
-      kinds shows l = omega arith
-      kinds enters l = tt
-      kinds drops l = tt
-
-  pub key-size : length e ≡ 1023
-  key-size = ap length (p .shown) ∙ told-by (λ x. length (cond (refused x) lent (over (t .screen) lent)) ≡ length lent) refl (λ n. refl) (λ n. refl) kinds ∙ wide
-    where
-      kinds : (q : Kind) → length (t .screen) ≤ length lent → length (cond (refused (taken t q)) lent (over (t .screen) lent)) ≡ length lent
-      kinds shows l = length-over (t .screen) lent l
-      kinds enters l = length-over (t .screen) lent l
-      kinds drops l = length-over (t .screen) lent l
-
   not-refused : (q : Kind) → refused (taken t q) ≡ false
   not-refused shows = refl
   not-refused enters = refl
   not-refused drops = refl
+
+  -- what holds of each answer holds of this one
+  told-by : (P : Pressed → Type 0) → P BadKey → (is ≡ true → (q : Kind) → t .kind ≡ q → P (taken t q)) → P (k .answer)
+  told-by P bad kinds = by is refl
+    where
+      by : (b : Bool) → is ≡ b → P (k .answer)
+      by true g = subst P (sym (key-good g)) (kinds g (t .kind) refl)
+      by false g = subst P (sym (key-bad g)) bad
+
+  -- what is shown fits the screen's buffer, which comes back as long as it was; a line is submitted only under a tree that was tested
+  pub key-within : (image : List ℕ) → treeBefore byte image ≡ Good → Within image (k .answer)
+  key-within image good = told-by (Within image) tt kinds
+    where
+      kinds : is ≡ true → (q : Kind) → t .kind ≡ q → Within image (taken t q)
+      kinds g shows e = screen-fits g
+      kinds g enters e = (
+        sym (enters-tested prompt (stateOf (h .editor) (h .history) slots) byte (fine-of (h .editor) (h .history) slots g) image e) ∙ good,
+        submitted-short prompt (stateOf (h .editor) (h .history) slots) byte (fine-of (h .editor) (h .history) slots g),
+      )
+      kinds g drops e = tt
+
+  pub key-size : length e ≡ 1023
+  key-size = ap length (p .shown) ∙ told-by (λ x. length (cond (refused x) lent (over (t .screen) lent)) ≡ length lent) refl kinds ∙ wide
+    where
+      kinds : is ≡ true → (q : Kind) → t .kind ≡ q → length (cond (refused (taken t q)) lent (over (t .screen) lent)) ≡ length lent
+      kinds g q f = ap length (else-is _ _ _ (not-refused q)) ∙ length-over (t .screen) lent (let l = screen-fits g in omega arith)
 
   module _ (g : is ≡ true) where
     unrefused : refused (k .answer) ≡ false
@@ -230,27 +228,29 @@ module _ (h : Session) (slots line lent : List ℕ) (byte : ℕ) (k : Key) (slot
       parts x y = record { editor = x; history = y; walk = h .walk; keyed = h .keyed; lines = h .lines }
 
   -- the call's contract
-  module _ (image out left screen : List ℕ) (r : Printing) (behind : drop 1 screen ≡ e) (room : most ≤ length out) (told : Tells (k .answer) (imageOf h image) line′ screen out r left) where
+  module _ (image out left screen : List ℕ) (r : Printing) (behind : drop 1 screen ≡ e) (good : treeBefore byte (imageOf h image) ≡ Good) (room : most ≤ length out)
+      (told : Tells (k .answer) (imageOf h image) line′ screen out r left) where
     pub press-told : PressingKey h image slots byte out (record { session = withKey h k; answer = r }) slots′ left
     unfolding keyPrints keyEnds
     press-told =
         record {
           short = λ l. absurd (omega arith);
-          bad = λ m g. let b = subst (λ (x : Pressed). Tells x (imageOf h image) line′ screen out r left) (key-bad g) told in (b .0, record { session = key-kept g .0; held = key-kept g .1; bytes = b .1 });
-          pressed = λ m g good. record {
+          badTree = λ m n f. absurd (let z : _≡_ {A = ℕ} 0 1 = cc in omega arith);
+          badState = λ m f g.
+              let b = subst (λ (x : Pressed). Tells x (imageOf h image) line′ screen out r left) (key-bad g) told in
+              (b .0, record { session = key-kept g .0; held = key-kept g .1; bytes = b .1 });
+          pressed = λ m f g. record {
             session = key-session g;
             held = key-slots g;
-            lines = by g good (t .kind) (subst (λ (x : Pressed). Tells x (imageOf h image) line′ screen out r left) (key-good g) told);
+            lines = by g (t .kind) (subst (λ (x : Pressed). Tells x (imageOf h image) line′ screen out r left) (key-good g) told);
           };
         }
       where
-        by : is ≡ true → checkTree (imageOf h image) ≡ Good → (q : Kind) → Tells (taken t q) (imageOf h image) line′ screen out r left
+        by : is ≡ true → (q : Kind) → Tells (taken t q) (imageOf h image) line′ screen out r left
             → Laid (turnPrints (framesOf (imageOf h image)) t q) (turnEnds (framesOf (imageOf h image)) t q) out r left
-        by g good shows l = subst (λ (x : List ℕ). Laid (shown x) false out r left) (ap (λ (x : List ℕ). take (length (t .screen)) x) behind ∙ key-screen g) l
-        by g good enters l =
-            let short = submitted-short prompt (stateOf (h .editor) (h .history) slots) byte (fine-of (h .editor) (h .history) slots g) in
-            subst (λ (x : List ℕ). Enters (framesOf (imageOf h image)) x out r left) (key-line g) (l good (let m = ap length (key-line g) in omega arith))
-        by g good drops l = l
+        by g shows l = subst (λ (x : List ℕ). Laid (shown x) false out r left) (ap (λ (x : List ℕ). take (length (t .screen)) x) behind ∙ key-screen g) l
+        by g enters l = subst (λ (x : List ℕ). Enters (framesOf (imageOf h image)) x out r left) (key-line g) l
+        by g drops l = l
 
 -- the buffers that came back from the editor, with the kind of the screen's frame before what is shown
 module _ (h : Session) (slots line s : List ℕ) (byte : ℕ) (k : Key) (slots′ line′ e : List ℕ) (full : length line ≡ 255) (wide : length s ≡ 1024)
@@ -261,16 +261,40 @@ module _ (h : Session) (slots line s : List ℕ) (byte : ℕ) (k : Key) (slots�
   pub press-back : length (putMid 1 (length (set s 0 0x22) - 1) (set s 0 0x22) e) ≡ 1024
   press-back = returned-size s e 0 1024 wide (omega arith) (key-size h slots line _ byte k slots′ line′ e p full lent)
 
-  pub press-ready : Within (k .answer) × (getD (putMid 1 (length (set s 0 0x22) - 1) (set s 0 0x22) e) 0 0 ≡ 0x22)
-  press-ready = (key-within h slots line _ byte k slots′ line′ e p full lent, returned-kind s e 0 1024 wide (omega arith))
+  pub press-ready : (image tree : List ℕ) → treeBefore byte (imageOf h image) ≡ Good → tree ≡ imageOf h image
+      → Within tree (k .answer) × (getD (putMid 1 (length (set s 0 0x22) - 1) (set s 0 0x22) e) 0 0 ≡ 0x22)
+  press-ready image tree good same =
+      (key-within h slots line _ byte k slots′ line′ e p full lent tree (ap (treeBefore byte) same ∙ good), returned-kind s e 0 1024 wide (omega arith))
 
-  pub press-done : (image tree out left : List ℕ) (next : Session) (r : Printing) → most ≤ length out → tree ≡ imageOf h image → next ≡ withKey h k
-      → Tells (k .answer) tree line′ (putMid 1 (length (set s 0 0x22) - 1) (set s 0 0x22) e) out r left
+  pub press-done : (image tree out left : List ℕ) (next : Session) (r : Printing) → treeBefore byte (imageOf h image) ≡ Good → most ≤ length out → tree ≡ imageOf h image
+      → next ≡ withKey h k → Tells (k .answer) tree line′ (putMid 1 (length (set s 0 0x22) - 1) (set s 0 0x22) e) out r left
       → PressingKey h image slots byte out (record { session = next; answer = r }) slots′ left
-  press-done image tree out left next r room same after told =
+  press-done image tree out left next r good room same after told =
       subst (λ (x : Session). PressingKey h image slots byte out (record { session = x; answer = r }) slots′ left) (sym after)
-      (press-told h slots line _ byte k slots′ line′ e p full lent image out left _ r (returned-behind s e 0 1024 wide (omega arith)) room
+      (press-told h slots line _ byte k slots′ line′ e p full lent image out left _ r (returned-behind s e 0 1024 wide (omega arith)) good room
       (subst (λ (x : List ℕ). Tells (k .answer) x line′ (putMid 1 (length (set s 0 0x22) - 1) (set s 0 0x22) e) out r left) same told))
+
+-- the refusals before a key is pressed: no room, and a bad tree
+module _ (h : Session) (image slots : List ℕ) (byte : ℕ) (out : List ℕ) where
+  pub press-short : length out < most → PressingKey h image slots byte out (record { session = h; answer = NoRoom most }) slots out
+  press-short l =
+      record {
+        short = λ m. (refl, record { session = refl; held = refl; bytes = refl });
+        badTree = λ m. absurd (omega arith);
+        badState = λ m. absurd (omega arith);
+        pressed = λ m. absurd (omega arith);
+      }
+
+  pub press-refused : (tree : List ℕ) → tree ≡ imageOf h image → (n : ℕ) (told : Checked) → told ≡ treeBefore byte tree → told ≡ BadFrame n → most ≤ length out
+      → PressingKey h image slots byte out (record { session = h; answer = BadTree n }) slots out
+  press-refused tree same n told e k room =
+      let is : treeBefore byte (imageOf h image) ≡ BadFrame n = ap (treeBefore byte) (sym same) ∙ sym e ∙ k in
+      record {
+        short = λ m. absurd (omega arith);
+        badTree = λ m i f. (let both : BadFrame n ≡ BadFrame i = sym is ∙ f in cc, record { session = refl; held = refl; bytes = refl });
+        badState = λ m f. absurd (let z : _≡_ {A = ℕ} 0 1 = cc in omega arith);
+        pressed = λ m f. absurd (let z : _≡_ {A = ℕ} 0 1 = cc in omega arith);
+      }
 
 -- the 2F of a line
 pub refusal-laid : (number : ℕ) (out left : List ℕ) (r : ℕ) → Pushed (houseLine (frameOf (badLine number))) out 0 r left → Laid (badLine number ∷ []) true out (Ends r) left

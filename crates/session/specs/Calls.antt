@@ -1,9 +1,9 @@
 -- What the calls of a session answer and leave, by the parts in which the code holds one.
 use Prim.Native.Nat.{ℕ, _+_, _≤_, _<_}
 use mathlib.Core.Path.{_≡_}
-use mathlib.Core.Bool.{true, false, cond}
+use mathlib.Core.Bool.{Bool, true, false, cond}
 use mathlib.Core.List.{List, [], _∷_}
-use lib.Dec.{ltb}
+use lib.Dec.{eqb, ltb}
 use lib.ListN.{length, take}
 use Rattle.buffer.specs.Write.{overAt}
 use Rattle.frame.specs.House.{houseLeaves}
@@ -12,7 +12,8 @@ use Rattle.image.specs.Reading.{readFirst}
 use Rattle.tree.specs.Images.{framesOf}
 use Rattle.tree.specs.Rules.{checkTree}
 use Rattle.tree.specs.Steps.{startWalk}
-use Rattle.tree.specs.declared.check.Checked.the-variants.{Good}
+use Rattle.tree.specs.declared.check.Checked.{Checked}
+use Rattle.tree.specs.declared.check.Checked.the-variants.{Good, BadFrame}
 use Rattle.tree.specs.declared.walk.Walk.{Walk}
 use Rattle.growth.specs.Growth.{admits, passedBy}
 use Rattle.history.specs.Answer.{atEnd}
@@ -24,10 +25,10 @@ use Rattle.session.specs.Prints.{badLine, prompt, keyPrints, keyEnds}
 use Rattle.session.specs.Lines.{Form, tree, keys, formless, lineForm}
 use Rattle.session.specs.Held.{Laid}
 use Rattle.session.specs.declared.running.Printing.{Printing}
-use Rattle.session.specs.declared.running.Printing.the-variants.{BadState, NoRoom}
+use Rattle.session.specs.declared.running.Printing.the-variants.{BadTree, BadState, NoRoom}
 use Rattle.session.specs.declared.standing.Session.{Session}
 use Rattle.session.specs.declared.pressing.Pressing.{Pressing}
-use Rattle.session.specs.declared.taking.Taken.the-variants.{Tree, Keys, BadLine, Over, NoRoom as NoFrame}
+use Rattle.session.specs.declared.taking.Taken.the-variants.{Tree, Keys, BadLine, Over, NoRoom as NoBuffer}
 use Rattle.session.specs.declared.taking.Took.{Took}
 
 abbrev pub fresh : Session
@@ -64,14 +65,19 @@ imageBy h image (tree frame) = cond (h .keyed) image (cond (admits (h .walk) fra
 imageBy h image (keys bytes) = image
 imageBy h image formless = image
 
--- nothing is read past line 65,535, nor into a buffer that a frame may not fit
-unfoldable pub onLine : {A : Type 0} → Session → ℕ → A → A → A → A
-onLine h room late narrow read = cond (ltb (h .lines) 65535) (cond (ltb room 512) narrow read) late
+-- nothing is read past line 65,535, nor into buffers that a frame or an image may not fit: so many bytes are needed
+unfoldable pub onLine : {A : Type 0} → Session → List ℕ → List ℕ → A → (ℕ → A) → A → A
+onLine h image frame late narrow read =
+    cond (ltb (h .lines) 65535)
+    (cond (ltb (length frame) 512) (narrow 512)
+    (cond (ltb (length image) 32768) (narrow 32768)
+    read))
+    late
 
 pub record TakingLine (h : Session) (line image frame : List ℕ) (r : Took) (image′ frame′ : List ℕ) : Type 0 where
-  pub answer : r ≡ onLine h (length frame) (record { session = h; answer = Over }) (record { session = h; answer = NoFrame 512 }) (tookBy h image (lineForm line))
-  pub built : image′ ≡ onLine h (length frame) image image (imageBy h image (lineForm line))
-  pub read : frame′ ≡ onLine h (length frame) frame frame (houseLeaves line frame)
+  pub answer : r ≡ onLine h image frame (record { session = h; answer = Over }) (λ n. record { session = h; answer = NoBuffer n }) (tookBy h image (lineForm line))
+  pub built : image′ ≡ onLine h image frame image (λ n. image) (imageBy h image (lineForm line))
+  pub read : frame′ ≡ onLine h image frame frame (λ n. frame) (houseLeaves line frame)
 
 -- the image so far, and the turn that a key takes
 abbrev pub imageOf : Session → List ℕ → List ℕ
@@ -79,6 +85,13 @@ imageOf h image = take (h .walk .at) image
 
 abbrev pub turnIn : Session → List ℕ → ℕ → Turn
 turnIn h slots byte = turnOf prompt (stateOf (h .editor) (h .history) slots) byte
+
+-- 0D, 0A: no other byte runs a line, so the tree is tested before these alone
+unfoldable pub isEnter : ℕ → Bool
+isEnter byte = cond (eqb byte 0x0D) true (eqb byte 0x0A)
+
+unfoldable pub treeBefore : ℕ → List ℕ → Checked
+treeBefore byte image = cond (isEnter byte) (checkTree image) Good
 
 -- how many bytes a key may print at most: the line feed, 65,536 bytes of a frame, the prompt
 abbrev pub most : ℕ
@@ -96,10 +109,13 @@ pub record Prints (h : Session) (frames : List Frame) (t : Turn) (out : List ℕ
   pub held : slots′ ≡ slotsOf (t .after)
   pub lines : Laid (keyPrints frames t) (keyEnds frames t) out (r .answer) out′
 
+-- 9, then 1, then 12, or the key is taken
 pub record PressingKey (h : Session) (image slots : List ℕ) (byte : ℕ) (out : List ℕ) (r : Pressing) (slots′ out′ : List ℕ) : Type 0 where
   pub short : length out < most → (r .answer ≡ NoRoom most) × Kept h slots out r slots′ out′
-  pub bad : most ≤ length out → goodState (h .editor) (h .history) slots ≡ false → (r .answer ≡ BadState) × Kept h slots out r slots′ out′
-  pub pressed : most ≤ length out → goodState (h .editor) (h .history) slots ≡ true → checkTree (imageOf h image) ≡ Good
+  pub badTree : most ≤ length out → (n : ℕ) → treeBefore byte (imageOf h image) ≡ BadFrame n → (r .answer ≡ BadTree n) × Kept h slots out r slots′ out′
+  pub badState : most ≤ length out → treeBefore byte (imageOf h image) ≡ Good → goodState (h .editor) (h .history) slots ≡ false
+      → (r .answer ≡ BadState) × Kept h slots out r slots′ out′
+  pub pressed : most ≤ length out → treeBefore byte (imageOf h image) ≡ Good → goodState (h .editor) (h .history) slots ≡ true
       → Prints h (framesOf (imageOf h image)) (turnIn h slots byte) out r slots′ out′
 
 -- the 2F of a line, which is the last that is printed

@@ -20,15 +20,15 @@ use Rattle.session.specs.Prints.{Printed, linesOf, shown, answered, leav
 use Rattle.session.specs.declared.running.Printing.{Printing}
 use Rattle.session.specs.declared.running.Printing.the-variants.{Goes, Ends, BadState}
 
--- what was answered lies within a buffer of so many bytes
+-- a line that was run was not refused, and what was answered lies within a buffer of so many bytes
 abbrev pub Fits : Ran → ℕ → Type 0
 Fits Nothing room = Unit {0}
 Fits (Text m n) room = n ≤ room
 Fits (Exit n) room = n ≤ room
 Fits (Handler h n) room = n ≤ room
-Fits (BadTree n) room = Unit {0}
-Fits (LineTooLong n) room = Unit {0}
-Fits (NoRoom n) room = Unit {0}
+Fits (BadTree n) room = ⊥
+Fits (LineTooLong n) room = ⊥
+Fits (NoRoom n) room = ⊥
 
 -- a line that was run: what it said is the answer, and stands in a buffer from place 3 on
 pub record Says (said : Said) (ran : Ran) (text : List ℕ) : Type 0 where
@@ -53,19 +53,19 @@ pub record Laid (prints : List Printed) (ends : Bool) (out : List ℕ) (r : Prin
 abbrev pub Enters : List Frame → List ℕ → List ℕ → Printing → List ℕ → Type 0
 Enters frames line out r left = Laid (shown lineFeed ++ answered (saidOf frames line)) (leaves (saidOf frames line)) out r left
 
--- bytes that were shown lie within their buffer
-abbrev pub Within : Pressed → Type 0
-Within (Shown n) = n ≤ 1023
-Within (Entered n) = Unit {0}
-Within Dropped = Unit {0}
-Within BadKey = Unit {0}
-Within (BadPrompt n) = Unit {0}
-Within (NoScreen n) = Unit {0}
+-- bytes that were shown lie within their buffer; a line has at most 255 bytes, and is run under a well-formed tree
+abbrev pub Within : List ℕ → Pressed → Type 0
+Within image (Shown n) = n ≤ 1023
+Within image (Entered n) = (checkTree image ≡ Good) × (n ≤ 255)
+Within image Dropped = Unit {0}
+Within image BadKey = Unit {0}
+Within image (BadPrompt n) = Unit {0}
+Within image (NoScreen n) = Unit {0}
 
--- what a key did, by its answer, the line that it submitted and the screen bytes behind their kind; a line is run under a well-formed tree
+-- what a key did, by its answer, the line that it submitted and the screen bytes behind their kind
 abbrev pub Tells : Pressed → List ℕ → List ℕ → List ℕ → List ℕ → Printing → List ℕ → Type 0
 Tells (Shown n) image line screen out r left = Laid (shown (take n (drop 1 screen))) false out r left
-Tells (Entered n) image line screen out r left = checkTree image ≡ Good → length (take n line) ≤ 255 → Enters (framesOf image) (take n line) out r left
+Tells (Entered n) image line screen out r left = Enters (framesOf image) (take n line) out r left
 Tells Dropped image line screen out r left = Laid [] false out r left
 Tells BadKey image line screen out r left = (r ≡ BadState) × (left ≡ out)
 Tells (BadPrompt n) image line screen out r left = (r ≡ BadState) × (left ≡ out)

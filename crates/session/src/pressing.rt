@@ -8,6 +8,8 @@ use super::standing::Session;
 use editor::Key;
 use editor::Pressed;
 use image::part;
+use tree::Checked;
+use tree::check_tree;
 ghost use mathlib.Core.Path.{_≡_};
 ghost use Prim.Native.Nat.{_≤_};
 ghost use lib.ListN.{length, take, drop, getD};
@@ -17,7 +19,7 @@ ghost use Rattle.tree.specs.Rules.{checkTree};
 ghost use Rattle.tree.specs.declared.check.Checked.the-variants.{Good};
 ghost use Rattle.session.specs.Prints.{linesOf, shown};
 ghost use Rattle.session.specs.Held.{Within, Enters, Tells};
-ghost use Rattle.session.specs.Calls.{withKey, most, PressingKey, RefusingLine};
+ghost use Rattle.session.specs.Calls.{withKey, imageOf, treeBefore, most, PressingKey, RefusingLine};
 
 // The session after a key, and what the key prints.
 pub struct Pressing {
@@ -53,8 +55,8 @@ fn print_shown(screen: &[u8], size: usize, out: &mut [u8]) -> usize
 
 // Prints the line feed of Enter, and what running the line prints.
 fn print_entered(image: &[u8], line: &[u8], out: &mut [u8]) -> Printing
-    requires { ⌜ most ≤ length (now out) ⌝ }
-    ensures { λ r. ⌜ (checkTree (now (image .entry)) ≡ Good → length (now (line .entry)) ≤ 255 → Enters (framesOf (now (image .entry))) (now (line .entry)) (now (out .entry)) r (now (out .exit))) ⌝ }
+    requires { ⌜ (checkTree (now image) ≡ Good) × (length (now line) ≤ 255) × (most ≤ length (now out)) ⌝ }
+    ensures { λ r. ⌜ Enters (framesOf (now (image .entry))) (now (line .entry)) (now (out .entry)) r (now (out .exit)) ⌝ }
 {
     let at = print(b"\"\n", out, 0);
     run_line(image, line, out, at)
@@ -68,7 +70,7 @@ fn print_pressed(
     screen: &[u8],
     out: &mut [u8],
 ) -> Printing
-    requires { ⌜ Within answer × (getD (now screen) 0 0 ≡ 0x22) × (most ≤ length (now out)) ⌝ }
+    requires { ⌜ Within (now image) answer × (getD (now screen) 0 0 ≡ 0x22) × (most ≤ length (now out)) ⌝ }
     ensures { λ r. ⌜ Tells answer (now (image .entry)) (now (line .entry)) (now (screen .entry)) (now (out .entry)) r (now (out .exit)) ⌝ }
 {
     match answer {
@@ -79,7 +81,17 @@ fn print_pressed(
     }
 }
 
-// Presses a key with buffers for the line that it may submit and for the screen.
+// The test of the tree before a key: only at Enter a line is run.
+fn check_before(byte: u8, image: &[u8]) -> Checked
+    ensures { λ r. ⌜ r ≡ treeBefore byte (now (image .entry)) ⌝ }
+{
+    match byte {
+        0x0D | 0x0A => check_tree(image),
+        _ => Checked::Good,
+    }
+}
+
+// Presses a key under a tree that was tested, with buffers for the line that it may submit and for the screen.
 fn press_with(
     session: Session,
     image: &[u8],
@@ -89,7 +101,7 @@ fn press_with(
     screen: &mut [u8],
     out: &mut [u8],
 ) -> Pressing
-    requires { ⌜ (length (now line) ≡ 255) × (length (now screen) ≡ 1024) × (most ≤ length (now out)) ⌝ }
+    requires { ⌜ (treeBefore byte (imageOf session (now image)) ≡ Good) × (length (now line) ≡ 255) × (length (now screen) ≡ 1024) × (most ≤ length (now out)) ⌝ }
     ensures { λ r. ⌜ PressingKey session (now (image .entry)) (now (slots .entry)) byte (now (out .entry)) r (now (slots .exit)) (now (out .exit)) ⌝ }
 {
     screen[0] = 0x22;
@@ -118,6 +130,12 @@ pub fn press(session: Session, image: &[u8], slots: &mut [u8], byte: u8, out: &m
         return Pressing {
             session,
             answer: Printing::NoRoom(131101),
+        };
+    }
+    if let Checked::BadFrame(n) = check_before(byte, part(image, 0, session.walk.at)) {
+        return Pressing {
+            session,
+            answer: Printing::BadTree(n),
         };
     }
     let mut line = [0u8; 255];

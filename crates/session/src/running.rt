@@ -24,6 +24,8 @@ pub enum Printing {
     Goes(usize),
     // House lines of so many bytes, and the session is at its end.
     Ends(usize),
+    // The tree is bad: the number of the frame that breaks a rule.
+    BadTree(usize),
     // The state is bad.
     BadState,
     // The buffer is too short: the length needed.
@@ -65,13 +67,12 @@ fn print_handler(handler: usize, text: &mut [u8], size: usize, out: &mut [u8], a
     print_first(text, 3 + size, out, at)
 }
 
-// Prints what a line said, and the prompt unless that is the end.
+// Prints what a line said, and the prompt unless that is the end. The line was not refused: what is left at last is that it said nothing.
 fn print_ran(ran: Ran, text: &mut [u8], out: &mut [u8], at: usize) -> Printing
     requires { ⌜ Fits ran 65533 × (length (now text) ≡ 65536) × (getD (now text) 2 0 ≡ 0x22) × (at + 131096 ≤ length (now out)) ⌝ }
     ensures { λ r. ⌜ ((said : Said) → Says said ran (now (text .entry)) → Answers said (now (out .entry)) at r (now (out .exit))) ⌝ }
 {
     match ran {
-        Ran::Nothing => Printing::Goes(print_prompt(out, at)),
         Ran::Text { number: _, length } => {
             let behind = print_text(text, length, out, at);
             Printing::Goes(print_prompt(out, behind))
@@ -84,14 +85,14 @@ fn print_ran(ran: Ran, text: &mut [u8], out: &mut [u8], at: usize) -> Printing
             let behind = print_handler(handler as usize, text, length, out, at);
             Printing::Goes(print_prompt(out, behind))
         }
-        _ => Printing::BadState,
+        _ => Printing::Goes(print_prompt(out, at)),
     }
 }
 
 // Runs a line under a tree, with a buffer for what it says, and prints that at a place of out.
 fn run_in(image: &[u8], line: &[u8], text: &mut [u8], out: &mut [u8], at: usize) -> Printing
-    requires { ⌜ (length (now text) ≡ 65536) × (at + 131096 ≤ length (now out)) ⌝ }
-    ensures { λ r. ⌜ (checkTree (now (image .entry)) ≡ Good → length (now (line .entry)) ≤ 255 → Answers (saidOf (framesOf (now (image .entry))) (now (line .entry))) (now (out .entry)) at r (now (out .exit))) ⌝ }
+    requires { ⌜ (checkTree (now image) ≡ Good) × (length (now line) ≤ 255) × (length (now text) ≡ 65536) × (at + 131096 ≤ length (now out)) ⌝ }
+    ensures { λ r. ⌜ Answers (saidOf (framesOf (now (image .entry))) (now (line .entry))) (now (out .entry)) at r (now (out .exit)) ⌝ }
 {
     text[2] = 0x22;
     let ran = run(image, line, &mut text[3..]);
@@ -100,8 +101,8 @@ fn run_in(image: &[u8], line: &[u8], text: &mut [u8], out: &mut [u8], at: usize)
 
 // Runs a line under a tree and prints what it says at a place of out.
 pub fn run_line(image: &[u8], line: &[u8], out: &mut [u8], at: usize) -> Printing
-    requires { ⌜ at + 131096 ≤ length (now out) ⌝ }
-    ensures { λ r. ⌜ (checkTree (now (image .entry)) ≡ Good → length (now (line .entry)) ≤ 255 → Answers (saidOf (framesOf (now (image .entry))) (now (line .entry))) (now (out .entry)) at r (now (out .exit))) ⌝ }
+    requires { ⌜ (checkTree (now image) ≡ Good) × (length (now line) ≤ 255) × (at + 131096 ≤ length (now out)) ⌝ }
+    ensures { λ r. ⌜ Answers (saidOf (framesOf (now (image .entry))) (now (line .entry))) (now (out .entry)) at r (now (out .exit)) ⌝ }
 {
     let mut text = [0u8; 65536];
     run_in(image, line, &mut text, out, at)

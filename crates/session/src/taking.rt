@@ -19,7 +19,7 @@ pub enum Taken {
     BadLine(usize),
     // Nothing is read past line 65,535.
     Over,
-    // The buffer for the frame is too short: the length needed.
+    // The buffer for the frame or the one for the image is too short: the length needed.
     NoRoom(usize),
 }
 
@@ -78,6 +78,12 @@ pub fn take_line(session: Session, line: &[u8], image: &mut [u8], frame: &mut [u
         return Took {
             session,
             answer: Taken::NoRoom(512),
+        };
+    }
+    if image.len() < 32768 {
+        return Took {
+            session,
+            answer: Taken::NoRoom(32768),
         };
     }
     let House::Frame(n) = read_line(line, frame) else {

@@ -1,17 +1,28 @@
 -- `session::press` meets its contract.
-use native.Mathlib.Omega.{arith}
-use mathlib.Core.Path.{refl}
+use mathlib.Core.Path.{refl, sym, ap, _∙_}
+use Rattle.session.specs.Calls.{treeBefore}
+use Rattle.session.proofs.Turns.{press-short, press-refused}
 use borrow.Author.Needs.{needs}
 use Rattle.session.proofs.pressing.press.Statement.{statement}
 use Rattle.session.proofs.pressing.press.Tie as tie
 
 returns : tie.Need-returns
-returns c =
-    record {
-      short = λ l. (refl, record { session = refl; held = refl; bytes = refl });
-      bad = λ m. absurd (omega (arith, c .if1 .taken));
-      pressed = λ m. absurd (omega (arith, c .if1 .taken));
-    }
+returns c = press-short (c .before .before .before .before .args .session) (c .before .before .before .before .args .image .now) (c .before .before .before .before .args .slots .now) (c .before .before .before .before .args .byte) (c .before .before .before .before .args .out .now) (c .if1 .taken)
+
+part-requires : tie.Need-part-requires
+part-requires c κs = search needs
+
+check-before-requires : tie.Need-check-before-requires
+check-before-requires c κs = search needs
+
+enum-known-n : tie.Need-enum-known-n
+enum-known-n c = search needs
+
+returns-2 : tie.Need-returns-2
+returns-2 c = press-refused (c .before .before .before .before .before .before .before .before .before .args .session) (c .before .before .before .before .before .before .before .before .before .args .image .now) (c .before .before .before .before .before .before .before .before .before .args .slots .now) (c .before .before .before .before .before .before .before .before .before .args .byte) (c .before .before .before .before .before .before .before .before .before .args .out .now) _ (c .before .before .before .before .part .ensures) _ _ (c .before .before .before .check-before .ensures) (c .before .n .given .1) (c .before .before .before .before .before .if1 .left)
+
+enum-told : tie.Need-enum-told
+enum-told c = search needs
 
 slice-aggregate-press-with : tie.Need-slice-aggregate-press-with
 slice-aggregate-press-with c = search needs
@@ -20,7 +31,8 @@ slice-aggregate-press-with-2 : tie.Need-slice-aggregate-press-with-2
 slice-aggregate-press-with-2 c = search needs
 
 press-with-requires : tie.Need-press-with-requires
-press-with-requires c κs = search needs
+press-with-requires c κs =
+    (ap (treeBefore (c .before .before .before .before .before .before .before .before .before .before .before .before .args .byte)) (sym (c .before .before .before .before .before .before .before .part .ensures)) ∙ sym (c .before .before .before .before .before .before .check-before .ensures) ∙ c .before .before .before .before .enum-told .given .1, refl, refl, c .before .before .before .before .before .before .before .before .if1 .left)
 
 same-length : tie.Need-same-length
 same-length c = search needs
@@ -28,17 +40,22 @@ same-length c = search needs
 same-length-2 : tie.Need-same-length-2
 same-length-2 c = search needs
 
-returns-2 : tie.Need-returns-2
-returns-2 c = search needs
+returns-3 : tie.Need-returns-3
+returns-3 c = c .before .before .before .before .before .before .press-with .ensures
 
 pub press-spec : {M : Type 1} → statement M
 press-spec =
     tie.close
     (tie.spec
     returns
+    part-requires
+    check-before-requires
+    enum-known-n
+    returns-2
+    enum-told
     slice-aggregate-press-with
     slice-aggregate-press-with-2
     press-with-requires
     same-length
     same-length-2
-    returns-2)
+    returns-3)

@@ -11,13 +11,13 @@ print-requires : tie.Need-print-requires
 print-requires c κs = search needs
 
 run-line-requires : tie.Need-run-line-requires
-run-line-requires c κs = feed-room (c .before .before .before .before .before .before .before .before .before .args .out .now) _ _ (c .before .before .before .before .before .before .before .before .before .pre) (c .before .before .before .print .ensures)
+run-line-requires c κs = (c .before .before .before .before .before .before .before .before .before .pre .0, c .before .before .before .before .before .before .before .before .before .pre .1, feed-room (c .before .before .before .before .before .before .before .before .before .args .out .now) _ _ (c .before .before .before .before .before .before .before .before .before .pre .2) (c .before .before .before .print .ensures))
 
 same-length : tie.Need-same-length
 same-length c = search needs
 
 returns : tie.Need-returns
-returns c = λ good short. entered (c .before .before .before .before .before .before .before .before .before .before .before .before .args .out .now) _ _ (c .before .before .before .before .before .before .before .before .before .before .before .before .pre) (c .before .before .before .before .before .before .print .ensures) _ _ _ _ (c .before .before .run-line .ensures good short)
+returns c = entered (c .before .before .before .before .before .before .before .before .before .before .before .before .args .out .now) _ _ (c .before .before .before .before .before .before .before .before .before .before .before .before .pre .2) (c .before .before .before .before .before .before .print .ensures) _ _ _ _ (c .before .before .run-line .ensures)
 
 pub print-entered-spec : {M : Type 1} → statement M
 print-entered-spec =

@@ -1,6 +1,6 @@
 -- `session::pressing::print_pressed` meets its contract: an answer of the editor at a time.
 use mathlib.Core.Path.{refl}
-use Rattle.session.proofs.Turns.{within-shown, tells-shown, tells-entered, tells-dropped, tells-refused}
+use Rattle.session.proofs.Turns.{within-shown, within-entered, tells-shown, tells-entered, tells-dropped, tells-refused}
 use borrow.Author.Needs.{needs}
 use Rattle.session.proofs.pressing.print_pressed.Statement.{statement}
 use Rattle.session.proofs.pressing.print_pressed.Tie as tie
@@ -18,7 +18,9 @@ part-requires : tie.Need-part-requires
 part-requires c κs = search needs
 
 print-entered-requires : tie.Need-print-entered-requires
-print-entered-requires c κs = search needs
+print-entered-requires c κs =
+    let w = within-entered _ (c .before .before .before .before .before .before .before .before .before .args .image .now) (c .before .before .before .before .before .before .before .before .before .args .line .now) (c .before .before .before .before .before .before .before .before .before .args .screen .now) (c .before .before .before .before .before .before .before .before .before .args .out .now) (c .before .before .before .before .before .before .before .before .before .args .out .now) _ _ (c .before .before .before .before .before .before .before .before .before .pre .0) (c .before .before .before .answer2 .given .1) (c .before .part .ensures) in
+    (w .0, w .1, c .before .before .before .before .before .before .before .before .before .pre .2)
 
 enum-told : tie.Need-enum-told
 enum-told c = search needs

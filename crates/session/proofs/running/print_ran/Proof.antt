@@ -1,15 +1,9 @@
 -- `session::running::print_ran` meets its contract: what each answer prints is what the line said.
 use native.Mathlib.Omega.{arith}
-use Rattle.session.proofs.Runs.{text-room, handler-room, fits-text, fits-exit, fits-handler, prints-nothing, prints-text, prints-exit, prints-handler, prints-never}
+use Rattle.session.proofs.Runs.{text-room, handler-room, fits-text, fits-exit, fits-handler, prints-nothing, prints-text, prints-exit, prints-handler}
 use borrow.Author.Needs.{needs}
 use Rattle.session.proofs.running.print_ran.Statement.{statement}
 use Rattle.session.proofs.running.print_ran.Tie as tie
-
-enum-told : tie.Need-enum-told
-enum-told c = search needs
-
-print-prompt-requires : tie.Need-print-prompt-requires
-print-prompt-requires c κs = search needs
 
 enum-known-ran : tie.Need-enum-known-ran
 enum-known-ran c = search needs
@@ -17,8 +11,8 @@ enum-known-ran c = search needs
 print-text-requires : tie.Need-print-text-requires
 print-text-requires c κs = (c .before .before .before .before .before .before .before .pre .1, fits-text 65533 _ _ _ (c .before .before .before .before .before .before .before .pre .0) (c .before .before .before .ran .given .1), c .before .before .before .before .before .before .before .pre .2, omega (arith, c .before .before .before .before .before .before .before .pre .3))
 
-print-prompt-requires-2 : tie.Need-print-prompt-requires-2
-print-prompt-requires-2 c κs = text-room (c .before .before .before .before .before .before .before .before .before .before .before .args .text .now) _ (c .before .before .before .before .before .before .before .before .before .before .before .pre .1) (fits-text 65533 _ _ _ (c .before .before .before .before .before .before .before .before .before .before .before .pre .0) (c .before .before .before .before .before .before .before .ran .given .1)) (c .before .before .before .before .before .before .before .before .before .before .before .args .out .now) _ (c .before .before .before .before .before .before .before .before .before .before .before .args .at) _ (c .before .before .before .before .before .before .before .before .before .before .before .pre .3) (c .before .before .before .print-text .ensures)
+print-prompt-requires : tie.Need-print-prompt-requires
+print-prompt-requires c κs = text-room (c .before .before .before .before .before .before .before .before .before .before .before .args .text .now) _ (c .before .before .before .before .before .before .before .before .before .before .before .pre .1) (fits-text 65533 _ _ _ (c .before .before .before .before .before .before .before .before .before .before .before .pre .0) (c .before .before .before .before .before .before .before .ran .given .1)) (c .before .before .before .before .before .before .before .before .before .before .before .args .out .now) _ (c .before .before .before .before .before .before .before .before .before .before .before .args .at) _ (c .before .before .before .before .before .before .before .before .before .before .before .pre .3) (c .before .before .before .print-text .ensures)
 
 enum-known-ran-2 : tie.Need-enum-known-ran-2
 enum-known-ran-2 c = search needs
@@ -41,54 +35,52 @@ cast-print-handler c = search needs
 print-handler-requires : tie.Need-print-handler-requires
 print-handler-requires c κs = (c .before .before .before .before .before .before .before .pre .1, fits-handler 65533 _ _ _ (c .before .before .before .before .before .before .before .pre .0) (c .before .before .before .ran3 .given .1), omega (arith, c .before .before .before .before .before .before .before .pre .3))
 
+print-prompt-requires-2 : tie.Need-print-prompt-requires-2
+print-prompt-requires-2 c κs = handler-room (c .before .before .before .before .before .before .before .before .before .before .before .before .before .args .text .now) _ (c .before .before .before .before .before .before .before .before .before .before .before .before .before .pre .1) (fits-handler 65533 _ _ _ (c .before .before .before .before .before .before .before .before .before .before .before .before .before .pre .0) (c .before .before .before .before .before .before .before .before .before .ran3 .given .1)) _ (c .before .before .before .before .before .before .before .before .before .before .before .before .before .args .out .now) _ (c .before .before .before .before .before .before .before .before .before .before .before .before .before .args .at) _ (c .before .before .before .before .before .before .before .before .before .before .before .before .before .pre .3) (c .before .before .before .before .before .print-handler .ensures)
+
 print-prompt-requires-3 : tie.Need-print-prompt-requires-3
-print-prompt-requires-3 c κs = handler-room (c .before .before .before .before .before .before .before .before .before .before .before .before .before .args .text .now) _ (c .before .before .before .before .before .before .before .before .before .before .before .before .before .pre .1) (fits-handler 65533 _ _ _ (c .before .before .before .before .before .before .before .before .before .before .before .before .before .pre .0) (c .before .before .before .before .before .before .before .before .before .ran3 .given .1)) _ (c .before .before .before .before .before .before .before .before .before .before .before .before .before .args .out .now) _ (c .before .before .before .before .before .before .before .before .before .before .before .before .before .args .at) _ (c .before .before .before .before .before .before .before .before .before .before .before .before .before .pre .3) (c .before .before .before .before .before .print-handler .ensures)
+print-prompt-requires-3 c κs = search needs
 
 same-length : tie.Need-same-length
 same-length c = search needs
 
-returns : tie.Need-returns
-returns c = λ said h. prints-nothing said _ _ h (c .before .before .before .before .before .before .before .before .args .out .now) _ (c .before .before .before .before .before .before .before .before .args .at) _ (c .before .before .before .before .enum-told .given .1) (c .before .before .print-prompt .ensures)
-
 same-length-2 : tie.Need-same-length-2
 same-length-2 c = search needs
+
+returns : tie.Need-returns
+returns c = λ said h. prints-text said _ _ h (c .before .before .before .before .before .before .before .before .before .before .before .before .before .before .args .out .now) _ (c .before .before .before .before .before .before .before .before .before .before .before .before .before .before .args .at) _ _ _ _ _ (c .before .before .before .before .before .before .before .before .before .before .ran .given .1) (fits-text 65533 _ _ _ (c .before .before .before .before .before .before .before .before .before .before .before .before .before .before .pre .0) (c .before .before .before .before .before .before .before .before .before .before .ran .given .1)) (c .before .before .before .before .before .before .before .before .before .before .before .before .before .before .pre .3) (c .before .before .before .before .before .before .print-text .ensures) (c .before .before .print-prompt .ensures)
 
 same-length-3 : tie.Need-same-length-3
 same-length-3 c = search needs
 
-returns-2 : tie.Need-returns-2
-returns-2 c = λ said h. prints-text said _ _ h (c .before .before .before .before .before .before .before .before .before .before .before .before .before .before .args .out .now) _ (c .before .before .before .before .before .before .before .before .before .before .before .before .before .before .args .at) _ _ _ _ _ (c .before .before .before .before .before .before .before .before .before .before .ran .given .1) (fits-text 65533 _ _ _ (c .before .before .before .before .before .before .before .before .before .before .before .before .before .before .pre .0) (c .before .before .before .before .before .before .before .before .before .before .ran .given .1)) (c .before .before .before .before .before .before .before .before .before .before .before .before .before .before .pre .3) (c .before .before .before .before .before .before .print-text .ensures) (c .before .before .print-prompt2 .ensures)
-
 same-length-4 : tie.Need-same-length-4
 same-length-4 c = search needs
+
+returns-2 : tie.Need-returns-2
+returns-2 c = λ said h. prints-exit said _ _ h (c .before .before .before .before .before .before .before .before .before .before .before .before .before .before .before .args .out .now) _ (c .before .before .before .before .before .before .before .before .before .before .before .before .before .before .before .args .at) _ _ _ _ (c .before .before .before .before .before .before .before .before .before .before .before .ran2 .given .1) (fits-exit 65533 _ _ (c .before .before .before .before .before .before .before .before .before .before .before .before .before .before .before .pre .0) (c .before .before .before .before .before .before .before .before .before .before .before .ran2 .given .1)) (c .before .before .before .before .before .before .before .before .before .before .before .before .before .before .before .pre .3) (c .before .before .before .before .before .before .before .print-text2 .ensures) (c .before .before .print .ensures)
 
 same-length-5 : tie.Need-same-length-5
 same-length-5 c = search needs
 
-returns-3 : tie.Need-returns-3
-returns-3 c = λ said h. prints-exit said _ _ h (c .before .before .before .before .before .before .before .before .before .before .before .before .before .before .before .args .out .now) _ (c .before .before .before .before .before .before .before .before .before .before .before .before .before .before .before .args .at) _ _ _ _ (c .before .before .before .before .before .before .before .before .before .before .before .ran2 .given .1) (fits-exit 65533 _ _ (c .before .before .before .before .before .before .before .before .before .before .before .before .before .before .before .pre .0) (c .before .before .before .before .before .before .before .before .before .before .before .ran2 .given .1)) (c .before .before .before .before .before .before .before .before .before .before .before .before .before .before .before .pre .3) (c .before .before .before .before .before .before .before .print-text2 .ensures) (c .before .before .print .ensures)
-
 same-length-6 : tie.Need-same-length-6
 same-length-6 c = search needs
+
+returns-3 : tie.Need-returns-3
+returns-3 c = λ said h. prints-handler said _ _ h (c .before .before .before .before .before .before .before .before .before .before .before .before .before .before .before .before .args .out .now) _ (c .before .before .before .before .before .before .before .before .before .before .before .before .before .before .before .before .args .at) _ _ _ _ _ (c .before .before .before .before .before .before .before .before .before .before .before .before .ran3 .given .1) (c .before .before .before .before .before .before .before .before .before .before .before .before .before .before .before .before .pre .1) (fits-handler 65533 _ _ _ (c .before .before .before .before .before .before .before .before .before .before .before .before .before .before .before .before .pre .0) (c .before .before .before .before .before .before .before .before .before .before .before .before .ran3 .given .1)) (c .before .before .before .before .before .before .before .before .before .before .before .before .before .before .before .before .pre .3) (c .before .before .before .before .before .before .before .before .print-handler .ensures) (c .before .before .print-prompt2 .ensures)
 
 same-length-7 : tie.Need-same-length-7
 same-length-7 c = search needs
 
 returns-4 : tie.Need-returns-4
-returns-4 c = λ said h. prints-handler said _ _ h (c .before .before .before .before .before .before .before .before .before .before .before .before .before .before .before .before .args .out .now) _ (c .before .before .before .before .before .before .before .before .before .before .before .before .before .before .before .before .args .at) _ _ _ _ _ (c .before .before .before .before .before .before .before .before .before .before .before .before .ran3 .given .1) (c .before .before .before .before .before .before .before .before .before .before .before .before .before .before .before .before .pre .1) (fits-handler 65533 _ _ _ (c .before .before .before .before .before .before .before .before .before .before .before .before .before .before .before .before .pre .0) (c .before .before .before .before .before .before .before .before .before .before .before .before .ran3 .given .1)) (c .before .before .before .before .before .before .before .before .before .before .before .before .before .before .before .before .pre .3) (c .before .before .before .before .before .before .before .before .print-handler .ensures) (c .before .before .print-prompt3 .ensures)
-
-returns-5 : tie.Need-returns-5
-returns-5 c = λ said h. absurd (prints-never said _ _ h (c .before .before .before .args .out .now) (c .before .before .before .args .out .now) (c .before .before .before .args .at) (c .before .before .before .args .at) (c .match .keys5))
+returns-4 c = λ said h. prints-nothing said _ _ h (c .before .before .before .before .before .before .before .args .out .now) _ (c .before .before .before .before .before .before .before .args .at) _ (c .before .before .before .before .match .keys4) (c .before .before .print-prompt3 .ensures)
 
 pub print-ran-spec : {M : Type 1} → statement M
 print-ran-spec =
     tie.close
     (tie.spec
-    enum-told
-    print-prompt-requires
     enum-known-ran
     print-text-requires
-    print-prompt-requires-2
+    print-prompt-requires
     enum-known-ran-2
     print-text-requires-2
     slice-aggregate-print
@@ -96,16 +88,16 @@ print-ran-spec =
     enum-known-ran-3
     cast-print-handler
     print-handler-requires
+    print-prompt-requires-2
     print-prompt-requires-3
     same-length
-    returns
     same-length-2
+    returns
     same-length-3
-    returns-2
     same-length-4
+    returns-2
     same-length-5
-    returns-3
     same-length-6
+    returns-3
     same-length-7
-    returns-4
-    returns-5)
+    returns-4)

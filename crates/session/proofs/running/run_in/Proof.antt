@@ -11,10 +11,10 @@ slice-write-text : tie.Need-slice-write-text
 slice-write-text c = search needs
 
 sub-run : tie.Need-sub-run
-sub-run c = omega (arith, length-set (c .before .before .before .before .args .text .now) 2 0x22, c .before .before .before .before .pre .0)
+sub-run c = omega (arith, length-set (c .before .before .before .before .args .text .now) 2 0x22, c .before .before .before .before .pre .2)
 
 part-run-start : tie.Need-part-run-start
-part-run-start c = omega (arith, length-set (c .before .before .before .before .args .text .now) 2 0x22, c .before .before .before .before .pre .0)
+part-run-start c = omega (arith, length-set (c .before .before .before .before .args .text .now) 2 0x22, c .before .before .before .before .pre .2)
 
 part-run-end : tie.Need-part-run-end
 part-run-end c = search needs
@@ -23,13 +23,15 @@ run-requires : tie.Need-run-requires
 run-requires c κs = search needs
 
 print-ran-requires : tie.Need-print-ran-requires
+unfolding Bytes
 print-ran-requires c κs =
-    let r = run-ready (c .before .before .before .before .before .before .before .before .before .before .args .text .now) _ (c .before .before .before .before .before .before .before .before .before .before .pre .0) _ _ _ (c .before .before .before .before .run .ensures) in
-    (r .0, r .1, r .2, c .before .before .before .before .before .before .before .before .before .before .pre .1)
+    let r = run-ready (c .before .before .before .before .before .before .before .before .before .before .args .text .now) _ (c .before .before .before .before .before .before .before .before .before .before .pre .2) (c .before .before .before .before .before .before .before .before .before .before .args .image .now) (c .before .before .before .before .before .before .before .before .before .before .args .line .now) _ (λ i. c .before .before .before .before .before .before .before .before .before .shared-slice-known .given i .fits) (c .before .before .before .before .before .before .before .before .before .before .pre .0) (c .before .before .before .before .before .before .before .before .before .before .pre .1) (c .before .before .before .before .run .ensures) in
+    (r .0, r .1, r .2, c .before .before .before .before .before .before .before .before .before .before .pre .3)
 
 same-length : tie.Need-same-length
+unfolding Bytes
 same-length c =
-    let back = run-back (c .before .before .before .before .before .before .before .before .before .before .before .before .before .before .before .args .text .now) _ (c .before .before .before .before .before .before .before .before .before .before .before .before .before .before .before .pre .0) _ _ _ (c .before .before .before .before .before .before .before .before .before .run .ensures) in
+    let back = run-back (c .before .before .before .before .before .before .before .before .before .before .before .before .before .before .before .args .text .now) _ (c .before .before .before .before .before .before .before .before .before .before .before .before .before .before .before .pre .2) (c .before .before .before .before .before .before .before .before .before .before .before .before .before .before .before .args .image .now) (c .before .before .before .before .before .before .before .before .before .before .before .before .before .before .before .args .line .now) _ (λ i. c .before .before .before .before .before .before .before .before .before .before .before .before .before .before .shared-slice-known .given i .fits) (c .before .before .before .before .before .before .before .before .before .before .before .before .before .before .before .pre .0) (c .before .before .before .before .before .before .before .before .before .before .before .before .before .before .before .pre .1) (c .before .before .before .before .before .before .before .before .before .run .ensures) in
     search needs
 
 same-length-2 : tie.Need-same-length-2
@@ -37,7 +39,7 @@ same-length-2 c = search needs
 
 returns : tie.Need-returns
 unfolding Bytes
-returns c = λ good short. c .before .before .before .before .print-ran .ensures _ (run-says (c .before .before .before .before .before .before .before .before .before .before .before .before .before .before .before .args .text .now) _ (c .before .before .before .before .before .before .before .before .before .before .before .before .before .before .before .pre .0) _ _ _ (c .before .before .before .before .before .before .before .before .before .run .ensures) (λ i. c .before .before .before .before .before .before .before .before .before .before .before .before .before .before .shared-slice-known .given i .fits) good short)
+returns c = c .before .before .before .before .print-ran .ensures _ (run-says (c .before .before .before .before .before .before .before .before .before .before .before .before .before .before .before .args .text .now) _ (c .before .before .before .before .before .before .before .before .before .before .before .before .before .before .before .pre .2) (c .before .before .before .before .before .before .before .before .before .before .before .before .before .before .before .args .image .now) (c .before .before .before .before .before .before .before .before .before .before .before .before .before .before .before .args .line .now) _ (λ i. c .before .before .before .before .before .before .before .before .before .before .before .before .before .before .shared-slice-known .given i .fits) (c .before .before .before .before .before .before .before .before .before .before .before .before .before .before .before .pre .0) (c .before .before .before .before .before .before .before .before .before .before .before .before .before .before .before .pre .1) (c .before .before .before .before .before .before .before .before .before .run .ensures))
 
 pub run-in-spec : {M : Type 1} → statement M
 run-in-spec =

@@ -1,5 +1,7 @@
--- `output::Console::flush` lends what waits, which lies within the buffer.
-use mathlib.Core.Path.{sym}
+-- `output::Console::flush` meets its contract: it lends what waits, which lies within the buffer.
+use native.Mathlib.Omega.{arith}
+use Prim.Native.Nat.{ℕ}
+use mathlib.Core.Path.{_≡_, refl, sym}
 use lib.Seq.{length-take-le}
 use borrow.Author.Needs.{needs}
 use Rattle.console.proofs.output.Console.flush.Statement.{statement}
@@ -15,7 +17,12 @@ returns : tie.Need-returns
 returns c = search needs
 
 returns-2 : tie.Need-returns-2
-returns-2 c = search needs
+returns-2 c =
+    record {
+      session = refl;
+      waiting = omega arith;
+      over = λ e. let k = c .if2 .left in absurd (let z : _≡_ {A = ℕ} 0 1 = cc in omega arith);
+    }
 
 returns-3 : tie.Need-returns-3
 returns-3 c = search needs

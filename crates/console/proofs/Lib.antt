@@ -1,0 +1,2 @@
+-- Laws of the program `console`.
+mod Stepping
