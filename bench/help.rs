@@ -1,7 +1,7 @@
 // The help of a command and the list of commands, against what the original takes to show the same under the same tree.
 use crate::parse::large_tree;
 use crate::table::help_row;
-use crate::timing::medians;
+use crate::timing::parted;
 use axstd::console::typed;
 use forest::image;
 use original::Original;
@@ -29,10 +29,10 @@ fn row(tree: &str, help: &str, image: &[u8], show: impl Fn(), call: impl Fn(&mut
     let screen = typed(&[], &show).screens.remove(0);
     let shown = call(&mut out) as u32 as usize;
     assert_eq!(out[..shown], screen[..], "{tree} {help}");
-    let [rust, whole, test] = medians([
+    let times = parted(
         &mut || _ = black_box(typed(&[], &show)),
         &mut || _ = black_box(call(black_box(&mut out))),
         &mut || _ = black_box(calls::tree(black_box(image))),
-    ]);
-    help_row(tree, help, shown, rust, whole, test);
+    );
+    help_row(tree, help, shown, &times);
 }

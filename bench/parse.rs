@@ -1,6 +1,6 @@
 // One line parsed, against the original's parse of it under the same tree: the whole call, and what comes after its test of the image.
 use crate::table::parse_row;
-use crate::timing::medians;
+use crate::timing::parted;
 use forest::{Definition, Kind, Node, image};
 use original::Original;
 use original_fs::Original as OriginalFs;
@@ -45,12 +45,12 @@ fn line_row(tree: &str, image: &[u8], count: usize, line: &str) {
     let mut out = [0; ROOM];
     assert!(Original::parse(line).is_ok(), "{line}");
     assert_eq!(calls::parse(image, line.as_bytes(), &mut out) >> 32, 0, "{line}");
-    let [rust, whole, test] = medians([
+    let times = parted(
         &mut || drop(black_box(Original::parse(black_box(line)))),
         &mut || _ = black_box(calls::parse(black_box(image), black_box(line.as_bytes()), black_box(&mut out))),
         &mut || _ = black_box(calls::tree(black_box(image))),
-    ]);
-    parse_row(tree, count, rust, whole, test);
+    );
+    parse_row(tree, count, &times);
 }
 
 /// 16 nodes with 15 children each, all with two options and two flags.

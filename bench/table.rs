@@ -1,5 +1,5 @@
 // The tables: a row for each call and input, with the time of the Rust, ours, and ours divided by the Rust's.
-use crate::timing::{Task, medians};
+use crate::timing::{Parted, Task, medians};
 
 pub fn heading() {
     println!("| call  | input              | bytes | Rust ns | ours ns | ours / Rust |");
@@ -46,12 +46,13 @@ pub fn parse_heading() {
 }
 
 /// Prints the row of one line parsed: the whole call, the test of the image alone, and what is left of the call without it.
-pub fn parse_row(tree: &str, words: usize, rust: f64, whole: f64, test: f64) {
-    let after = whole - test;
+pub fn parse_row(tree: &str, words: usize, times: &Parted) {
+    println!("| {tree:<9} | {words:>5} | {} |", parts(times));
+}
+
+fn parts(&Parted { rust, whole, test, after }: &Parted) -> String {
     let (by_whole, by_after) = (whole / rust, after / rust);
-    println!(
-        "| {tree:<9} | {words:>5} | {rust:>7.0} | {test:>7.0} | {whole:>8.0} | {by_whole:>12.2} | {after:>17.0} | {by_after:>12.2} |"
-    );
+    format!("{rust:>7.0} | {test:>7.0} | {whole:>8.0} | {by_whole:>12.2} | {after:>17.0} | {by_after:>12.2}")
 }
 
 pub fn help_heading() {
@@ -60,13 +61,9 @@ pub fn help_heading() {
     println!("|-----------|--------------|------:|--------:|--------:|---------:|-------------:|------------------:|-------------:|");
 }
 
-/// Prints the row of one help: the whole call, the test of the image alone, and what is left of the call without it.
-pub fn help_row(tree: &str, help: &str, bytes: usize, rust: f64, whole: f64, test: f64) {
-    let after = whole - test;
-    let (by_whole, by_after) = (whole / rust, after / rust);
-    println!(
-        "| {tree:<9} | {help:<12} | {bytes:>5} | {rust:>7.0} | {test:>7.0} | {whole:>8.0} | {by_whole:>12.2} | {after:>17.0} | {by_after:>12.2} |"
-    );
+/// Prints the row of one help, in the same parts.
+pub fn help_row(tree: &str, help: &str, bytes: usize, times: &Parted) {
+    println!("| {tree:<9} | {help:<12} | {bytes:>5} | {} |", parts(times));
 }
 
 pub fn session_heading() {

@@ -7,8 +7,34 @@ const BATCHES: usize = 101;
 /// A batch has so many calls that it takes at least this time: little, so that on a busy machine most batches run undisturbed.
 const BATCH: Duration = Duration::from_micros(500);
 
+/// A call beside the original's, the test of the image with which it begins, and what it takes after that; in nanoseconds.
+pub struct Parted {
+    pub rust: f64,
+    pub whole: f64,
+    pub test: f64,
+    pub after: f64,
+}
+
+/// What the call takes after its test is small beside both under a large image: it is the median of each round's difference, so that a
+/// disturbance longer than a round is in neither.
+pub fn parted(rust: Task, whole: Task, test: Task) -> Parted {
+    let [rust, whole, test] = rounds([rust, whole, test]);
+    let differences = whole.iter().zip(&test).map(|(whole, test)| whole - test).collect();
+    Parted { rust: median(rust), whole: median(whole), test: median(test), after: median(differences) }
+}
+
 /// The nanoseconds that one call of each task takes.
-pub fn medians<const N: usize>(mut tasks: [Task; N]) -> [f64; N] {
+pub fn medians<const N: usize>(tasks: [Task; N]) -> [f64; N] {
+    rounds(tasks).map(median)
+}
+
+fn median(mut times: Vec<f64>) -> f64 {
+    times.sort_by(f64::total_cmp);
+    times[times.len() / 2]
+}
+
+/// The nanoseconds that one call of each task takes, round by round.
+fn rounds<const N: usize>(mut tasks: [Task; N]) -> [Vec<f64>; N] {
     let counts = tasks.each_mut().map(|task| calls_for(BATCH, task));
     let mut times = [(); N].map(|()| Vec::new());
     for _ in 0..BATCHES {
@@ -16,10 +42,7 @@ pub fn medians<const N: usize>(mut tasks: [Task; N]) -> [f64; N] {
             times.push(batch(task, count).as_nanos() as f64 / count as f64);
         }
     }
-    times.map(|mut times| {
-        times.sort_by(f64::total_cmp);
-        times[BATCHES / 2]
-    })
+    times
 }
 
 fn calls_for(least: Duration, task: &mut Task) -> u32 {

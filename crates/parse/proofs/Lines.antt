@@ -26,6 +26,7 @@ use Rattle.tree.specs.Rules.{checkTree}
 use Rattle.tree.specs.declared.check.Checked.{Checked}
 use Rattle.tree.specs.declared.check.Checked.the-variants.{Good, BadFrame}
 use Rattle.parse.specs.Commands.{Outcome, parseWords, parseLine}
+use Rattle.parse.specs.Held.{Enough}
 use Rattle.parse.specs.Answer.{outcomeAnswer, outcomeLeaves, Telling, onChecked, Worded, parseAnswer, parseLeaves, Parsing}
 use Rattle.parse.specs.declared.answer.Parsed.{Parsed}
 use Rattle.parse.specs.declared.answer.Parsed.the-variants.{BadTree, LineTooLong, IllFormed}
@@ -56,9 +57,9 @@ LineTold line (TooLong n) = (ltb 1024 (length line) ≡ true) × (n ≡ min (len
 LineTold line (Ill n) = (ltb 1024 (length line) ≡ false) × (ltb (wellFormedLength line) (length line) ≡ true) × (n ≡ wellFormedLength line)
 LineTold line (TooShort n) = ⊥
 
-pub line-told : (line : List ℕ) (room : ℕ) → room ≡ 4096 → LineTold line (answerFor line room)
+pub line-told : (line : List ℕ) (room : ℕ) → Enough line room → LineTold line (answerFor line room)
 unfolding answerFor
-line-told line room e = by (ltb 1024 (length line)) refl (ltb (wellFormedLength line) (length line)) refl (ltb room (length (written line))) refl
+line-told line room enough = by (ltb 1024 (length line)) refl (ltb (wellFormedLength line) (length line)) refl (ltb room (length (written line))) refl
   where
     by : (x : Bool) → ltb 1024 (length line) ≡ x → (y : Bool) → ltb (wellFormedLength line) (length line) ≡ y → (z : Bool) → ltb room (length (written line)) ≡ z
         → LineTold line (cond x (TooLong (min (length line) 65535)) (cond y (Ill (wellFormedLength line)) (cond z (TooShort (length (written line))) (Words (length (written line))))))
@@ -70,13 +71,26 @@ line-told line room e = by (ltb 1024 (length line)) refl (ltb (wellFormedLength 
         let c : room < length (written line) = ltb-true room (length (written line)) r in
         let d = prefix-fits line in
         let w = written-most line (omega arith) in
+        let l = enough .1 a in
         omega arith
-    by false p false q false r = let c : length (written line) ≤ room = ltb-false room (length (written line)) r in (p, q, omega arith, refl)
+    by false p false q false r = let c : length (written line) ≤ room = ltb-false room (length (written line)) r in let m = enough .0 in (p, q, omega arith, refl)
+
+-- words that are written have found room
+room-told : (line : List ℕ) (room n : ℕ) → answerFor line room ≡ Words n → n ≤ room
+unfolding answerFor
+room-told line room n e = by (ltb 1024 (length line)) (ltb (wellFormedLength line) (length line)) (ltb room (length (written line))) refl e
+  where
+    by : (x y z : Bool) → ltb room (length (written line)) ≡ z
+        → cond x (TooLong (min (length line) 65535)) (cond y (Ill (wellFormedLength line)) (cond z (TooShort (length (written line))) (Words (length (written line))))) ≡ Words n → n ≤ room
+    by true y z r q = absurd (let i : _≡_ {A = ℕ} 0 1 = cc in omega arith)
+    by false true z r q = absurd (let i : _≡_ {A = ℕ} 0 1 = cc in omega arith)
+    by false false true r q = absurd (let i : _≡_ {A = ℕ} 0 1 = cc in omega arith)
+    by false false false r q = let k : length (written line) ≡ n = cc in let c : length (written line) ≤ room = ltb-false room (length (written line)) r in omega arith
 
 told-as : (line : List ℕ) (t u : Tokens) → t ≡ u → LineTold line t → LineTold line u
 told-as line t u e x = rw e at x
 
-module _ (line words left : List ℕ) (t : Tokens) (k : Tokenized line words t left) (room : length words ≡ 4096) where
+module _ (line words left : List ℕ) (t : Tokens) (k : Tokenized line words t left) (room : Enough line (length words)) where
   pub line-by : (u : Tokens) → t ≡ u → LineTold line u
   line-by u e = told-as line (answerFor line (length words)) u (sym (k .answer) ∙ e) (line-told line (length words) room)
 
@@ -87,6 +101,9 @@ module _ (line words left : List ℕ) (t : Tokens) (k : Tokenized line words t l
       let x = line-by (Words n) e in
       let b : left ≡ written line ++ drop (length (written line)) words = k .bytes ∙ ap (λ (u : Tokens). leavesBy u (written line) words) (sym (k .answer) ∙ e) in
       ap (take n) b ∙ ap (λ (m : ℕ). take m (written line ++ drop (length (written line)) words)) (x .3) ∙ take-append-seam (written line) (drop (length (written line)) words)
+
+  pub left-room : (n : ℕ) → t ≡ Words n → n ≤ length words
+  left-room n e = room-told line (length words) n (sym (k .answer) ∙ e)
 
   pub left-length : (n : ℕ) → t ≡ Words n → n ≤ length left
   left-length n e =

@@ -1,5 +1,5 @@
 -- How the code holds what a line says: a verdict, the command's place in the image and in the words, and the scan.
-use Prim.Native.Nat.{ℕ, _≤_}
+use Prim.Native.Nat.{ℕ, _*_, _≤_}
 use mathlib.Core.Path.{_≡_}
 use mathlib.Core.List.{List, []}
 use mathlib.Core.Option.{Option, none, some}
@@ -17,6 +17,10 @@ use Rattle.parse.specs.declared.required.Required.the-variants.{Fine as 
 use Rattle.parse.specs.declared.judging.Verdict.{Verdict}
 use Rattle.parse.specs.declared.judging.Verdict.the-variants.{Fine, NoWords, UnknownCommand, UnknownOption, MissingValue, MissingRequired}
 use Rattle.parse.specs.declared.judging.Judged.{Judged}
+
+-- as many bytes as the words of a line may take: four for each byte of it
+abbrev pub Enough : List ℕ → ℕ → Type 0
+Enough line room = (room ≤ 4096) × (length line ≤ 1024 → 4 * length line ≤ room)
 
 -- a name by where it stands in the command's part of the image
 abbrev pub requiredBy : List ℕ → Required → Option (List ℕ)

@@ -25,7 +25,7 @@ ghost use Rattle.tree.specs.declared.check.Checked.the-variants.{Good};
 ghost use Rattle.tree.specs.Commands.{reachedBy, Within, Descended};
 ghost use Rattle.parse.specs.Commands.{parseWords};
 ghost use Rattle.parse.specs.Answer.{Telling, onChecked, Worded, Parsing};
-ghost use Rattle.parse.specs.Held.{outcomeIn};
+ghost use Rattle.parse.specs.Held.{Enough, outcomeIn};
 ghost use Rattle.parse.specs.declared.answer.Parsed.the-variants.{BadTree};
 
 // Writes what was judged: a report, or the frame of a fault.
@@ -69,18 +69,23 @@ fn tell<'a>(words: &'a [u8], image: &'a [u8], judged: Judged, rest: &[u8], out: 
 }
 
 // The words of a line under a well-formed tree, in which they lead to a place.
-fn parse_command<'a>(words: &'a [u8], image: &'a [u8], place: Place, out: &mut [u8]) -> Parsed
-    requires { ⌜ (length (now words) ≤ 4096) × (checkTree (now image) ≡ Good) × Descended (now words) (now image) place (reachedBy (now image) (now words)) ⌝ }
+fn parse_command<'a>(
+    words: &'a [u8],
+    image: &'a [u8],
+    place: Place,
+    rest: &mut [u8],
+    out: &mut [u8],
+) -> Parsed
+    requires { ⌜ (length (now words) ≤ length (now rest)) × (length (now rest) ≤ 4096) × (checkTree (now image) ≡ Good) × Descended (now words) (now image) place (reachedBy (now image) (now words)) ⌝ }
     ensures { λ r. ⌜ Telling (parseWords (framesOf (now (image .entry))) (textsIn (now (words .entry)))) (now (out .entry)) r (now (out .exit)) ⌝ }
 {
-    let mut rest = [0u8; 4096];
-    let judged = judge(words, image, place, &mut rest);
-    tell(words, image, judged, &rest, out)
+    let judged = judge(words, image, place, rest);
+    tell(words, image, judged, rest, out)
 }
 
 // The words of a line. The image is tested, and on the way the words are followed to their command.
-fn parse_words<'a>(words: &'a [u8], image: &'a [u8], out: &mut [u8]) -> Parsed
-    requires { ⌜ length (now words) ≤ 4096 ⌝ }
+fn parse_words<'a>(words: &'a [u8], image: &'a [u8], rest: &mut [u8], out: &mut [u8]) -> Parsed
+    requires { ⌜ (length (now words) ≤ length (now rest)) × (length (now rest) ≤ 4096) ⌝ }
     ensures { λ r. ⌜ Worded (now (image .entry)) (now (words .entry)) (now (out .entry)) r (now (out .exit)) ⌝ }
 {
     let found = find_command(words, image);
@@ -89,7 +94,7 @@ fn parse_words<'a>(words: &'a [u8], image: &'a [u8], out: &mut [u8]) -> Parsed
         Checked::BadFrame(n) => Parsed::BadTree(n),
         Checked::Good => {
             let place = found.place;
-            parse_command(words, image, place, out)
+            parse_command(words, image, place, rest, out)
         }
     }
 }
@@ -104,16 +109,36 @@ fn unless_bad(image: &[u8], refusal: Parsed) -> Parsed
     }
 }
 
-// The report of a line's command, at the front of out; or a refusal, of which 4 to 7 write a frame with their text. The words of a line always find
-// room: four bytes for each byte of it.
-pub fn parse(image: &[u8], line: &[u8], out: &mut [u8]) -> Parsed
+// A line with buffers for its words, and for those of them that are positional.
+fn parse_with(
+    image: &[u8],
+    line: &[u8],
+    words: &mut [u8],
+    rest: &mut [u8],
+    out: &mut [u8],
+) -> Parsed
+    requires { ⌜ Enough (now line) (length (now words)) × (length (now rest) ≡ length (now words)) ⌝ }
     ensures { λ r. ⌜ Parsing (now (image .entry)) (now (line .entry)) (now (out .entry)) r (now (out .exit)) ⌝ }
 {
-    let mut words = [0u8; 4096];
-    match tokenize(line, &mut words) {
-        Tokens::Words(n) => parse_words(&words[..n], image, out),
+    match tokenize(line, words) {
+        Tokens::Words(n) => parse_words(&words[..n], image, rest, out),
         Tokens::LineTooLong(n) => unless_bad(image, Parsed::LineTooLong(n)),
         Tokens::IllFormed(n) => unless_bad(image, Parsed::IllFormed(n)),
         Tokens::NoRoom(n) => Parsed::NoRoom(n),
     }
+}
+
+// The report of a line's command, at the front of out; or a refusal, of which 4 to 7 write a frame with their text. The words of a line always find
+// room: four bytes for each byte of it. A line that was typed has at most 255, and needs no more than small buffers.
+pub fn parse(image: &[u8], line: &[u8], out: &mut [u8]) -> Parsed
+    ensures { λ r. ⌜ Parsing (now (image .entry)) (now (line .entry)) (now (out .entry)) r (now (out .exit)) ⌝ }
+{
+    if line.len() < 256 {
+        let mut words = [0u8; 1020];
+        let mut rest = [0u8; 1020];
+        return parse_with(image, line, &mut words, &mut rest, out);
+    }
+    let mut words = [0u8; 4096];
+    let mut rest = [0u8; 4096];
+    parse_with(image, line, &mut words, &mut rest, out)
 }

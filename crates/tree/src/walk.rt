@@ -19,7 +19,7 @@ ghost use Rattle.tree.specs.Steps.{Sound, nameAt, seenBy, startWalk, pas
 // there were, and how many options and flags of the last one.
 pub struct Walk {
     pub at: usize,
-    pub names: [usize; 8],
+    pub names: [u16; 8],
     pub deep: usize,
     pub nodes: usize,
     pub options: usize,
@@ -52,7 +52,7 @@ impl Walk {
         requires { ⌜ (depth ≤ 7) × (4 ≤ size) × (self .at + size ≤ 32768) × (self .nodes < 256) ⌝ }
         ensures { λ r. ⌜ r ≡ pastNode self depth size ⌝ }
     {
-        self.names[depth] = self.at + 4;
+        self.names[depth] = (self.at + 4) as u16;
         self.deep = depth + 1;
         self.nodes += 1;
         self.options = 0;
@@ -106,7 +106,7 @@ fn rises_at(image: &[u8], walk: Walk, depth: usize, name: &[u8]) -> bool
     if walk.deep <= depth {
         return true;
     }
-    let before = walk.names[depth];
+    let before = walk.names[depth] as usize;
     is_less(compare(name_at(image, before), name))
 }
 

@@ -14,6 +14,9 @@ mul-before c = search needs
 element-copy-out-before : tie.Need-element-copy-out-before
 element-copy-out-before c = search needs
 
+cast-before : tie.Need-cast-before
+cast-before c = search needs
+
 name-at-requires : tie.Need-name-at-requires
 name-at-requires c κs = search needs
 
@@ -31,4 +34,4 @@ returns-2 c =
 pub rises-at-spec : {M : Type 1} → statement M
 rises-at-spec =
     tie.close
-    (tie.spec returns mul-before element-copy-out-before name-at-requires compare-requires is-less-requires returns-2)
+    (tie.spec returns mul-before element-copy-out-before cast-before name-at-requires compare-requires is-less-requires returns-2)

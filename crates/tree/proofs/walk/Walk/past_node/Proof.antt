@@ -8,6 +8,9 @@ use Rattle.tree.proofs.walk.Walk.past_node.Tie as tie
 add-self : tie.Need-add-self
 add-self c = search needs
 
+cast-self : tie.Need-cast-self
+cast-self c = search needs
+
 mul-self : tie.Need-mul-self
 mul-self c = search needs
 
@@ -30,4 +33,4 @@ returns c = refl
 pub past-node-spec : {M : Type 1} → statement M
 past-node-spec =
     tie.close
-    (tie.spec add-self mul-self element-write-self add-self-2 add-self-3 add-self-4 returns)
+    (tie.spec add-self cast-self mul-self element-write-self add-self-2 add-self-3 add-self-4 returns)
