@@ -5,28 +5,34 @@ use mathlib.Core.Bool.{Bool, true, false, cond}
 use mathlib.Core.List.{List, [], _∷_, _++_, append-nil}
 use native.Mathlib.Omega.{arith}
 use borrow.Author.Tests.{le-leb, lt-leb, leb-true, eq-eqb, ne-eqb}
+use lib.Dec.{leb, ltb}
 use lib.ListN.{length, take, drop, getD, length-append, length-take, length-drop}
-use lib.Seq.{append-snoc, drop-drop, getD-drop, take-add, take-append-seam}
+use types.Run.{OneOf, miss, hit}
+use denote.Enum.Declared.{tagOf}
+use lib.Seq.{append-snoc, drop-drop, getD-drop, getD-take, take-add, take-append-seam}
 use Rattle.buffer.specs.Compare.{sameBytes}
+use Rattle.buffer.proofs.Ordering.{same-is, same-self}
 use Rattle.buffer.proofs.Choices.{then-is, else-is, true-is-not-false}
-use Rattle.frame.specs.Text.{Bytes}
+use Rattle.frame.specs.Text.{Bytes, number, textOf}
 use Rattle.frame.specs.Framed.{frameFirst}
 use Rattle.frame.specs.Series.{textsIn}
-use Rattle.frame.specs.declared.framed.Framed.the-variants.{Frame as Framed}
+use Rattle.frame.specs.declared.framed.Framed.{Framed as Frames}
+use Rattle.frame.specs.declared.framed.Framed.the-variants.{Frame as Framed, Broken, End as Ended}
+use Rattle.frame.proofs.framed.Framed.{the-type}
 use Rattle.frame.proofs.Texts.{bytes-drop}
-use Rattle.frame.proofs.Series.{word-within, words-more, texts-none, whole-none, path-more, path-whole}
-use Rattle.image.specs.Frames.{Perhaps, Frame, node, option, flag, encode}
-use Rattle.image.specs.Limits.{both, fair}
+use Rattle.frame.proofs.Series.{texts-stop, word-within, word-length, words-more, texts-none, whole-none, path-more, path-whole}
+use Rattle.image.specs.Frames.{Perhaps, text, perhaps, Frame, node, option, flag, encode}
+use Rattle.image.specs.Limits.{both, isName, fair}
 use Rattle.image.specs.Reading.{headFirst, readBy, Read, read, broken, ended, readFirst, nodeIn, optionIn, flagIn}
 use Rattle.image.specs.declared.head.Head.{Head}
 use Rattle.image.specs.declared.head.Head.the-variants.{Node, Option, Flag, Bad, End}
-use Rattle.image.proofs.Encoding.{read-back, read-within, fair-fits}
+use Rattle.image.proofs.Encoding.{text-is, read-back, read-within, fair-fits}
 use Rattle.image.proofs.Fields.{both-first, both-second, both-true}
 use Rattle.tree.specs.Images.{framesOf, flat}
 use Rattle.tree.specs.Rules.{obeys, checkTree}
-use Rattle.tree.specs.Steps.{nameAt, seenBy, startWalk, passed as walked, stepBy}
+use Rattle.tree.specs.Steps.{textFirst, nameAt, seenBy, startWalk, passed as walked, stepBy}
 use Rattle.tree.specs.Subtrees.{isNamed, isUpper, upTo, onFrom, rooted, subtree}
-use Rattle.tree.specs.Commands.{Reached, onSubtree, descend, reachedBy, partAt, Descended, Finding, allFair, startTrail, isAbove, Inside, Followed, inside, behind, Passing}
+use Rattle.tree.specs.Commands.{Reached, onSubtree, descend, reachedBy, partAt, Descended, Finding, allFair, nextLength, Ahead, startTrail, isAbove, Inside, Followed, inside, behind, Passing}
 use Rattle.tree.specs.declared.walk.Walk.{Walk}
 use Rattle.tree.specs.declared.walk.Step.{Step}
 use Rattle.tree.specs.declared.command.Place.{Place}
@@ -111,6 +117,8 @@ pub record NodeAt (image : List ℕ) (at : ℕ) (f : Frame) : Type 0 where
   pub below : (k : ℕ) → k ≤ getD image (at + 1) 0 → isAbove k f ≡ false
   pub other : (k : ℕ) (w : List ℕ) → (getD image (at + 1) 0 ≡ k → ⊥) → isNamed k w f ≡ false
   pub named : (w : List ℕ) → isNamed (getD image (at + 1) 0) w f ≡ sameBytes (nameAt image (at + 4)) w
+  pub size : length (nameAt image (at + 4)) ≡ getD image (at + 4) 0
+  pub some : fair f ≡ true → 1 ≤ length (nameAt image (at + 4))
 
 plain-option : (r c : ℕ) (name : List ℕ) (l : Perhaps) (ds : List ℕ) → Plain (option r c name l ds)
 plain-option r c name l ds = record { below = by; other = λ k w. refl }
@@ -140,7 +148,7 @@ module _ (image : List ℕ) (at n : ℕ) (b : Bytes image) where
   no-node (flag c name l ds) e k = plain-flag c name l ds
 
   pub node-at : (f : Frame) → readFirst (drop at image) ≡ read f n → getD image at 0 ≡ 1 → NodeAt image at f
-  unfolding encode
+  unfolding encode text textOf number fair isName
   node-at (node d h name ds u) e k =
       let q : getD image (at + 1) 0 ≡ d = byte-of 1 (node d h name ds u) e in
       record {
@@ -148,6 +156,10 @@ module _ (image : List ℕ) (at n : ℕ) (b : Bytes image) where
         below = λ m l. above-not m d h name ds u (omega arith);
         other = λ m w l. ap (λ (t : Bool). both t (sameBytes name w)) (ne-eqb d m (λ z. l (q ∙ z)));
         named = λ w. ap (λ (t : Bool). both t (sameBytes name w)) (eq-eqb d (getD image (at + 1) 0) (sym q)) ∙ ap (λ (x : List ℕ). sameBytes x w) (sym (read-name image at d h name ds u n e));
+        size =
+            ap length (read-name image at d h name ds u n e)
+            ∙ sym (byte-of 4 (node d h name ds u) e ∙ ap (λ (t : List ℕ). getD (t ++ (text ds ++ perhaps u) ++ drop n (drop at image)) 0 0) (text-is name));
+        some = λ g. rw (read-name image at d h name ds u n e) (leb-true 1 (length name) (both-first (leb 1 (length name)) _ (both-first (isName name) _ (both-second (leb d 7) _ (both-second (ltb h 65536) _ g)))));
       }
   node-at (option r c name l ds) e k = let z : getD image at 0 ≡ 2 = kind-of (option r c name l ds) e in absurd (omega arith)
   node-at (flag c name l ds) e k = let z : getD image at 0 ≡ 3 = kind-of (flag c name l ds) e in absurd (omega arith)
@@ -261,7 +273,7 @@ module _ (words image : List ℕ) (b : Bytes image) (at n : ℕ) (f : Frame) (e 
       word = take m (drop (t .place .at + 3) words)
 
       abbrev next : Trail
-      next = record { place = record { start = at; end = length image; at = t .place .at + 3 + m }; depth = t .depth + 1 }
+      next = record { place = record { start = at; end = length image; at = t .place .at + 3 + m }; depth = t .depth + 1; next = nextLength (frameFirst (drop (t .place .at + 3 + m) words)) }
 
       child : isNamed (t .depth) word f ≡ true → subtree (t .depth) word (passed ++ upTo (isAbove (t .depth)) (framesOf (drop at image))) ≡ f ∷ upTo (isUpper (t .depth)) more
       unfolding subtree
@@ -307,6 +319,44 @@ module _ (words image : List ℕ) (b : Bytes image) (at n : ℕ) (f : Frame) (e 
                 ∙ onward c;
           }
 
+-- THE NEXT WORD by its length
+pub next-framed : (d : Frames) (n : ℕ) → n ≡ nextLength d → n < 65536 → (kind : ℕ) × (d ≡ Framed kind n)
+next-framed (Framed kind m) n e h = (kind, ap (Framed kind) (sym e))
+next-framed Broken n e h = absurd (omega arith)
+next-framed Ended n e h = absurd (omega arith)
+
+pub next-none : (s : List ℕ) (d : Frames) → frameFirst s ≡ d → OneOf (1 ∷ 2 ∷ []) (tagOf the-type d) → 65536 ≡ nextLength (frameFirst s)
+next-none s (Framed kind n) e k = absurd (miss (1 ∷ 2 ∷ []) 0 tt k)
+next-none s Broken e k = sym (ap nextLength e)
+next-none s Ended e k = sym (ap nextLength e)
+
+next-word : (words : List ℕ) (at : ℕ) (w : List ℕ) (l : List (List ℕ)) → textsIn (drop at words) ≡ w ∷ l → (d : Frames) → frameFirst (drop at words) ≡ d → nextLength d ≡ length w
+next-word words at w l q (Framed kind n) e = let k : take n (drop (at + 3) words) ≡ w = cc (q, words-more words at kind n e) in sym (word-length words at kind n e) ∙ ap length k
+next-word words at w l q Broken e = absurd (let z = texts-stop (drop at words) Broken e (hit (1 ∷ 2 ∷ []) 1 tt) in let y : _≡_ {A = ℕ} 0 1 = cc in omega arith)
+next-word words at w l q Ended e = absurd (let z = texts-stop (drop at words) Ended e (hit (1 ∷ 2 ∷ []) 2 tt) in let y : _≡_ {A = ℕ} 0 1 = cc in omega arith)
+
+-- two texts by their last bytes, and by all
+not-same : (a b : List ℕ) → (a ≡ b → ⊥) → sameBytes a b ≡ false
+not-same a b k = by (sameBytes a b) refl
+  where
+    by : (t : Bool) → sameBytes a b ≡ t → sameBytes a b ≡ false
+    by true e = absurd (k (same-is a b e))
+    by false e = e
+
+last-of : (s : List ℕ) (at m : ℕ) → 1 ≤ m → getD (take m (drop at s)) (m - 1) 0 ≡ getD s (at + (m - 1)) 0
+last-of s at m h = getD-take m (drop at s) (m - 1) 0 (omega arith) ∙ getD-drop at s (m - 1) 0
+
+last-word : (words : List ℕ) (at m : ℕ) → 1 ≤ m → getD (take m (drop (at + 3) words)) (m - 1) 0 ≡ getD words (at + 3 + m - 1) 0
+last-word words at m h = let k : at + 3 + (m - 1) ≡ at + 3 + m - 1 = omega arith in last-of words (at + 3) m h ∙ ap (λ (i : ℕ). getD words i 0) k
+
+last-name : (image : List ℕ) (p m : ℕ) → length (nameAt image p) ≡ getD image p 0 → length (nameAt image p) ≡ m → 1 ≤ m → getD image (p + m) 0 ≡ getD (nameAt image p) (m - 1) 0
+unfolding textFirst
+last-name image p m s e h =
+    let z : p + 0 ≡ p = omega arith in
+    let k : getD (drop p image) 0 0 ≡ m = getD-drop p image 0 0 ∙ ap (λ (i : ℕ). getD image i 0) z ∙ sym s ∙ e in
+    let j : p + 1 + (m - 1) ≡ p + m = omega arith in
+    sym (ap (λ (i : ℕ). getD (take i (drop 1 (drop p image))) (m - 1) 0) k ∙ ap (λ (l : List ℕ). getD (take m l) (m - 1) 0) (drop-drop 1 p image) ∙ last-of image (p + 1) m h ∙ ap (λ (i : ℕ). getD image i 0) j)
+
 -- THE TURNS OF THE CODE
 module _ (words image : List ℕ) (b : Bytes image) (at : ℕ) (h : at < length image) (t : Trail) where
   -- no node
@@ -330,46 +380,62 @@ module _ (words image : List ℕ) (b : Bytes image) (at : ℕ) (h : at < length 
     past-deep k f n e g (behind z d) = behind z d
 
     -- a node that is not below
-    pub past-above : getD image (at + 1) 0 < t .depth → length image ≤ t .place .end → Passing words image at t (record { place = record { start = t .place .start; end = at; at = t .place .at }; depth = t .depth })
+    pub past-above : getD image (at + 1) 0 < t .depth → length image ≤ t .place .end → Passing words image at t (record { place = record { start = t .place .start; end = at; at = t .place .at }; depth = t .depth; next = t .next })
     past-above k l f n e g (inside passed o) =
         let x = node-at image at n b f e kind in
         behind h (closes words image b at n f e g h t passed o (x .above (t .depth) k))
     past-above k l f n e g (behind z d) = absurd (omega arith)
 
-    -- a child, where no word is left, of another name, and of the name that is next
+    -- a child that is not of the next word's name, told by lengths, by last bytes or by all of them; and the one that is
     module _ (deep : getD image (at + 1) 0 ≡ t .depth) (end : length image ≤ t .place .end) where
-      pub past-last : textsIn (drop (t .place .at) words) ≡ [] → Passing words image at t t
-      past-last k f n e g (inside passed o) =
+      past-unlike : ((f : Frame) (n : ℕ) → readFirst (drop at image) ≡ read f n → fair f ≡ true → (w : List ℕ) (l : List (List ℕ)) → textsIn (drop (t .place .at) words) ≡ w ∷ l → nameAt image (at + 4) ≡ w → ⊥)
+          → Passing words image at t t
+      past-unlike k f n e g (inside passed o) =
           let x = node-at image at n b f e kind in
-          inside _ (passes-by words image b at n f e g h t passed o (x .below (t .depth) (omega arith)) (λ w l q. absurd (let z : _≡_ {A = ℕ} 0 1 = cc in omega arith)))
-      past-last k f n e g (behind z d) = absurd (omega arith)
+          inside _
+          (passes-by words image b at n f e g h t passed o (x .below (t .depth) (omega arith))
+          (λ w l q. ap (λ (d : ℕ). isNamed d w f) (sym deep) ∙ x .named w ∙ not-same (nameAt image (at + 4)) w (k f n e g w l q)))
+      past-unlike k f n e g (behind z d) = absurd (omega arith)
 
-      module _ (framed m : ℕ) (q : frameFirst (drop (t .place .at) words) ≡ Framed framed m) (name word : List ℕ) (r : Bool)
-          (is-name : name ≡ nameAt image (at + 4)) (is-word : word ≡ take m (drop (t .place .at + 3) words)) (is-same : r ≡ sameBytes name word) where
-        named-as : (f : Frame) (n : ℕ) → readFirst (drop at image) ≡ read f n → isNamed (t .depth) (take m (drop (t .place .at + 3) words)) f ≡ r
-        named-as f n e =
-            let x = node-at image at n b f e kind in
-            ap (λ (k : ℕ). isNamed k (take m (drop (t .place .at + 3) words)) f) (sym deep) ∙ x .named (take m (drop (t .place .at + 3) words))
-            ∙ sym (is-same ∙ ap (λ (s : List ℕ). sameBytes s word) is-name ∙ ap (sameBytes (nameAt image (at + 4))) is-word)
+      pub past-longer : Ahead words t → (getD image (at + 4) 0 ≡ t .next → ⊥) → Passing words image at t t
+      past-longer a k =
+          past-unlike
+          (λ f n e g w l q z. k (sym (node-at image at n b f e kind .size) ∙ ap length z ∙ sym (a ∙ next-word words (t .place .at) w l q (frameFirst (drop (t .place .at) words)) refl)))
 
-        pub past-other : r ≡ false → Passing words image at t t
-        past-other k f n e g (inside passed o) =
-            let x = node-at image at n b f e kind in
-            inside _
-            (passes-by words image b at n f e g h t passed o (x .below (t .depth) (omega arith))
-            (λ w l z. let y : w ≡ take m (drop (t .place .at + 3) words) = cc (z, words-more words (t .place .at) framed m q) in ap (λ (s : List ℕ). isNamed (t .depth) s f) y ∙ named-as f n e ∙ k))
-        past-other k f n e g (behind z d) = absurd (omega arith)
+      module _ (framed m : ℕ) (q : frameFirst (drop (t .place .at) words) ≡ Framed framed m) where
+        abbrev ahead : List ℕ
+        ahead = take m (drop (t .place .at + 3) words)
 
-        pub past-named : Bytes words → length words ≤ 4096 → r ≡ true → Passing words image at t (record { place = record { start = at; end = length image; at = t .place .at + 3 + m }; depth = t .depth + 1 })
-        past-named bw s k f n e g (inside passed o) =
+        next-is : (w : List ℕ) (l : List (List ℕ)) → textsIn (drop (t .place .at) words) ≡ w ∷ l → w ≡ ahead
+        next-is w l z = cc (z, words-more words (t .place .at) framed m q)
+
+        pub past-last : (getD image (at + 4 + m) 0 ≡ getD words (t .place .at + 3 + m - 1) 0 → ⊥) → Passing words image at t t
+        past-last k =
+            past-unlike
+            (λ f n e g w l z y.
             let x = node-at image at n b f e kind in
-            inside _
-            (enters words image b at n f e g h t passed o framed m q bw s (x .below (t .depth) (omega arith)) (named-as f n e ∙ k)
-            (λ w. x .other (t .depth + 1) w (λ z. omega arith)))
-        past-named bw s k f n e g (behind z d) = absurd (omega arith)
+            let s = x .some g in
+            let c : length (nameAt image (at + 4)) ≡ m = ap length (y ∙ next-is w l z) ∙ word-length words (t .place .at) framed m q in
+            k (last-name image (at + 4) m (x .size) c (omega arith) ∙ ap (λ (v : List ℕ). getD v (m - 1) 0) (y ∙ next-is w l z) ∙ last-word words (t .place .at) m (omega arith)))
+
+        module _ (name next : List ℕ) (r : Bool) (is-name : name ≡ nameAt image (at + 4)) (is-word : next ≡ ahead) (is-same : r ≡ sameBytes name next) where
+          same-as : r ≡ sameBytes (nameAt image (at + 4)) ahead
+          same-as = is-same ∙ ap (λ (s : List ℕ). sameBytes s next) is-name ∙ ap (sameBytes (nameAt image (at + 4))) is-word
+
+          pub past-other : r ≡ false → Passing words image at t t
+          past-other k = past-unlike (λ f n e g w l z y. true-is-not-false (sym (ap (λ (s : List ℕ). sameBytes s ahead) (y ∙ next-is w l z) ∙ same-self ahead) ∙ sym same-as ∙ k))
+
+          pub past-named : Bytes words → length words ≤ 4096 → r ≡ true
+              → Passing words image at t (record { place = record { start = at; end = length image; at = t .place .at + 3 + m }; depth = t .depth + 1; next = nextLength (frameFirst (drop (t .place .at + 3 + m) words)) })
+          past-named bw s k f n e g (inside passed o) =
+              let x = node-at image at n b f e kind in
+              inside _
+              (enters words image b at n f e g h t passed o framed m q bw s (x .below (t .depth) (omega arith)) (ap (λ (d : ℕ). isNamed d ahead f) (sym deep) ∙ x .named ahead ∙ sym same-as ∙ k)
+              (λ w. x .other (t .depth + 1) w (λ z. omega arith)))
+          past-named bw s k f n e g (behind z d) = absurd (omega arith)
 
 -- THE START AND THE END
-pub follows-start : (words image : List ℕ) (walk : Walk) (t : Trail) → walk ≡ startWalk → t ≡ startTrail image → Followed words image (walk .at) t
+pub follows-start : (words image : List ℕ) (walk : Walk) (t : Trail) → walk ≡ startWalk → t ≡ startTrail words image → Followed words image (walk .at) t
 unfolding flat allFair onFrom reachedBy
 follows-start words image walk t e q =
     rw (e, q)

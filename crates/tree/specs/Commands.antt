@@ -5,7 +5,10 @@ use mathlib.Core.Path.{_≡_}
 use mathlib.Core.Bool.{Bool, true, false}
 use mathlib.Core.List.{List, [], _∷_, _++_}
 use lib.ListN.{length, take, drop}
+use Rattle.frame.specs.Framed.{frameFirst}
 use Rattle.frame.specs.Series.{textsIn, Whole}
+use Rattle.frame.specs.declared.framed.Framed.{Framed}
+use Rattle.frame.specs.declared.framed.Framed.the-variants.{Frame as Word, Broken, End}
 use Rattle.image.specs.Frames.{Frame}
 use Rattle.image.specs.Reading.{read, readFirst}
 use Rattle.image.specs.Limits.{both, fair}
@@ -67,9 +70,18 @@ unfoldable pub allFair : List Frame → Bool
 allFair [] = true
 allFair (f ∷ l) = both (fair f) (allFair l)
 
+-- the length of the next word, 65,536 where there is none
+abbrev pub nextLength : Framed → ℕ
+nextLength (Word kind n) = n
+nextLength Broken = 65536
+nextLength End = 65536
+
+abbrev pub Ahead : List ℕ → Trail → Type 0
+Ahead words t = t .next ≡ nextLength (frameFirst (drop (t .place .at) words))
+
 -- no frame is passed
-abbrev pub startTrail : List ℕ → Trail
-startTrail image = record { place = record { start = 0; end = length image; at = 0 }; depth = 0 }
+abbrev pub startTrail : List ℕ → List ℕ → Trail
+startTrail words image = record { place = record { start = 0; end = length image; at = 0 }; depth = 0; next = nextLength (frameFirst words) }
 
 -- a node above those of a depth
 abbrev pub isAbove : ℕ → Frame → Bool

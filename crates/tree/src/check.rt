@@ -46,7 +46,7 @@ pub fn find_command(words: &[u8], image: &[u8]) -> Found
         return bad(0);
     }
     let mut walk = Walk::start();
-    let mut trail = Trail::start(image);
+    let mut trail = Trail::start(words, image);
     let mut n = 0;
     while walk.at < image.len() {
         let step = step_at(image, walk);

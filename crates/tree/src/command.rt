@@ -7,8 +7,9 @@ use image::byte_at;
 use image::part;
 ghost use mathlib.Core.Path.{_≡_};
 ghost use Prim.Native.Nat.{_+_, _≤_, _<_};
-ghost use lib.ListN.{length, getD};
-ghost use Rattle.tree.specs.Commands.{startTrail, Passing};
+ghost use lib.ListN.{length, drop, getD};
+ghost use Rattle.frame.specs.Framed.{frameFirst};
+ghost use Rattle.tree.specs.Commands.{nextLength, Ahead, startTrail, Passing};
 
 // Where words have led: the part of the image that their command has, and the place in the words behind its path. It is the whole image, and
 // no word is passed, where the first word names no command.
@@ -18,16 +19,28 @@ pub struct Place {
     pub at: usize,
 }
 
-// Where they have led so far, and the depth of a child there. The part ends with the image until a node comes that is not below.
+// Where they have led so far, the depth of a child there, and the length of the next word, 65,536 where there is none. The part ends with the
+// image until a node comes that is not below.
 pub struct Trail {
     pub place: Place,
     pub depth: usize,
+    pub next: usize,
+}
+
+// The length of the word at a place.
+fn next_length(words: &[u8], at: usize) -> usize
+    ensures { λ r. ⌜ r ≡ nextLength (frameFirst (drop at (now (words .entry)))) ⌝ }
+{
+    let Framed::Frame { kind: _, length } = read_frame(words, at) else {
+        return 65536;
+    };
+    length
 }
 
 impl Trail {
     // No frame is passed.
-    pub fn start(image: &[u8]) -> Trail
-        ensures { λ r. ⌜ r ≡ startTrail (now (image .entry)) ⌝ }
+    pub fn start(words: &[u8], image: &[u8]) -> Trail
+        ensures { λ r. ⌜ r ≡ startTrail (now (words .entry)) (now (image .entry)) ⌝ }
     {
         Trail {
             place: Place {
@@ -36,20 +49,26 @@ impl Trail {
                 at: 0,
             },
             depth: 0,
+            next: next_length(words, 0),
         }
     }
 
-    // The child at a place of the image is passed: it is followed if it has the name that the next word is.
+    // The child at a place of the image is passed: it is followed if it has the name that the next word is. Names of one list often begin
+    // alike, so lengths and last bytes are compared first.
     fn past_child(self, words: &[u8], image: &[u8], at: usize) -> Trail
-        requires { ⌜ (length (now words) ≤ 4096) × (length (now image) ≤ 32768) × (at < length (now image)) ⌝ }
+        requires { ⌜ (length (now words) ≤ 4096) × (length (now image) ≤ 32768) × (at < length (now image)) × Ahead (now words) self ⌝ }
         requires { ⌜ (getD (now image) at 0 ≡ 1) × (getD (now image) (at + 1) 0 ≡ self .depth) × (length (now image) ≤ self .place .end) × (self .depth < 256) ⌝ }
-        ensures { λ r. ⌜ Passing (now (words .entry)) (now (image .entry)) at self r ⌝ }
+        ensures { λ r. ⌜ Passing (now (words .entry)) (now (image .entry)) at self r × Ahead (now (words .entry)) r ⌝ }
     {
-        let next = self.place.at;
-        let Framed::Frame { kind: _, length } = read_frame(words, next) else {
+        let length = self.next;
+        if byte_at(image, at + 4) != length {
             return self;
-        };
-        let name = next + 3;
+        }
+        let name = self.place.at + 3;
+        let behind = name + length;
+        if byte_at(image, at + 4 + length) != byte_at(words, behind - 1) {
+            return self;
+        }
         if !same(name_at(image, at + 4), part(words, name, length)) {
             return self;
         }
@@ -57,16 +76,17 @@ impl Trail {
             place: Place {
                 start: at,
                 end: image.len(),
-                at: name + length,
+                at: behind,
             },
             depth: self.depth + 1,
+            next: next_length(words, behind),
         }
     }
 
     // The frame at a place of the image is passed.
     pub fn past(self, words: &[u8], image: &[u8], at: usize) -> Trail
-        requires { ⌜ (length (now words) ≤ 4096) × (length (now image) ≤ 32768) × (at < length (now image)) ⌝ }
-        ensures { λ r. ⌜ Passing (now (words .entry)) (now (image .entry)) at self r ⌝ }
+        requires { ⌜ (length (now words) ≤ 4096) × (length (now image) ≤ 32768) × (at < length (now image)) × Ahead (now words) self ⌝ }
+        ensures { λ r. ⌜ Passing (now (words .entry)) (now (image .entry)) at self r × Ahead (now (words .entry)) r ⌝ }
     {
         if image[at] != 0x01 {
             return self;
@@ -88,6 +108,7 @@ impl Trail {
                 at: self.place.at,
             },
             depth: self.depth,
+            next: self.next,
         }
     }
 }

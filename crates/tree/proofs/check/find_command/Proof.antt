@@ -3,16 +3,16 @@ use Prim.Native.Nat.{_-_}
 use mathlib.Core.Path.{refl, _∙_}
 use native.Mathlib.Omega.{arith}
 use borrow.Author.Tests.{not-true, not-false}
+use borrow.Author.Needs.{needs}
 use lib.ListN.{length}
-use Rattle.tree.specs.Commands.{Followed}
+use Rattle.tree.specs.Commands.{Ahead, Followed}
 use Rattle.tree.proofs.Items.{OnWay, goes-on, stops, sets-out, arrives, check-long, check-judged}
 use Rattle.tree.proofs.Commands.{follows-start, follows-end, follows-turn, found-bad, found-good}
-use borrow.Author.Needs.{needs}
 use Rattle.tree.proofs.check.find_command.Statement.{statement}
 use Rattle.tree.proofs.check.find_command.Tie as tie
 
 abbrev Inv-loop : tie.InvT-loop
-Inv-loop words image walk₀ trail₀ n₀ walk trail n = OnWay image walk n × Followed words image (walk .at) trail
+Inv-loop words image walk₀ trail₀ n₀ walk trail n = OnWay image walk n × Followed words image (walk .at) trail × Ahead words trail
 
 abbrev μ-loop : tie.MeasureT-loop
 μ-loop words image walk₀ trail₀ n₀ walk trail n = length image - walk .at
@@ -30,7 +30,7 @@ start-requires-2 : tie.Need-start-requires-2 Inv-loop μ-loop
 start-requires-2 c κs = search needs
 
 loop-holds : tie.Need-loop-holds Inv-loop μ-loop
-loop-holds c = (sets-out _ _ (c .before .start .ensures), follows-start (c .before .before .before .before .before .args .words .now) (c .before .before .before .before .before .args .image .now) _ _ (c .before .start .ensures) (c .start2 .ensures))
+loop-holds c = (sets-out _ _ (c .before .start .ensures), follows-start (c .before .before .before .before .before .args .words .now) (c .before .before .before .before .before .args .image .now) _ _ (c .before .start .ensures) (c .start2 .ensures), rw (c .start2 .ensures) refl)
 
 step-at-requires : tie.Need-step-at-requires Inv-loop μ-loop
 step-at-requires c κs = (c .before .before .loop .inv .0 .sound, c .before .before .before .before .before .if1 .left, c .before .before .loop .inv .0 .within)
@@ -42,7 +42,7 @@ returns-2 : tie.Need-returns-2 Inv-loop μ-loop
 returns-2 c = found-bad _ _ _ _ (c .bad2 .ensures) (stops _ _ _ (c .before .before .before .before .before .before .loop .inv .0) _ _ refl (c .before .before .before .step-at .ensures) (not-true _ (c .before .if3 .taken)) (c .before .before .before .before .if2 .taken) ∙ check-judged _ (c .before .before .before .before .before .before .before .before .before .if1 .left))
 
 past-requires : tie.Need-past-requires Inv-loop μ-loop
-past-requires c κs = (c .before .before .before .before .before .before .before .before .before .before .before .pre, c .before .before .before .before .before .before .before .before .if1 .left, c .before .before .before .if2 .taken)
+past-requires c κs = (c .before .before .before .before .before .before .before .before .before .before .before .pre, c .before .before .before .before .before .before .before .before .if1 .left, c .before .before .before .if2 .taken, c .before .before .before .before .before .loop .inv .2)
 
 add-n : tie.Need-add-n Inv-loop μ-loop
 add-n c = omega (arith, c .before .before .before .before .before .before .before .loop .inv .0 .count, c .before .before .before .before .before .before .before .loop .inv .0 .within, c .before .before .before .before .before .before .before .before .before .before .if1 .left)
@@ -51,7 +51,7 @@ loop-less : tie.Need-loop-less Inv-loop μ-loop
 loop-less c = let t = goes-on _ _ _ (c .before .before .before .before .before .before .before .loop .inv .0) (c .before .before .before .before .step-at .result) _ refl (c .before .before .before .before .step-at .ensures) (not-false _ (c .before .before .if3 .left)) in omega (arith, t .0, t .1 .within)
 
 loop-again : tie.Need-loop-again Inv-loop μ-loop
-loop-again c = let o = not-false _ (c .before .before .if3 .left) in (goes-on _ _ _ (c .before .before .before .before .before .before .before .loop .inv .0) (c .before .before .before .before .step-at .result) _ refl (c .before .before .before .before .step-at .ensures) o .1, follows-turn (c .before .before .before .before .before .before .before .before .before .before .before .before .before .args .words .now) (c .before .before .before .before .before .before .before .before .before .before .before .before .before .args .image .now) (c .before .before .before .before .before .before .before .loop .walk) (c .before .before .before .before .step-at .result) (c .before .before .before .before .before .before .before .loop .trail) _ _ refl (c .before .before .before .before .step-at .ensures) o (c .before .past .ensures) (c .before .before .before .before .before .before .before .loop .inv .1))
+loop-again c = let o = not-false _ (c .before .before .if3 .left) in (goes-on _ _ _ (c .before .before .before .before .before .before .before .loop .inv .0) (c .before .before .before .before .step-at .result) _ refl (c .before .before .before .before .step-at .ensures) o .1, follows-turn (c .before .before .before .before .before .before .before .before .before .before .before .before .before .args .words .now) (c .before .before .before .before .before .before .before .before .before .before .before .before .before .args .image .now) (c .before .before .before .before .before .before .before .loop .walk) (c .before .before .before .before .step-at .result) (c .before .before .before .before .before .before .before .loop .trail) _ _ refl (c .before .before .before .before .step-at .ensures) o (c .before .past .ensures .0) (c .before .before .before .before .before .before .before .loop .inv .1), c .before .past .ensures .1)
 
 returns-3 : tie.Need-returns-3 Inv-loop μ-loop
 returns-3 c = found-good _ _ _ (arrives _ _ _ (c .before .before .before .loop .inv .0) (c .before .if2 .left) ∙ check-judged _ (c .before .before .before .before .before .before .if1 .left)) (follows-end (c .before .before .before .before .before .before .before .before .before .args .words .now) (c .before .before .before .before .before .before .before .before .before .args .image .now) _ _ (c .before .if2 .left) (c .before .before .before .loop .inv .1))
