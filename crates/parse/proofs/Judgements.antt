@@ -21,7 +21,8 @@ use Rattle.image.specs.Limits.{fair}
 use Rattle.image.proofs.Fields.{both-first, both-second}
 use Rattle.tree.specs.Images.{framesOf}
 use Rattle.tree.specs.Rules.{isLess, after, checkTree}
-use Rattle.tree.specs.Commands.{Reached, onSubtree, descend, reachedBy, partAt, Within, Descended}
+use Rattle.tree.specs.Commands.{Reached, onSubtree, descend, reachedBy}
+use Rattle.tree.specs.Trails.{partAt, Within, Descended}
 use Rattle.tree.specs.Forest.{Forest, bare, grown, flatten, optionsIn, flagsIn, definitionsOnly, modest, orderly}
 use Rattle.tree.specs.declared.check.Checked.the-variants.{Good}
 use Rattle.tree.proofs.Wholes.{WellFormed, good-well-formed}

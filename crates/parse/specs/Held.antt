@@ -8,7 +8,7 @@ use Rattle.frame.specs.Series.{textsIn}
 use Rattle.table.specs.Held.{partOf}
 use Rattle.image.specs.Frames.{Frame}
 use Rattle.tree.specs.Images.{framesOf}
-use Rattle.tree.specs.Commands.{partAt, Within}
+use Rattle.tree.specs.Trails.{partAt, Within}
 use Rattle.scan.specs.Arguments.{Found}
 use Rattle.scan.specs.Held.{toldOf, foundOf}
 use Rattle.parse.specs.Commands.{Outcome, parsed, fault, emptyCommand}

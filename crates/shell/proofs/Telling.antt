@@ -9,7 +9,8 @@ use Rattle.buffer.proofs.Choices.{then-is, else-is}
 use Rattle.frame.specs.Series.{textsIn}
 use Rattle.report.specs.Report.{dashed, reportOf}
 use Rattle.tree.specs.Images.{framesOf}
-use Rattle.tree.specs.Commands.{reachedBy, partAt}
+use Rattle.tree.specs.Commands.{reachedBy}
+use Rattle.tree.specs.Trails.{partAt}
 use Rattle.message.specs.Messages.{message}
 use Rattle.message.specs.declared.told.Told.{Told}
 use Rattle.message.specs.declared.told.Told.the-variants.{NoHandler}

@@ -8,7 +8,8 @@ use Rattle.text.specs.Apart.{trimmed}
 use Rattle.frame.specs.Series.{textsIn}
 use Rattle.words.specs.Tokens.{wordsOf}
 use Rattle.tree.specs.Rules.{checkTree}
-use Rattle.tree.specs.Commands.{reachedBy, Descended}
+use Rattle.tree.specs.Commands.{reachedBy}
+use Rattle.tree.specs.Trails.{Descended}
 use Rattle.tree.specs.declared.check.Checked.the-variants.{Good}
 use Rattle.tree.specs.declared.command.Place.{Place}
 

@@ -3,7 +3,7 @@ pub mod Walks
 pub mod Told
 pub mod Items
 pub mod Wholes
-pub mod Commands
+pub mod Trails
 pub mod Growing
 pub mod Planting
 pub mod Forests

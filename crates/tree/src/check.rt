@@ -8,7 +8,7 @@ ghost use mathlib.Core.Path.{_≡_};
 ghost use Prim.Native.Nat.{_≤_};
 ghost use lib.ListN.{length};
 ghost use Rattle.tree.specs.Rules.{checkTree};
-ghost use Rattle.tree.specs.Commands.{Finding};
+ghost use Rattle.tree.specs.Trails.{Finding};
 ghost use Rattle.tree.specs.declared.check.Checked.the-variants.{BadFrame};
 
 // What an image is: well-formed, or bad with the number, from 0, of the first frame that breaks a rule.

@@ -9,7 +9,7 @@ ghost use mathlib.Core.Path.{_≡_};
 ghost use Prim.Native.Nat.{_+_, _≤_, _<_};
 ghost use lib.ListN.{length, drop, getD};
 ghost use Rattle.frame.specs.Framed.{frameFirst};
-ghost use Rattle.tree.specs.Commands.{nextLength, Ahead, startTrail, Passing};
+ghost use Rattle.tree.specs.Trails.{nextLength, Ahead, startTrail, Passing};
 
 // Where words have led: the part of the image that their command has, and the place in the words behind its path. It is the whole image, and
 // no word is passed, where the first word names no command.

@@ -5,8 +5,8 @@ use native.Mathlib.Omega.{arith}
 use lib.ListN.{length, take, length-take}
 use lib.Seq.{length-take-le}
 use Rattle.frame.specs.Series.{textsIn}
-use Rattle.tree.specs.Commands.{partAt}
-use Rattle.tree.proofs.Commands.{part-most}
+use Rattle.tree.specs.Trails.{partAt}
+use Rattle.tree.proofs.Trails.{part-most}
 use Rattle.scan.specs.Held.{foundOf}
 use Rattle.parse.specs.Held.{outcomeIn, textOf}
 use Rattle.parse.proofs.Tellings.{text-short, fault-telling, report-telling}

@@ -4,8 +4,8 @@ use mathlib.Core.Path.{ap, _∙_}
 use native.Mathlib.Omega.{arith}
 use borrow.Author.Needs.{needs}
 use lib.ListN.{length}
-use Rattle.tree.proofs.Commands.{part-most}
-use Rattle.tree.specs.Commands.{partAt}
+use Rattle.tree.proofs.Trails.{part-most}
+use Rattle.tree.specs.Trails.{partAt}
 use Rattle.parse.proofs.Tellings.{text-short}
 use Rattle.parse.specs.Held.{textOf}
 use Rattle.shell.proofs.Answering.{said-same}

@@ -5,9 +5,9 @@ use native.Mathlib.Omega.{arith}
 use borrow.Author.Tests.{not-true, not-false}
 use borrow.Author.Needs.{needs}
 use lib.ListN.{length}
-use Rattle.tree.specs.Commands.{Ahead, Followed}
+use Rattle.tree.specs.Trails.{Ahead, Followed}
 use Rattle.tree.proofs.Items.{OnWay, goes-on, stops, sets-out, arrives, check-long, check-judged}
-use Rattle.tree.proofs.Commands.{follows-start, follows-end, follows-turn, found-bad, found-good}
+use Rattle.tree.proofs.Trails.{follows-start, follows-end, follows-turn, found-bad, found-good}
 use Rattle.tree.proofs.check.find_command.Statement.{statement}
 use Rattle.tree.proofs.check.find_command.Tie as tie
 

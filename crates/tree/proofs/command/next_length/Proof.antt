@@ -1,7 +1,7 @@
 -- `tree::command::next_length` meets its contract: the length of the frame that stands there.
 use mathlib.Core.Path.{sym, ap, _∙_}
-use Rattle.tree.proofs.Commands.{next-none}
-use Rattle.tree.specs.Commands.{nextLength}
+use Rattle.tree.proofs.Trails.{next-none}
+use Rattle.tree.specs.Trails.{nextLength}
 use borrow.Author.Needs.{needs}
 use Rattle.tree.proofs.command.next_length.Statement.{statement}
 use Rattle.tree.proofs.command.next_length.Tie as tie

@@ -2,7 +2,7 @@
 use mathlib.Core.Path.{sym, _∙_}
 use native.Mathlib.Omega.{arith}
 use Rattle.frame.specs.Text.{Bytes}
-use Rattle.tree.proofs.Commands.{past-plain, past-behind, past-deep, past-above}
+use Rattle.tree.proofs.Trails.{past-plain, past-behind, past-deep, past-above}
 use borrow.Author.Needs.{needs}
 use Rattle.tree.proofs.command.Trail.past.Statement.{statement}
 use Rattle.tree.proofs.command.Trail.past.Tie as tie

@@ -4,7 +4,7 @@ use native.Mathlib.Omega.{arith}
 use borrow.Author.Tests.{not-true, not-false}
 use Rattle.frame.specs.Text.{Bytes}
 use Rattle.frame.proofs.Series.{word-within}
-use Rattle.tree.proofs.Commands.{next-framed, past-longer, past-last, past-other, past-named}
+use Rattle.tree.proofs.Trails.{next-framed, past-longer, past-last, past-other, past-named}
 use borrow.Author.Needs.{needs}
 use Rattle.tree.proofs.command.Trail.past_child.Statement.{statement}
 use Rattle.tree.proofs.command.Trail.past_child.Tie as tie

@@ -32,7 +32,8 @@ use Rattle.tree.specs.Images.{framesOf, flat}
 use Rattle.tree.specs.Rules.{obeys, checkTree}
 use Rattle.tree.specs.Steps.{textFirst, nameAt, seenBy, startWalk, passed as walked, stepBy}
 use Rattle.tree.specs.Subtrees.{isNamed, isUpper, upTo, onFrom, rooted, subtree}
-use Rattle.tree.specs.Commands.{Reached, onSubtree, descend, reachedBy, partAt, Descended, Finding, allFair, nextLength, Ahead, startTrail, isAbove, Inside, Followed, inside, behind, Passing}
+use Rattle.tree.specs.Commands.{Reached, onSubtree, descend, reachedBy}
+use Rattle.tree.specs.Trails.{partAt, Descended, Finding, allFair, nextLength, Ahead, startTrail, isAbove, Inside, Followed, inside, behind, Passing}
 use Rattle.tree.specs.declared.walk.Walk.{Walk}
 use Rattle.tree.specs.declared.walk.Step.{Step}
 use Rattle.tree.specs.declared.command.Place.{Place}
@@ -45,7 +46,7 @@ use Rattle.tree.proofs.Walks.{passed-at}
 use Rattle.tree.proofs.Wholes.{AllFit, flat-append, frames-flat}
 
 -- FRAMES UP TO A TEST, and from one on
-pub up-never : (test : Frame → Bool) → ((f : Frame) → test f ≡ false) → (fs : List Frame) → upTo test fs ≡ fs
+up-never : (test : Frame → Bool) → ((f : Frame) → test f ≡ false) → (fs : List Frame) → upTo test fs ≡ fs
 unfolding upTo
 up-never test n [] = refl
 up-never test n (f ∷ l) = else-is _ _ _ (n f) ∙ ap (λ (m : List Frame). f ∷ m) (up-never test n l)
