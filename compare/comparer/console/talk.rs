@@ -10,6 +10,9 @@ use std::process::{Child, Command, Stdio};
 use std::thread::sleep;
 use std::time::{Duration, Instant};
 
+/// A line with one key.
+const KEY: &[u8] = b"2061\n";
+
 /// Every line's frames come before the next line is sent.
 pub fn dialogues(part: &mut Part) {
     let Tree(tree) = examples();
@@ -39,10 +42,11 @@ fn talk(input: &str) -> Option<String> {
         }
         seen = expected.len();
     }
-    has_ended(child)
+    has_ended(child, || ())
 }
 
-/// A program whose output takes nothing comes to its end, with its input open: the reader is gone, with and without the signal, or the disk is full.
+/// A program whose output takes nothing comes to its end at a write, with its input open: the reader is gone, with and without the signal, or the disk is full.
+/// Keys go on coming, since a program that is just being started beside it may hold the reader's end for a moment.
 pub fn closed_outputs(part: &mut Part) {
     let Tree(tree) = examples();
     let deaf = || {
@@ -58,7 +62,7 @@ pub fn closed_outputs(part: &mut Part) {
             let mut child = way(command);
             let mut stdin = child.stdin.take().expect("a pipe");
             stdin.write_all(input.as_bytes()).expect("the program reads");
-            let difference = has_ended(child);
+            let difference = has_ended(child, || _ = stdin.write_all(KEY));
             part.called(false, difference);
         }
     }
@@ -75,13 +79,14 @@ fn disk_full(mut command: Command) -> Child {
     command.stdin(Stdio::piped()).stdout(full).spawn().expect("the program starts")
 }
 
-/// Waits for the end of a program whose input is held open by the caller.
-fn has_ended(mut child: Child) -> Option<String> {
+/// Waits for the end of a program whose input is held open by the caller, who may go on sending.
+fn has_ended(mut child: Child, mut send: impl FnMut()) -> Option<String> {
     let start = Instant::now();
     while start.elapsed() < PATIENCE {
         if child.try_wait().expect("a status").is_some() {
             return None;
         }
+        send();
         sleep(Duration::from_millis(1));
     }
     child.kill().expect("the program is ended");
