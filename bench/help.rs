@@ -16,23 +16,24 @@ pub fn rows() {
         Original::plant(&tree);
         let image = image(&tree);
         let words: Vec<String> = command.split(' ').map(str::to_string).collect();
-        let help = |out: &mut [u8]| calls::help(black_box(&image), black_box(command.as_bytes()), out);
+        let help = |image: &[u8], out: &mut [u8]| calls::help(black_box(image), black_box(command.as_bytes()), out);
         row(name, "of a command", &image, || Original::show_help(black_box(&words)).expect("a command"), help);
-        let bare = |out: &mut [u8]| calls::run(black_box(&image), black_box(b"help"), out);
+        let bare = |image: &[u8], out: &mut [u8]| calls::run(black_box(image), black_box(b"help"), out);
         row(name, "bare", &image, || Original::run_line(black_box(b"help")), bare);
     }
 }
 
 /// What is timed must be the same on both sides: the text that is shown.
-fn row(tree: &str, help: &str, image: &[u8], show: impl Fn(), call: impl Fn(&mut [u8]) -> u64) {
+fn row(tree: &str, help: &str, image: &[u8], show: impl Fn(), call: impl Fn(&[u8], &mut [u8]) -> u64) {
     let mut out = vec![0; ROOM];
     let screen = typed(&[], &show).screens.remove(0);
-    let shown = call(&mut out) as u32 as usize;
+    let shown = call(image, &mut out) as u32 as usize;
     assert_eq!(out[..shown], screen[..], "{tree} {help}");
     let times = parted(
-        &mut || _ = black_box(typed(&[], &show)),
-        &mut || _ = black_box(call(black_box(&mut out))),
-        &mut || _ = black_box(calls::tree(black_box(image))),
+        image,
+        || _ = black_box(typed(&[], &show)),
+        |image| _ = black_box(call(image, black_box(&mut out))),
+        |image| _ = black_box(calls::tree(black_box(image))),
     );
     help_row(tree, help, shown, &times);
 }

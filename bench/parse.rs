@@ -46,9 +46,10 @@ fn line_row(tree: &str, image: &[u8], count: usize, line: &str) {
     assert!(Original::parse(line).is_ok(), "{line}");
     assert_eq!(calls::parse(image, line.as_bytes(), &mut out) >> 32, 0, "{line}");
     let times = parted(
-        &mut || drop(black_box(Original::parse(black_box(line)))),
-        &mut || _ = black_box(calls::parse(black_box(image), black_box(line.as_bytes()), black_box(&mut out))),
-        &mut || _ = black_box(calls::tree(black_box(image))),
+        image,
+        || drop(black_box(Original::parse(black_box(line)))),
+        |image| _ = black_box(calls::parse(black_box(image), black_box(line.as_bytes()), black_box(&mut out))),
+        |image| _ = black_box(calls::tree(black_box(image))),
     );
     parse_row(tree, count, &times);
 }
