@@ -16,24 +16,19 @@ pub fn rows() {
         Original::plant(&tree);
         let image = image(&tree);
         let words: Vec<String> = command.split(' ').map(str::to_string).collect();
-        let help = |image: &[u8], out: &mut [u8]| calls::help(black_box(image), black_box(command.as_bytes()), out);
-        row(name, "of a command", &image, || Original::show_help(black_box(&words)).expect("a command"), help);
-        let bare = |image: &[u8], out: &mut [u8]| calls::run(black_box(image), black_box(b"help"), out);
-        row(name, "bare", &image, || Original::run_line(black_box(b"help")), bare);
+        row(name, "of a command", &image, command.as_bytes(), || Original::show_help(black_box(&words)).expect("a command"), calls::help);
+        row(name, "bare", &image, b"help", || Original::run_line(black_box(b"help")), calls::run);
     }
 }
 
 /// What is timed must be the same on both sides: the text that is shown.
-fn row(tree: &str, help: &str, image: &[u8], show: impl Fn(), call: impl Fn(&[u8], &mut [u8]) -> u64) {
+fn row(tree: &str, help: &str, image: &[u8], line: &[u8], show: impl Fn(), call: impl Fn(&[u8], &[u8], &mut [u8]) -> u64) {
     let mut out = vec![0; ROOM];
     let screen = typed(&[], &show).screens.remove(0);
-    let shown = call(image, &mut out) as u32 as usize;
+    let shown = call(image, line, &mut out) as u32 as usize;
     assert_eq!(out[..shown], screen[..], "{tree} {help}");
-    let times = parted(
-        image,
-        || _ = black_box(typed(&[], &show)),
-        |image| _ = black_box(call(image, black_box(&mut out))),
-        |image| _ = black_box(calls::tree(black_box(image))),
-    );
+    let rust = || _ = black_box(typed(&[], &show));
+    let help_of = |image: &[u8], line: &[u8], out: &mut [u8]| _ = black_box(call(black_box(image), black_box(line), black_box(out)));
+    let times = parted(image, line, ROOM, rust, help_of);
     help_row(tree, help, shown, &times);
 }

@@ -45,12 +45,9 @@ fn line_row(tree: &str, image: &[u8], count: usize, line: &str) {
     let mut out = [0; ROOM];
     assert!(Original::parse(line).is_ok(), "{line}");
     assert_eq!(calls::parse(image, line.as_bytes(), &mut out) >> 32, 0, "{line}");
-    let times = parted(
-        image,
-        || drop(black_box(Original::parse(black_box(line)))),
-        |image| _ = black_box(calls::parse(black_box(image), black_box(line.as_bytes()), black_box(&mut out))),
-        |image| _ = black_box(calls::tree(black_box(image))),
-    );
+    let rust = || drop(black_box(Original::parse(black_box(line))));
+    let parse = |image: &[u8], line: &[u8], out: &mut [u8]| _ = black_box(calls::parse(black_box(image), black_box(line), black_box(out)));
+    let times = parted(image, line.as_bytes(), ROOM, rust, parse);
     parse_row(tree, count, &times);
 }
 

@@ -1,5 +1,4 @@
 // The time of a call: the median of several batches, the tasks taking turns so that a disturbance meets all alike.
-use std::hint::black_box;
 use std::time::{Duration, Instant};
 
 pub type Task<'a> = &'a mut dyn FnMut();
@@ -8,11 +7,7 @@ const BATCHES: usize = 101;
 /// A batch has so many calls that it takes at least this time: little, so that on a busy machine most batches run undisturbed.
 const BATCH: Duration = Duration::from_micros(500);
 
-/// At how many places of a page an image is put.
-const PLACES: usize = 8;
-const PAGE: usize = 4_096;
-
-/// A call beside the original's, the test of the image with which it begins, and what it takes after that; in nanoseconds.
+/// A call beside the original's, the test of the image with which it begins, and what it takes without that; in nanoseconds.
 pub struct Parted {
     pub rust: f64,
     pub whole: f64,
@@ -20,38 +15,21 @@ pub struct Parted {
     pub after: f64,
 }
 
-/// What the call takes after its test is small beside both under a large image. So image and stack are put at several places, since it matters where
-/// they lie, and what is left is the median of each round's difference: a disturbance longer than a round is in neither.
-pub fn parted(image: &[u8], mut rust: impl FnMut(), mut whole: impl FnMut(&[u8]), test: impl Fn(&[u8])) -> Parted {
-    let mut times = [(); 3].map(|()| Vec::new());
-    for place in 0..PLACES {
-        let start = place * PAGE / PLACES;
-        let held = [&vec![0; start], image].concat();
-        let image = &held[start..];
-        deeper(place * 3 % PLACES, &mut || {
-            let found = rounds(BATCHES / PLACES, [&mut rust, &mut || whole(image), &mut || test(image)]);
-            times.iter_mut().zip(found).for_each(|(times, found)| times.extend(found));
-        });
-    }
-    let [rust, whole, test] = times;
+/// Times a call of an image, a line and a buffer of that room. Its test of the image is timed within the call, by an empty line under the image less the same under
+/// none: how long the test takes goes with where the call's stack lies. Each round gives one difference, so that a longer disturbance is in neither side of it.
+pub fn parted(image: &[u8], line: &[u8], room: usize, mut rust: impl FnMut(), call: impl Fn(&[u8], &[u8], &mut [u8])) -> Parted {
+    let [mut a, mut b, mut c] = [(); 3].map(|()| vec![0; room]);
+    let tasks: [Task; 4] =
+        [&mut rust, &mut || call(image, line, &mut a), &mut || call(image, b"", &mut b), &mut || call(b"", b"", &mut c)];
+    let [rust, whole, tested, bare] = rounds(tasks);
+    let test: Vec<f64> = tested.iter().zip(bare).map(|(tested, bare)| tested - bare).collect();
     let after = whole.iter().zip(&test).map(|(whole, test)| whole - test).collect();
     Parted { rust: median(rust), whole: median(whole), test: median(test), after: median(after) }
 }
 
-/// Runs a task with so many eighths of a page more on the stack.
-#[inline(never)]
-fn deeper(eighths: usize, task: Task) {
-    let held = [0_u8; PAGE / PLACES];
-    match eighths {
-        0 => task(),
-        _ => deeper(eighths - 1, task),
-    }
-    black_box(&held);
-}
-
 /// The nanoseconds that one call of each task takes.
 pub fn medians<const N: usize>(tasks: [Task; N]) -> [f64; N] {
-    rounds(BATCHES, tasks).map(median)
+    rounds(tasks).map(median)
 }
 
 fn median(mut times: Vec<f64>) -> f64 {
@@ -60,10 +38,10 @@ fn median(mut times: Vec<f64>) -> f64 {
 }
 
 /// The nanoseconds that one call of each task takes, round by round.
-fn rounds<const N: usize>(batches: usize, mut tasks: [Task; N]) -> [Vec<f64>; N] {
+fn rounds<const N: usize>(mut tasks: [Task; N]) -> [Vec<f64>; N] {
     let counts = tasks.each_mut().map(|task| calls_for(BATCH, task));
     let mut times = [(); N].map(|()| Vec::new());
-    for _ in 0..batches {
+    for _ in 0..BATCHES {
         for ((task, &count), times) in tasks.iter_mut().zip(&counts).zip(&mut times) {
             // not timed: it finds caches as the task before left them
             task();
