@@ -4,6 +4,7 @@ use std::io::{Read, Write};
 use std::os::fd::OwnedFd;
 use std::os::unix::net::{UnixDatagram, UnixStream};
 use std::process::{Child, Command, Stdio};
+use std::sync::Mutex;
 use std::thread;
 use std::time::Duration;
 
@@ -28,8 +29,17 @@ pub fn program() -> Command {
 pub fn start(stdin: impl Into<Stdio>) -> (Child, UnixStream) {
     let (printed, stdout) = UnixStream::pair().expect("two ends");
     printed.set_read_timeout(Some(PATIENCE)).expect("a time to wait");
-    let child = program().stdin(stdin).stdout(OwnedFd::from(stdout)).spawn().expect("the program starts");
+    let child = started(program().stdin(stdin).stdout(OwnedFd::from(stdout)), |_| ());
     (child, printed)
+}
+
+/// Starts a program, and does what has to be done before the next is started: until it runs by itself a program has a copy of every end that is open here.
+pub fn started(command: &mut Command, first: impl FnOnce(&mut Child)) -> Child {
+    static STARTING: Mutex<()> = Mutex::new(());
+    let _alone = STARTING.lock().expect("no start has failed");
+    let mut child = command.spawn().expect("the program starts");
+    first(&mut child);
+    child
 }
 
 /// What the program prints, up to its end. An input that is held open doesn't end.

@@ -1,5 +1,5 @@
 // Sessions in which the program is waited for: a line is sent when what the lines before it print has come, or nobody reads what is printed.
-use super::program::{PATIENCE, program, start};
+use super::program::{PATIENCE, program, start, started};
 use super::told::told;
 use super::{key_lines, session};
 use crate::part::Part;
@@ -9,9 +9,6 @@ use std::io::{Read, Write};
 use std::process::{Child, Command, Stdio};
 use std::thread::sleep;
 use std::time::{Duration, Instant};
-
-/// A line with one key.
-const KEY: &[u8] = b"2061\n";
 
 /// Every line's frames come before the next line is sent.
 pub fn dialogues(part: &mut Part) {
@@ -42,11 +39,10 @@ fn talk(input: &str) -> Option<String> {
         }
         seen = expected.len();
     }
-    has_ended(child, || ())
+    has_ended(child)
 }
 
-/// A program whose output takes nothing comes to its end at a write, with its input open: the reader is gone, with and without the signal, or the disk is full.
-/// Keys go on coming, since a program that is just being started beside it may hold the reader's end for a moment.
+/// A program whose output takes nothing comes to its end, with its input open: the reader is gone, with and without the signal, or the disk is full.
 pub fn closed_outputs(part: &mut Part) {
     let Tree(tree) = examples();
     let deaf = || {
@@ -62,31 +58,28 @@ pub fn closed_outputs(part: &mut Part) {
             let mut child = way(command);
             let mut stdin = child.stdin.take().expect("a pipe");
             stdin.write_all(input.as_bytes()).expect("the program reads");
-            let difference = has_ended(child, || _ = stdin.write_all(KEY));
+            let difference = has_ended(child);
             part.called(false, difference);
         }
     }
 }
 
 fn reader_gone(mut command: Command) -> Child {
-    let mut child = command.stdin(Stdio::piped()).stdout(Stdio::piped()).spawn().expect("the program starts");
-    drop(child.stdout.take());
-    child
+    started(command.stdin(Stdio::piped()).stdout(Stdio::piped()), |child| drop(child.stdout.take()))
 }
 
 fn disk_full(mut command: Command) -> Child {
     let full = File::create("/dev/full").expect("a disk that is full");
-    command.stdin(Stdio::piped()).stdout(full).spawn().expect("the program starts")
+    started(command.stdin(Stdio::piped()).stdout(full), |_| ())
 }
 
-/// Waits for the end of a program whose input is held open by the caller, who may go on sending.
-fn has_ended(mut child: Child, mut send: impl FnMut()) -> Option<String> {
+/// Waits for the end of a program whose input is held open by the caller.
+fn has_ended(mut child: Child) -> Option<String> {
     let start = Instant::now();
     while start.elapsed() < PATIENCE {
         if child.try_wait().expect("a status").is_some() {
             return None;
         }
-        send();
         sleep(Duration::from_millis(1));
     }
     child.kill().expect("the program is ended");
