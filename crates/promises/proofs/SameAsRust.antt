@@ -1,4 +1,4 @@
--- Demand 2, same as the Rust: each call does what the Rust's function does, which stands as a function on values, beside its lines, in the specs/Rust of the crate.
+-- Demand 2, same as the Rust: each call does what the Rust's function does, which stands as a function on values, beside its lines, in the crate `rust`.
 -- Well-formed text and white space are Unicode's, and a quoted list of words splits back into that list.
 use Prim.Native.Nat.{ℕ, _≤_}
 use mathlib.Core.Path.{_≡_, refl, sym, ap, _∙_}
@@ -29,9 +29,13 @@ use Rattle.rust.specs.Tree.{commandsOf}
 use Rattle.rust.specs.Base.{buildCommandTree}
 use Rattle.rust.specs.Parser.{tokenize}
 use Rattle.rust.specs.Shell.{enter}
+use Rattle.rust.specs.History.{new, addCommand, previous, next, clearLineAndRedraw}
+use Rattle.rust.specs.Loop.{Loop, rustKey}
 use Rattle.rust.specs.Same.{Seen, quiet, output, handed, ended, crashed, seenOf, seenFor, allPrinted}
 use Rattle.rust.specs.Calls.{SplitsAs, Fair, SameAsRust}
 use Rattle.rust.proofs.Running.{same-run}
+use Rattle.rust.proofs.Histories.{original, fresh-is, stepIn, add-as-rust, previous-as-rust, next-as-rust}
+use Rattle.rust.proofs.Keys.{shellOf, same-redraw, same-key, as-rust}
 use Rattle.rust.proofs.Calls.{splits-as, good-same, base-same, fs-same}
 use Rattle.shell.specs.Lines.{Said, silence, text, farewell, handed as handsOver, beginsHelp, saidOf}
 use Rattle.session.specs.Prints.{Printed, handler, exit, shown, prompt, answered, keyPrints}
@@ -39,20 +43,14 @@ use Rattle.session.proofs.Followed.{atEnter, shows-then}
 use Rattle.history.specs.Slots.{good}
 use Rattle.history.specs.Answer.{entriesIn, Addition}
 use Rattle.history.specs.Steps.{back, onward}
-use Rattle.history.specs.Rust.{new, addCommand, previous, next}
 use Rattle.history.specs.declared.past.History.{History}
 use Rattle.history.specs.declared.adding.Added.the-variants.{Done}
-use Rattle.history.proofs.Original.{original, fresh-is}
-use Rattle.history.proofs.Called.{stepIn, add-as-rust, previous-as-rust, next-as-rust}
 use Rattle.screen.specs.Redraw.{redraw}
 use Rattle.editor.specs.declared.line.Editor.{Editor}
 use Rattle.editor.specs.declared.drawing.Key.{Key}
 use Rattle.editor.specs.Keys.{State, turnOf}
 use Rattle.editor.specs.Answer.{stateOf, goodState, refused, Pressing}
-use Rattle.editor.specs.Rust.{Loop, clearLineAndRedraw, rustKey}
 use Rattle.editor.proofs.Fine.{Fine}
-use Rattle.editor.proofs.Original.{shellOf, same-redraw, same-key}
-use Rattle.editor.proofs.Called.{as-rust}
 
 -- HISTORY (002): `CommandHistory::new(100)`, and its add_command on the entries and the place that record and slots hold
 pub history-new : original [] 0 ≡ new 100

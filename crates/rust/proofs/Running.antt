@@ -24,7 +24,6 @@ use Rattle.message.specs.Messages.{illFormed, goodbye, clearScreen}
 use Rattle.layout.specs.Texts.{availableText}
 use Rattle.help.specs.Paths.{Led, found, lost, onSubtree, followed}
 use Rattle.help.specs.Answer.{replyBy, helpIn, helpOf}
-use Rattle.history.proofs.Original.{blank-is-empty}
 use Rattle.shell.specs.Lines.{silence, text, farewell, builtinOf, onBuiltin, beginsHelp, helpWords, helpSaid, execute, otherSaid, lineSaid, saidOf}
 use Rattle.shell.specs.declared.builtin.Builtin.{Builtin}
 use Rattle.shell.specs.declared.builtin.Builtin.the-variants.{Help, Exit, Clear, None}
@@ -32,9 +31,10 @@ use Rattle.shell.proofs.Bare.{bare-help}
 use Rattle.rust.specs.Tree.{Commands, commandsOf}
 use Rattle.rust.specs.Parser.{UnknownCommand, ifSome, startsWith, parseTokens, parse}
 use Rattle.rust.specs.Help.{println, showHelp, showAvailableCommands}
-use Rattle.rust.specs.Shell.{returns, prints, exits, panics, isUtf8, executed, executeCommand, runCmdBytes, debugError, helped, handleBuiltinCommands, enter}
+use Rattle.rust.specs.Shell.{returns, prints, exits, panics, isUtf8, utf8OrEmpty, executed, executeCommand, runCmdBytes, debugError, helped, handleBuiltinCommands, enter}
 use Rattle.rust.specs.Same.{replyFor, output, ended, seenOf, seenFor, allPrinted}
 use Rattle.rust.proofs.Words.{tokenize-is}
+use Rattle.rust.proofs.Histories.{blank-is-empty}
 use Rattle.rust.proofs.Parsing.{frames-are}
 use Rattle.rust.proofs.Helping.{same-help, same-available}
 use Rattle.rust.proofs.Asked.{Each, Told, help-told}
@@ -147,7 +147,7 @@ module _ (image : List ℕ) (f : Forest) (stands : StandsFor image f) (printable
         by false q = run-seen utf
 
     line-seen : seenOf (enter printable (commandsOf f) line) ≡ seenFor (lineSaid (framesOf image) line)
-    unfolding enter lineSaid
+    unfolding enter utf8OrEmpty lineSaid
     line-seen = rw (utf, builtin-is printable (commandsOf f) line) (by (builtinOf (trimmed line)) refl)
       where
         by : (b : Builtin) → builtinOf (trimmed line) ≡ b
@@ -161,7 +161,7 @@ module _ (image : List ℕ) (f : Forest) (stands : StandsFor image f) (printable
 
   -- a line that is not well-formed is no builtin
   ill-seen : isUtf8 line ≡ false → seenOf (enter printable (commandsOf f) line) ≡ output 3 illFormed
-  unfolding enter runCmdBytes
+  unfolding enter utf8OrEmpty runCmdBytes
   ill-seen e = rw (e, empty-is-none printable (commandsOf f)) (ap (output 3) ill-is)
 
   -- ANY LINE under a well-formed image: nothing, the same output with the error's number, the same handler with the same report, or the end with the same output. In a help line each

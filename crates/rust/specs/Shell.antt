@@ -31,6 +31,10 @@ pub data Effect : Type 0 where
 unfoldable pub isUtf8 : List ℕ → Bool
 isUtf8 bytes = not (ltb (wellFormedLength bytes) (length bytes))
 
+-- str::from_utf8(bytes).unwrap_or("")
+unfoldable pub utf8OrEmpty : List ℕ → List ℕ
+utf8OrEmpty bytes = cond (isUtf8 bytes) bytes []
+
 -- for cmd in &parsed.command_path[1..] { current_node = current_node.subcommands.get(cmd).unwrap(); }, where an unwrap() that panics is none
 unfoldable pub along : CommandNode → List (List ℕ) → Option CommandNode
 along command [] = some command
@@ -131,4 +135,4 @@ handleBuiltinCommands printable tree input =
 
 -- shell/mod.rs: let cmd_str = std::str::from_utf8(&buf[..line_len]).unwrap_or(""); .. if !handle_builtin_commands(cmd_str) { run_cmd_bytes(&buf[..line_len]); }
 unfoldable pub enter : (ℕ → Bool) → Commands → List ℕ → Effect
-enter printable tree line = ifSome (handleBuiltinCommands printable tree (cond (isUtf8 line) line [])) (λ e. e) (runCmdBytes tree line)
+enter printable tree line = ifSome (handleBuiltinCommands printable tree (utf8OrEmpty line)) (λ e. e) (runCmdBytes tree line)

@@ -3,20 +3,23 @@
 use Prim.Native.Nat.{ℕ, _+_, _-_, min}
 use mathlib.Core.Bool.{cond}
 use mathlib.Core.List.{List, [], _∷_, _++_}
-use mathlib.Core.Option.{Option, none, some}
 use lib.Dec.{eqb, ltb}
 use lib.ListN.{length, take, drop}
-use Rattle.history.specs.Rust.{CommandHistory, addCommand, previous, next}
-use Rattle.screen.specs.Decimal.{decimal}
-use Rattle.editor.specs.declared.line.Mode.{Mode}
-use Rattle.editor.specs.declared.line.Mode.the-variants.{Typing, Escape, Sequence}
-use Rattle.editor.specs.Line.{content}
+use Rattle.rust.specs.Parser.{ifSome}
+use Rattle.rust.specs.Shell.{utf8OrEmpty}
+use Rattle.rust.specs.History.{CommandHistory, addCommand, previous, next, clearLineAndRedraw}
 
--- let mut buf, cursor, line_len, input_state, history. InputState: Normal is Typing, Escape is Escape, EscapeSeq is Sequence.
+-- enum InputState
+pub data InputState : Type 0 where
+  Normal : InputState
+  Escape : InputState
+  EscapeSeq : InputState
+
+-- let mut buf, cursor, line_len, input_state, history
 pub record Shell : Type 0 where
   pub buf : List ℕ
   pub cursor : ℕ
-  pub input : Mode
+  pub input : InputState
   pub history : CommandHistory
 
 -- the shell after a key, and what was written to stdout
@@ -24,21 +27,15 @@ pub record Loop : Type 0 where
   pub after : Shell
   pub stdout : List ℕ
 
--- history.rs: clear_line_and_redraw(stdout, prompt, content, cursor_pos)
-unfoldable pub clearLineAndRedraw : List ℕ → List ℕ → ℕ → List ℕ
-clearLineAndRedraw prompt text cursor =
-    0x0D ∷ 0x1B ∷ 0x5B ∷ 0x32 ∷ 0x4B
-    ∷ (prompt ++ (text ++ cond (ltb cursor (length text)) (0x1B ∷ 0x5B ∷ (decimal (length text - cursor) ++ (0x44 ∷ []))) []))
-
 -- the line, the cursor and the input state set anew
 abbrev pub withBuf : Shell → List ℕ → ℕ → Shell
-withBuf sh buf cursor = record { buf = buf; cursor = cursor; input = Typing; history = sh .history }
+withBuf sh buf cursor = record { buf = buf; cursor = cursor; input = Normal; history = sh .history }
 
 -- CR | LF: println!(); if line_len > 0 { history.add_command(cmd_str.to_string()); .. buf[..line_len].fill(0); cursor = 0; line_len = 0; }
 unfoldable pub crlf : Shell → Loop
 crlf sh =
     cond (ltb 0 (length (sh .buf)))
-    (record { after = record { buf = []; cursor = 0; input = sh .input; history = addCommand (sh .history) (content (sh .buf)) }; stdout = 0x0A ∷ [] })
+    (record { after = record { buf = []; cursor = 0; input = sh .input; history = addCommand (sh .history) (utf8OrEmpty (sh .buf)) }; stdout = 0x0A ∷ [] })
     (record { after = sh; stdout = 0x0A ∷ [] })
 
 -- BS | DL: if cursor > 0 { .. clear_line_and_redraw(&mut stdout, &prompt, current_content, cursor); }
@@ -50,7 +47,7 @@ bsdl prompt sh =
     cond (ltb 0 (sh .cursor))
     (record {
       after = record { buf = without (sh .buf) (sh .cursor); cursor = sh .cursor - 1; input = sh .input; history = sh .history };
-      stdout = clearLineAndRedraw prompt (content (without (sh .buf) (sh .cursor))) (sh .cursor - 1);
+      stdout = clearLineAndRedraw prompt (utf8OrEmpty (without (sh .buf) (sh .cursor))) (sh .cursor - 1);
     })
     (record { after = sh; stdout = [] })
 
@@ -63,7 +60,7 @@ other prompt sh c =
     cond (ltb (length (sh .buf)) 255)
     (record {
       after = record { buf = with (sh .buf) (sh .cursor) c; cursor = sh .cursor + 1; input = sh .input; history = sh .history };
-      stdout = clearLineAndRedraw prompt (content (with (sh .buf) (sh .cursor) c)) (sh .cursor + 1);
+      stdout = clearLineAndRedraw prompt (utf8OrEmpty (with (sh .buf) (sh .cursor) c)) (sh .cursor + 1);
     })
     (record { after = sh; stdout = [] })
 
@@ -82,7 +79,7 @@ normal prompt sh ch =
 unfoldable pub escape : Shell → ℕ → Loop
 escape sh ch =
     record {
-      after = record { buf = sh .buf; cursor = sh .cursor; input = cond (eqb ch 0x5B) Sequence Typing; history = sh .history };
+      after = record { buf = sh .buf; cursor = sh .cursor; input = cond (eqb ch 0x5B) EscapeSeq Normal; history = sh .history };
       stdout = [];
     }
 
@@ -90,25 +87,21 @@ escape sh ch =
 unfoldable pub recalledIn : List ℕ → CommandHistory → List ℕ → Loop
 recalledIn prompt h cmd =
     record {
-      after = record { buf = take (min (length cmd) 255) cmd; cursor = min (length cmd) 255; input = Typing; history = h };
+      after = record { buf = take (min (length cmd) 255) cmd; cursor = min (length cmd) 255; input = Normal; history = h };
       stdout = clearLineAndRedraw prompt cmd (min (length cmd) 255);
     }
-
-abbrev pub onText : {A : Type 0} → Option (List ℕ) → (List ℕ → A) → A → A
-onText (some t) f other = f t
-onText none f other = other
 
 -- b'A': if let Some(prev_cmd) = history.previous() { .. } input_state = Normal
 unfoldable pub keyA : List ℕ → Shell → Loop
 keyA prompt sh =
-    onText (previous (sh .history) .text) (recalledIn prompt (previous (sh .history) .after))
-    (record { after = record { buf = sh .buf; cursor = sh .cursor; input = Typing; history = previous (sh .history) .after }; stdout = [] })
+    ifSome (previous (sh .history) .text) (recalledIn prompt (previous (sh .history) .after))
+    (record { after = record { buf = sh .buf; cursor = sh .cursor; input = Normal; history = previous (sh .history) .after }; stdout = [] })
 
 -- b'B': match history.next() { Some(next_cmd) => .., None => { .. clear_line_and_redraw(&mut stdout, &prompt, "", cursor); } }
 unfoldable pub keyB : List ℕ → Shell → Loop
 keyB prompt sh =
-    onText (next (sh .history) .text) (recalledIn prompt (next (sh .history) .after))
-    (record { after = record { buf = []; cursor = 0; input = Typing; history = next (sh .history) .after }; stdout = clearLineAndRedraw prompt [] 0 })
+    ifSome (next (sh .history) .text) (recalledIn prompt (next (sh .history) .after))
+    (record { after = record { buf = []; cursor = 0; input = Normal; history = next (sh .history) .after }; stdout = clearLineAndRedraw prompt [] 0 })
 
 -- b'C': if cursor < line_len { cursor += 1; stdout.write_all(b"\x1b[C") }; b'D': if cursor > 0 { cursor -= 1; .. b"\x1b[D" }
 unfoldable pub keyC : Shell → Loop
@@ -131,10 +124,10 @@ escapeSeq prompt sh ch =
     (record { after = withBuf sh (sh .buf) (sh .cursor); stdout = [] }))))
 
 -- match input_state
-unfoldable pub rustIn : Mode → List ℕ → Shell → ℕ → Loop
-rustIn Typing prompt sh ch = normal prompt sh ch
+unfoldable pub rustIn : InputState → List ℕ → Shell → ℕ → Loop
+rustIn Normal prompt sh ch = normal prompt sh ch
 rustIn Escape prompt sh ch = escape sh ch
-rustIn Sequence prompt sh ch = escapeSeq prompt sh ch
+rustIn EscapeSeq prompt sh ch = escapeSeq prompt sh ch
 
 unfoldable pub rustKey : List ℕ → Shell → ℕ → Loop
 rustKey prompt sh ch = rustIn (sh .input) prompt sh ch

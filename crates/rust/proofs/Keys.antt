@@ -1,34 +1,49 @@
 -- Each key does what the Rust's loop does: the same line, cursor, mode, history and screen bytes, in every state within the rules.
 use Prim.Native.Nat.{ℕ, zero, suc, _+_, _-_, min}
 use mathlib.Core.Path.{_≡_, refl, sym, ap, _∙_}
-use mathlib.Core.Bool.{Bool, true, false, cond}
+use mathlib.Core.Bool.{Bool, true, false, cond, not}
 use mathlib.Core.List.{List, [], _∷_, _++_}
 use mathlib.Core.Option.{none, some}
 use native.Mathlib.Omega.{arith}
 use lib.Dec.{eqb, ltb}
 use lib.ListN.{length, take, getD}
 use lib.Seq.{take-all}
-use borrow.Author.Tests.{lt-ltb, ltb-true, ltb-false, ne-eqb}
+use borrow.Author.Tests.{lt-ltb, le-ltb, ltb-true, ltb-false, eqb-true, eqb-false, ne-eqb}
 use Rattle.buffer.proofs.Choices.{then-is, else-is, true-is-not-false}
 use Rattle.buffer.specs.Compare.{sameBytes}
+use Rattle.buffer.specs.Write.{over}
+use Rattle.text.specs.Decoding.{wellFormedLength}
 use Rattle.text.specs.Apart.{blank}
+use Rattle.text.proofs.Prefix.{prefix-fits}
 use Rattle.history.specs.Entries.{added, wellFormed, usable, sound}
-use Rattle.history.specs.Rust.{CommandHistory, Told}
+use Rattle.history.specs.declared.past.History.{History}
 use Rattle.history.proofs.States.{holds, short-at}
-use Rattle.history.proofs.Original.{original, add-is, previous-is, next-is}
 use Rattle.screen.specs.Decimal.{decimal}
 use Rattle.screen.specs.Redraw.{clearLine, moveBack, redraw}
 use Rattle.screen.proofs.Drawing.{move-none, move-some}
 use Rattle.editor.specs.declared.line.Mode.{Mode}
 use Rattle.editor.specs.declared.line.Mode.the-variants.{Typing, Escape, Sequence}
+use Rattle.editor.specs.declared.line.Editor.{Editor}
+use Rattle.editor.specs.declared.drawing.Key.{Key}
 use Rattle.editor.specs.Line.{limit, inserted, erased, content}
 use Rattle.editor.specs.Keys.{State, Turn, showing, redrawn, redrawing, inMode, withLine, atPlace, enter, erase, insert, typed, escaped, recalling, up, onPlace, down, right, left, sequenced, turnIn, turnOf}
-use Rattle.editor.specs.Rust.{Shell, Loop, clearLineAndRedraw, crlf, bsdl, other, normal, escape, recalledIn, onText, keyA, keyB, keyC, keyD, escapeSeq, rustIn, rustKey}
-use Rattle.editor.proofs.Fine.{Fine, formed-nothing}
+use Rattle.editor.specs.Answer.{stateOf, goodState, refused, Pressing}
+use Rattle.editor.proofs.Fine.{Fine, fine-of, formed-nothing}
+use Rattle.editor.proofs.Called.{state-after}
+use Rattle.rust.specs.Parser.{ifSome}
+use Rattle.rust.specs.Shell.{isUtf8, utf8OrEmpty}
+use Rattle.rust.specs.History.{CommandHistory, addCommand, Stepped, clearLineAndRedraw}
+use Rattle.rust.specs.Loop.{InputState, Normal, EscapeSeq, Escape as EscapeState, Shell, Loop, crlf, bsdl, other, normal, escape, recalledIn, keyA, keyB, keyC, keyD, escapeSeq, rustIn, rustKey}
+use Rattle.rust.proofs.Histories.{original, add-is, previous-is, next-is}
 
 -- the Rust's shell in a state of ours, and what its loop does if it does as a turn of ours
+abbrev pub inputOf : Mode → InputState
+inputOf Typing = Normal
+inputOf Escape = EscapeState
+inputOf Sequence = EscapeSeq
+
 abbrev pub shellOf : State → Shell
-shellOf s = record { buf = s .line; cursor = s .cursor; input = s .mode; history = original (s .entries) (s .place) }
+shellOf s = record { buf = s .line; cursor = s .cursor; input = inputOf (s .mode); history = original (s .entries) (s .place) }
 
 abbrev pub loopOf : Turn → Loop
 loopOf t = record { after = shellOf (t .after); stdout = t .screen }
@@ -71,32 +86,44 @@ formed-content : (l : List ℕ) → wellFormed l ≡ true → content l ≡ l
 unfolding content
 formed-content l w = then-is _ _ _ w
 
+-- what the Rust makes a `str` of is our content
+pub str-is : (l : List ℕ) → utf8OrEmpty l ≡ content l
+unfolding utf8OrEmpty isUtf8 content wellFormed
+str-is l = ap (λ (t : Bool). cond t l []) (by (eqb (wellFormedLength l) (length l)) refl)
+  where
+    by : (t : Bool) → eqb (wellFormedLength l) (length l) ≡ t → not (ltb (wellFormedLength l) (length l)) ≡ t
+    by true q = let e = eqb-true (wellFormedLength l) (length l) q in ap not (le-ltb (wellFormedLength l) (length l) (omega arith))
+    by false q =
+        let e = eqb-false (wellFormedLength l) (length l) q in
+        let k = prefix-fits l in
+        ap not (lt-ltb (wellFormedLength l) (length l) (omega arith))
+
 redrawn-as : (prompt text : List ℕ) (u : State) → text ≡ content (u .line) → redraw prompt text (u .cursor) ≡ redrawn prompt u
 unfolding redrawn
 redrawn-as prompt text u e = ap (λ (l : List ℕ). redraw prompt l (u .cursor)) e
 
 module _ (prompt : List ℕ) (s : State) (f : Fine s) where
   -- a line drawn anew
-  redraws : (u : State) → clearLineAndRedraw prompt (content (u .line)) (u .cursor) ≡ redrawn prompt u
-  unfolding redrawn
-  redraws u = same-redraw prompt (content (u .line)) (u .cursor)
+  redraws : (u : State) → clearLineAndRedraw prompt (utf8OrEmpty (u .line)) (u .cursor) ≡ redrawn prompt u
+  redraws u = same-redraw prompt (utf8OrEmpty (u .line)) (u .cursor) ∙ redrawn-as prompt (utf8OrEmpty (u .line)) u (str-is (u .line))
 
   shown : (u : State) (bytes : List ℕ) → bytes ≡ redrawn prompt u → _≡_ {A = Loop} (record { after = shellOf u; stdout = bytes }) (loopOf (redrawing prompt u))
   shown u bytes q = ap (λ (l : List ℕ). record { after = shellOf u; stdout = l }) q
 
   module _ (m : s .mode ≡ Typing) where
     -- in the mode Normal the state says so
-    kept-mode : (l : List ℕ) (c : ℕ) (bytes : List ℕ) → _≡_ {A = Loop} (record { after = record { buf = l; cursor = c; input = s .mode; history = original (s .entries) (s .place) }; stdout = bytes })
+    kept-mode : (l : List ℕ) (c : ℕ) (bytes : List ℕ) → _≡_ {A = Loop} (record { after = record { buf = l; cursor = c; input = inputOf (s .mode); history = original (s .entries) (s .place) }; stdout = bytes })
         (record { after = shellOf (withLine s l c); stdout = bytes })
-    kept-mode l c bytes = ap (λ (x : Mode). record { after = record { buf = l; cursor = c; input = x; history = original (s .entries) (s .place) }; stdout = bytes }) m
+    kept-mode l c bytes = ap (λ (x : Mode). record { after = record { buf = l; cursor = c; input = inputOf x; history = original (s .entries) (s .place) }; stdout = bytes }) m
 
     same-enter : crlf (shellOf s) ≡ loopOf (enter s)
     unfolding crlf enter
     same-enter =
         turned (length (s .line)) _ _
         ∙ both (eqb (length (s .line)) 0) _ _ _ _ (λ q. refl)
-        (λ q. ap (λ (h : CommandHistory). record { after = record { buf = []; cursor = 0; input = s .mode; history = h }; stdout = 0x0A ∷ [] }) (add-is (s .entries) (s .place) (content (s .line)))
-        ∙ ap (λ (x : Mode). record { after = record { buf = []; cursor = 0; input = x; history = original (added (content (s .line)) (s .entries)) (length (added (content (s .line)) (s .entries))) }; stdout = 0x0A ∷ [] }) m)
+        (λ q. ap (λ (h : CommandHistory). record { after = record { buf = []; cursor = 0; input = inputOf (s .mode); history = h }; stdout = 0x0A ∷ [] })
+        (ap (addCommand (original (s .entries) (s .place))) (str-is (s .line)) ∙ add-is (s .entries) (s .place) (content (s .line)))
+        ∙ ap (λ (x : Mode). record { after = record { buf = []; cursor = 0; input = inputOf x; history = original (added (content (s .line)) (s .entries)) (length (added (content (s .line)) (s .entries))) }; stdout = 0x0A ∷ [] }) m)
 
     same-erase : bsdl prompt (shellOf s) ≡ loopOf (erase prompt s)
     unfolding bsdl erase erased
@@ -129,16 +156,16 @@ module _ (prompt : List ℕ) (s : State) (f : Fine s) where
       let cmd : List ℕ = getD (s .entries) n [] in
       let short = short-at (s .entries) n (f .entries .short) in
       let all : min (length cmd) 255 ≡ length cmd = omega arith in
-      ap (λ (k : ℕ). record { after = record { buf = take k cmd; cursor = k; input = Typing; history = original (s .entries) n }; stdout = clearLineAndRedraw prompt cmd k }) all
-      ∙ ap (λ (l : List ℕ). record { after = record { buf = l; cursor = length cmd; input = Typing; history = original (s .entries) n }; stdout = clearLineAndRedraw prompt cmd (length cmd) }) (take-all (length cmd) cmd (omega arith))
-      ∙ ap (λ (l : List ℕ). record { after = record { buf = cmd; cursor = length cmd; input = Typing; history = original (s .entries) n }; stdout = l }) (bytes cmd n (formed-at [] (s .entries) n (f .entries .is-sound)))
+      ap (λ (k : ℕ). record { after = record { buf = take k cmd; cursor = k; input = Normal; history = original (s .entries) n }; stdout = clearLineAndRedraw prompt cmd k }) all
+      ∙ ap (λ (l : List ℕ). record { after = record { buf = l; cursor = length cmd; input = Normal; history = original (s .entries) n }; stdout = clearLineAndRedraw prompt cmd (length cmd) }) (take-all (length cmd) cmd (omega arith))
+      ∙ ap (λ (l : List ℕ). record { after = record { buf = cmd; cursor = length cmd; input = Normal; history = original (s .entries) n }; stdout = l }) (bytes cmd n (formed-at [] (s .entries) n (f .entries .is-sound)))
     where
       bytes : (cmd : List ℕ) (n : ℕ) → wellFormed cmd ≡ true
           → clearLineAndRedraw prompt cmd (length cmd) ≡ redrawn prompt (atPlace (withLine (inMode s Typing) cmd (length cmd)) n)
       bytes cmd n w = same-redraw prompt cmd (length cmd) ∙ redrawn-as prompt cmd (atPlace (withLine (inMode s Typing) cmd (length cmd)) n) (sym (formed-content cmd w))
 
   cleared-same : (n : ℕ)
-      → _≡_ {A = Loop} (record { after = record { buf = []; cursor = 0; input = Typing; history = original (s .entries) n }; stdout = clearLineAndRedraw prompt [] 0 })
+      → _≡_ {A = Loop} (record { after = record { buf = []; cursor = 0; input = Normal; history = original (s .entries) n }; stdout = clearLineAndRedraw prompt [] 0 })
       (loopOf (redrawing prompt (atPlace (withLine (inMode s Typing) [] 0) n)))
   cleared-same n =
       shown (atPlace (withLine (inMode s Typing) [] 0) n) _
@@ -148,8 +175,8 @@ module _ (prompt : List ℕ) (s : State) (f : Fine s) where
   unfolding keyA up
   same-a = ap made (previous-is (s .entries) (s .place) (f .placed)) ∙ by (eqb (s .place) 0)
     where
-      made : Told → Loop
-      made p = onText (p .text) (recalledIn prompt (p .after)) (record { after = record { buf = s .line; cursor = s .cursor; input = Typing; history = p .after }; stdout = [] })
+      made : Stepped → Loop
+      made p = ifSome (p .text) (recalledIn prompt (p .after)) (record { after = record { buf = s .line; cursor = s .cursor; input = Normal; history = p .after }; stdout = [] })
 
       by : (t : Bool) → made (cond t (record { after = original (s .entries) (s .place); text = none }) (record { after = original (s .entries) (s .place - 1); text = some (getD (s .entries) (s .place - 1) []) }))
           ≡ loopOf (cond t (showing (inMode s Typing) []) (recalling prompt (inMode s Typing) (s .place - 1)))
@@ -160,8 +187,8 @@ module _ (prompt : List ℕ) (s : State) (f : Fine s) where
   unfolding keyB down onPlace
   same-b = ap made (next-is (s .entries) (s .place) (f .placed)) ∙ by (ltb (s .place) (length (s .entries))) (ltb (s .place + 1) (length (s .entries))) refl refl
     where
-      made : Told → Loop
-      made p = onText (p .text) (recalledIn prompt (p .after)) (record { after = record { buf = []; cursor = 0; input = Typing; history = p .after }; stdout = clearLineAndRedraw prompt [] 0 })
+      made : Stepped → Loop
+      made p = ifSome (p .text) (recalledIn prompt (p .after)) (record { after = record { buf = []; cursor = 0; input = Normal; history = p .after }; stdout = clearLineAndRedraw prompt [] 0 })
 
       turn : ℕ → Turn
       turn n = cond (ltb n (length (s .entries))) (recalling prompt (inMode s Typing) n) (redrawing prompt (atPlace (withLine (inMode s Typing) [] 0) n))
@@ -190,13 +217,33 @@ module _ (prompt : List ℕ) (s : State) (f : Fine s) where
       (λ q. both (eqb c 0x44) _ _ _ _ (λ q. same-d)
       (λ q. refl))))
 
-  in-mode : (c : ℕ) (m : Mode) → s .mode ≡ m → rustIn m prompt (shellOf s) c ≡ loopOf (turnIn m prompt s c)
-  unfolding rustIn turnIn escape escaped
+  same-escape : (c : ℕ) → escape (shellOf s) c ≡ loopOf (escaped s c)
+  unfolding escape escaped
+  same-escape c = by (eqb c 0x5B)
+    where
+      by : (t : Bool) → _≡_ {A = Loop} (record { after = record { buf = s .line; cursor = s .cursor; input = cond t EscapeSeq Normal; history = original (s .entries) (s .place) }; stdout = [] })
+          (loopOf (showing (inMode s (cond t Sequence Typing)) []))
+      by true = refl
+      by false = refl
+
+  in-mode : (c : ℕ) (m : Mode) → s .mode ≡ m → rustIn (inputOf m) prompt (shellOf s) c ≡ loopOf (turnIn m prompt s c)
+  unfolding rustIn turnIn
   in-mode c Typing e = same-normal e c
-  in-mode c Escape e = refl
+  in-mode c Escape e = same-escape c
   in-mode c Sequence e = same-sequence c
 
   -- the Rust's loop and ours, in every state within the rules and for every byte
   pub same-key : (c : ℕ) → rustKey prompt (shellOf s) c ≡ loopOf (turnOf prompt s c)
   unfolding rustKey turnOf
   same-key c = in-mode c (s .mode) refl
+
+-- a key that is taken in a good state: its state and its screen are those that the Rust's loop makes of the state before
+pub as-rust : (e : Editor) (h : History) (slots prompt : List ℕ) (byte : ℕ) (line screen : List ℕ) (k : Key) (slots′ line′ screen′ : List ℕ)
+    → Pressing e h slots prompt byte line screen k slots′ line′ screen′ → refused (k .answer) ≡ false → goodState e h slots ≡ true
+    → (shellOf (stateOf (k .editor) (k .history) slots′) ≡ rustKey prompt (shellOf (stateOf e h slots)) byte .after)
+    × (screen′ ≡ over (rustKey prompt (shellOf (stateOf e h slots)) byte .stdout) screen)
+as-rust e h slots prompt byte line screen k slots′ line′ screen′ p is g =
+    let r = same-key prompt (stateOf e h slots) (fine-of e h slots g) byte in (
+      ap shellOf (state-after e h slots prompt byte line screen k slots′ line′ screen′ p is g) ∙ ap (λ (l : Loop). l .after) (sym r),
+      p .shown ∙ else-is _ _ _ is ∙ ap (λ (l : Loop). over (l .stdout) screen) (sym r),
+    )
