@@ -28,16 +28,16 @@ use Rattle.trees.specs.Commands.{baseTree, fsTree}
 use Rattle.rust.specs.Tree.{commandsOf}
 use Rattle.rust.specs.Base.{buildCommandTree}
 use Rattle.rust.specs.Parser.{tokenize}
-use Rattle.rust.specs.Shell.{enter}
+use Rattle.rust.specs.Shell.{utf8OrEmpty, enter}
 use Rattle.rust.specs.History.{new, addCommand, previous, next, clearLineAndRedraw}
 use Rattle.rust.specs.Loop.{Loop, rustKey}
-use Rattle.rust.specs.Same.{Seen, quiet, output, handed, ended, crashed, seenOf, seenFor, allPrinted}
+use Rattle.rust.specs.Same.{Seen, quiet, output, handed, ended, crashed, seenOf, seenFor, allPrinted, debugged}
 use Rattle.rust.specs.Calls.{SplitsAs, Fair, SameAsRust}
 use Rattle.rust.proofs.Running.{same-run}
 use Rattle.rust.proofs.Histories.{original, fresh-is, stepIn, add-as-rust, previous-as-rust, next-as-rust}
 use Rattle.rust.proofs.Keys.{shellOf, same-redraw, same-key, as-rust}
 use Rattle.rust.proofs.Calls.{splits-as, good-same, base-same, fs-same}
-use Rattle.shell.specs.Lines.{Said, silence, text, farewell, handed as handsOver, beginsHelp, saidOf}
+use Rattle.shell.specs.Lines.{Said, silence, text, farewell, handed as handsOver, saidOf}
 use Rattle.session.specs.Prints.{Printed, handler, exit, shown, prompt, answered, keyPrints}
 use Rattle.session.proofs.Followed.{atEnter, shows-then}
 use Rattle.history.specs.Slots.{good}
@@ -111,7 +111,7 @@ said-printed farewell = refl
 said-printed (handsOver number report) = refl
 
 pub session-key : (image : List ℕ) (f : Forest) → StandsFor image f → (s : State) → Fine s → (byte : ℕ) (printable : ℕ → Bool)
-    → (beginsHelp (turnOf prompt s byte .submitted) ≡ true → allPrinted printable (codesIn (turnOf prompt s byte .submitted)) ≡ true)
+    → allPrinted printable (codesIn (debugged (commandsOf f) (utf8OrEmpty (turnOf prompt s byte .submitted)))) ≡ true
     → keyPrints (framesOf image) (turnOf prompt s byte)
     ≡ shown (rustKey prompt (shellOf s) byte .stdout) ++ atEnter (turnOf prompt s byte .kind) (printed (seenOf (enter printable (commandsOf f) (turnOf prompt s byte .submitted))))
 session-key image f stands s within byte printable plain =

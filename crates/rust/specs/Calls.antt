@@ -19,15 +19,14 @@ use Rattle.parse.specs.declared.answer.Parsed.the-variants.{NoRoom as ParseNoRo
 use Rattle.help.specs.Answer.{Helping, number as helpNumber, value as helpValue}
 use Rattle.help.specs.declared.call.Helped.{Helped}
 use Rattle.help.specs.declared.call.Helped.the-variants.{NoWords, NoRoom as HelpNoRoom}
-use Rattle.shell.specs.Lines.{beginsHelp}
 use Rattle.shell.specs.Answer.{Running}
 use Rattle.shell.specs.declared.answer.Ran.{Ran}
 use Rattle.shell.specs.declared.answer.Ran.the-variants.{Nothing, Text, Exit, Handler, NoRoom as RunNoRoom}
 use Rattle.rust.specs.Tree.{Commands}
 use Rattle.rust.specs.Parser.{ParsedCommand, Result, ok, err, parse}
 use Rattle.rust.specs.Help.{showHelp}
-use Rattle.rust.specs.Shell.{textIn, enter}
-use Rattle.rust.specs.Same.{reportFor, errorNumber, Seen, quiet, output, handed, ended, crashed, seenOf, allPrinted}
+use Rattle.rust.specs.Shell.{textIn, utf8OrEmpty, enter}
+use Rattle.rust.specs.Same.{reportFor, errorNumber, Seen, quiet, output, handed, ended, crashed, seenOf, allPrinted, debugged}
 
 -- bytes at the front of a buffer where they fit, and an answer that says so; else nothing, and the other answer
 pub record Writes (bytes out left : List ℕ) (fits short : Type 0) : Type 0 where
@@ -86,11 +85,11 @@ pub record Fair (line : List ℕ) : Type 0 where
   pub short : length line ≤ 1024
   pub formed : wellFormedLength line ≡ length line
 
--- under an image the calls do what the Rust does under a tree of its own. Running takes ill-formed lines too, as the Rust does; in a help line each character
--- outside ASCII is to be one that the Rust prints as it is.
+-- under an image the calls do what the Rust does under a tree of its own. Running takes ill-formed lines too, as the Rust does; in the word that a help
+-- line's `Debug` text quotes each character outside ASCII is to be one that the Rust prints as it is.
 pub record SameAsRust (image : List ℕ) (tree : Commands) : Type 0 where
   pub parses : (line out left : List ℕ) (r : Parsed) → Fair line → Parsing image line out r left → ParsesAs (parse tree line) out r left
   pub helps : (line out left : List ℕ) (r : Helped) → Fair line → Helping image line out r left → HelpsAs (showHelp tree (wordsBetween line)) out r left
   pub runs : (printable : ℕ → Bool) (line out left : List ℕ) (r : Ran) → length line ≤ 1024
-      → (beginsHelp line ≡ true → allPrinted printable (codesIn line) ≡ true) → Running image line out r left
+      → allPrinted printable (codesIn (debugged tree (utf8OrEmpty line))) ≡ true → Running image line out r left
       → RunsAs (seenOf (enter printable tree line)) out r left

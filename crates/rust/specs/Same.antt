@@ -4,6 +4,9 @@ use mathlib.Core.Bool.{Bool, true, cond}
 use mathlib.Core.List.{List, [], _∷_}
 use mathlib.Core.Option.{Option, none, some}
 use lib.Dec.{eqb, ltb}
+use lib.ListN.{drop}
+use Rattle.text.specs.Apart.{wordsBetween}
+use Rattle.ink.specs.Ascii.{ascii}
 use Rattle.image.specs.Limits.{both}
 use Rattle.table.specs.Map.{Map}
 use Rattle.report.specs.Report.{reportOf}
@@ -11,8 +14,10 @@ use Rattle.parse.specs.Commands.{Outcome, parsed, fault}
 use Rattle.help.specs.Answer.{Reply, said, unknown, wordless}
 use Rattle.message.specs.Messages.{goodbye}
 use Rattle.shell.specs.Lines.{Said, silence, text, farewell, handed as handsOver}
-use Rattle.rust.specs.Parser.{BTreeMap, ParsedCommand, ParseError, UnknownCommand, UnknownOption, MissingValue, MissingRequiredOption, NoHandler, Result, ok, err}
-use Rattle.rust.specs.Shell.{Effect, returns, prints, fails, garbled, calls, exits, panics}
+use Rattle.rust.specs.Tree.{Commands}
+use Rattle.rust.specs.Parser.{BTreeMap, ParsedCommand, ParseError, UnknownCommand, UnknownOption, MissingValue, MissingRequiredOption, NoHandler, Result, ok, err, startsWith}
+use Rattle.rust.specs.Help.{showHelp}
+use Rattle.rust.specs.Shell.{Effect, returns, prints, fails, garbled, calls, exits, panics, textIn}
 
 -- BTreeMap<String, bool>: each flag that was found is true
 unfoldable pub flagsFor : Map → BTreeMap Bool
@@ -78,3 +83,12 @@ seenFor (handsOver handler report) = handed handler report
 unfoldable pub allPrinted : (ℕ → Bool) → List ℕ → Bool
 allPrinted printable [] = true
 allPrinted printable (c ∷ chars) = both (cond (ltb c 0x80) true (printable c)) (allPrinted printable chars)
+
+-- the word that a line's `Debug` text quotes: the text of e where handle_builtin_commands(input) comes to println!("Error: {:?}", e), and nothing elsewhere
+abbrev pub wordIn : Option (Result (List ℕ)) → List ℕ
+wordIn (some (ok bytes)) = []
+wordIn (some (err e)) = textIn e
+wordIn none = []
+
+unfoldable pub debugged : Commands → List ℕ → List ℕ
+debugged tree input = cond (startsWith (ascii "help ") input) (wordIn (showHelp tree (wordsBetween (drop 5 input)))) []
