@@ -1,13 +1,13 @@
 -- Demand 2, same as the Rust: each call does what the Rust's function does, which stands as a function on values, beside its lines, in the crate `rust`.
 -- Well-formed text and white space are Unicode's, and a quoted list of words splits back into that list.
 use Prim.Native.Nat.{ℕ, _≤_}
-use mathlib.Core.Path.{_≡_, refl, sym, ap, _∙_}
+use mathlib.Core.Path.{_≡_}
 use mathlib.Core.Bool.{Bool, true, false}
-use mathlib.Core.List.{List, [], _∷_, _++_}
+use mathlib.Core.List.{List, [], _++_}
 use lib.ListN.{length, take}
 use Rattle.buffer.specs.Write.{over}
 use Rattle.text.specs.Unicode.{Scalar, encode, WellFormed}
-use Rattle.text.specs.Decoding.{decodeFirst, codesIn, wellFormedLength}
+use Rattle.text.specs.Decoding.{decodeFirst, wellFormedLength}
 use Rattle.text.specs.declared.utf8.Decoded.the-variants.{Character}
 use Rattle.text.proofs.Encoding.{SoundOf, decode-sound, decode-complete}
 use Rattle.text.proofs.Prefix.{prefix-well-formed, prefix-longest, whole-is, is-whole}
@@ -28,18 +28,19 @@ use Rattle.trees.specs.Commands.{baseTree, fsTree}
 use Rattle.rust.specs.Tree.{commandsOf}
 use Rattle.rust.specs.Base.{buildCommandTree}
 use Rattle.rust.specs.Parser.{tokenize}
-use Rattle.rust.specs.Shell.{utf8OrEmpty, enter}
 use Rattle.rust.specs.History.{new, addCommand, previous, next, clearLineAndRedraw}
-use Rattle.rust.specs.Loop.{Loop, rustKey}
-use Rattle.rust.specs.Same.{Seen, quiet, output, handed, ended, crashed, seenOf, seenFor, allPrinted, debugged}
-use Rattle.rust.specs.Calls.{SplitsAs, Fair, SameAsRust}
-use Rattle.rust.proofs.Running.{same-run}
-use Rattle.rust.proofs.Histories.{original, fresh-is, stepIn, add-as-rust, previous-as-rust, next-as-rust}
-use Rattle.rust.proofs.Keys.{shellOf, same-redraw, same-key, as-rust}
+use Rattle.rust.specs.Loop.{lineRun, rustKey}
+use Rattle.rust.specs.Same.{original, stepIn, shellOf, QuotedAsIs}
+use Rattle.rust.specs.Calls.{PressesAs, SplitsAs, Fair, SameAsRust}
+use Rattle.rust.specs.Session.{turnFrom, printedBy, endedBy, PrintsAs}
+use Rattle.rust.proofs.Histories.{fresh-is, add-as-rust, previous-as-rust, next-as-rust}
+use Rattle.rust.proofs.Keys.{same-redraw, presses-as}
+use Rattle.rust.proofs.Sessions.{key-printed, press-printed}
 use Rattle.rust.proofs.Calls.{splits-as, good-same, base-same, fs-same}
-use Rattle.shell.specs.Lines.{Said, silence, text, farewell, handed as handsOver, saidOf}
-use Rattle.session.specs.Prints.{Printed, handler, exit, shown, prompt, answered, keyPrints}
-use Rattle.session.proofs.Followed.{atEnter, shows-then}
+use Rattle.session.specs.Prints.{prompt, keyPrints, keyEnds}
+use Rattle.session.specs.Calls.{imageOf, isEnter, most, PressingKey}
+use Rattle.session.specs.declared.standing.Session.{Session}
+use Rattle.session.specs.declared.pressing.Pressing.{Pressing as Press}
 use Rattle.history.specs.Slots.{good}
 use Rattle.history.specs.Answer.{entriesIn, Addition}
 use Rattle.history.specs.Steps.{back, onward}
@@ -71,13 +72,13 @@ step-on = next-as-rust
 pub redraws : (prompt content : List ℕ) (cursor : ℕ) → clearLineAndRedraw prompt content cursor ≡ redraw prompt content cursor
 redraws = same-redraw
 
--- THE LINE EDITOR (001, with 002's previous, next and clear_line_and_redraw): a key that is taken in a good state leaves the line, cursor, mode and history, and
--- writes the bytes, that one turn of the Rust's loop does. (The loop's prompt after Enter is the caller's.)
+-- THE LINE EDITOR (001, with 002's previous, next and clear_line_and_redraw): a key that is taken in a good state does what one turn of the Rust's loop does. It leaves the loop's line,
+-- cursor, mode and history, shows the bytes that the loop writes first, and at Enter gives back the line that the loop runs, with its length; what the loop does besides, running that line
+-- and the prompt after it, is the caller's. `PressesAs` says so over the loop's events, which stand in its order.
 pub key : (e : Editor) (h : History) (slots prompt : List ℕ) (byte : ℕ) (line screen : List ℕ) (k : Key) (slots′ line′ screen′ : List ℕ)
     → Pressing e h slots prompt byte line screen k slots′ line′ screen′ → refused (k .answer) ≡ false → goodState e h slots ≡ true
-    → (shellOf (stateOf (k .editor) (k .history) slots′) ≡ rustKey prompt (shellOf (stateOf e h slots)) byte .after)
-    × (screen′ ≡ over (rustKey prompt (shellOf (stateOf e h slots)) byte .stdout) screen)
-key = as-rust
+    → PressesAs prompt (rustKey prompt (shellOf (stateOf e h slots)) byte) line screen (shellOf (stateOf (k .editor) (k .history) slots′)) (k .answer) line′ screen′
+key = presses-as
 
 -- WORDS, PARSE, HELP AND RUN (000), under the tree of 003 or any other: the Rust's functions stand beside their lines in the crate `rust`, on its own tree of nodes with
 -- maps by name. `SameAsRust image tree` says of parse, help and run that whatever their contracts allow is what the Rust does: its bytes and the number of its
@@ -94,31 +95,20 @@ base-tree = base-same
 pub fs-tree : SameAsRust (flat fsTree) (buildCommandTree true)
 fs-tree = fs-same
 
--- A SESSION: a key prints the bytes that one turn of the Rust's loop writes, in one frame; at Enter there follow what the Rust does with the line, a frame for its output or
--- its handler's call, and the prompt; exit ends it
-abbrev pub printed : Seen → List Printed
-printed quiet = shown prompt
-printed (output number bytes) = shown bytes ++ shown prompt
-printed (handed number report) = handler number report ∷ shown prompt
-printed (ended bytes) = shown bytes ++ (exit ∷ [])
-printed crashed = []
+-- A SESSION: what a key prints are the frames of what one turn of the Rust's loop does, in its order: a 22 for the bytes that it writes, at Enter what the line that it runs comes to,
+-- 22, 21 or 23, then a 22 for the prompt. Line, order and end are the loop's own; the tree is asked for at Enter alone.
+pub session-key : (image : List ℕ) (f : Forest) (printable : ℕ → Bool) (s : State) → Fine s → (byte : ℕ) → (isEnter byte ≡ true → StandsFor image f)
+    → QuotedAsIs printable (commandsOf f) (lineRun (turnFrom s byte .events))
+    → (keyPrints (framesOf image) (turnOf prompt s byte) ≡ printedBy printable (commandsOf f) (turnFrom s byte .events))
+    × (keyEnds (framesOf image) (turnOf prompt s byte) ≡ endedBy printable (commandsOf f) (turnFrom s byte .events))
+session-key = key-printed
 
-said-printed : (s : Said) → answered s ≡ printed (seenFor s)
-unfolding answered
-said-printed silence = refl
-said-printed (text number bytes) = refl
-said-printed farewell = refl
-said-printed (handsOver number report) = refl
-
-pub session-key : (image : List ℕ) (f : Forest) → StandsFor image f → (s : State) → Fine s → (byte : ℕ) (printable : ℕ → Bool)
-    → allPrinted printable (codesIn (debugged (commandsOf f) (utf8OrEmpty (turnOf prompt s byte .submitted)))) ≡ true
-    → keyPrints (framesOf image) (turnOf prompt s byte)
-    ≡ shown (rustKey prompt (shellOf s) byte .stdout) ++ atEnter (turnOf prompt s byte .kind) (printed (seenOf (enter printable (commandsOf f) (turnOf prompt s byte .submitted))))
-session-key image f stands s within byte printable plain =
-    shows-then (framesOf image) s byte within
-    ∙ ap (λ (x : List ℕ). shown x ++ atEnter (turnOf prompt s byte .kind) (answered (saidOf (framesOf image) (turnOf prompt s byte .submitted)))) (sym (ap (λ (l : Loop). l .stdout) (same-key prompt s within byte)))
-    ∙ ap (λ (x : List Printed). shown (rustKey prompt (shellOf s) byte .stdout) ++ atEnter (turnOf prompt s byte .kind) x)
-    (said-printed (saidOf (framesOf image) (turnOf prompt s byte .submitted)) ∙ sym (ap printed (same-run image f stands printable (turnOf prompt s byte .submitted) plain)))
+-- and so does the call: what `press` leaves, with room and in a good state, are the loop's state and the house lines of those frames
+pub press : (h : Session) (image slots : List ℕ) (byte : ℕ) (out : List ℕ) (r : Press) (slots′ out′ : List ℕ) → PressingKey h image slots byte out r slots′ out′
+    → most ≤ length out → goodState (h .editor) (h .history) slots ≡ true → (f : Forest) → (isEnter byte ≡ true → StandsFor (imageOf h image) f)
+    → (printable : ℕ → Bool) → QuotedAsIs printable (commandsOf f) (lineRun (turnFrom (stateOf (h .editor) (h .history) slots) byte .events))
+    → PrintsAs printable (commandsOf f) (turnFrom (stateOf (h .editor) (h .history) slots) byte) out (shellOf (stateOf (r .session .editor) (r .session .history) slots′)) (r .answer) out′
+press = press-printed
 
 -- UNICODE: a character is read from its encoding, whatever follows, and what is read as a character begins with the encoding of a scalar value; the prefix that is
 -- found is well-formed, and no longer one is; a text is wholly found exactly if it is well-formed

@@ -15,8 +15,8 @@ use Rattle.ink.specs.Ascii.{ascii}
 use Rattle.rust.specs.Tree.{Commands, insertNode, get, someOf, optionDefs, flagDefs, commandsOf}
 use Rattle.rust.specs.Parser.{insert, containsKey, UnknownCommand, UnknownOption, MissingValue, MissingRequiredOption, NoHandler, ok, err, closed, tokenizeFrom, tokenize, deepest, findCommand, any, find, isOption, isFlag, isShortOption, isShortFlag, optionNameByShort, flagNameByShort, stripPrefix, startsWith, findEquals, optionValue, longName, shortNames, shortOrPositional, long, turn, parseArgsFrom, parseArgs, validateRequired, parseCommand, parseTokens, parse}
 use Rattle.rust.specs.Help.{println, leftIn, join, forEach, forEachNode, labelStr, optionLine, flagLine, nodeLine, helpLines, nodeUnder, showHelp, availableLine, showAvailableCommands}
-use Rattle.rust.specs.Shell.{returns, prints, fails, garbled, calls, exits, isUtf8, utf8OrEmpty, along, nodeAt, report, handle, executeCommand, runCmdBytes, hexIn, escapeUnicode, isPrintable, escapeDebug, debugChars, debugError, handleBuiltinCommands, enter}
-use Rattle.rust.specs.Same.{allPrinted, debugged}
+use Rattle.rust.specs.Shell.{returns, prints, fails, garbled, calls, exits, isUtf8, utf8OrEmpty, along, nodeAt, report, handle, executeCommand, runCmdBytes, hexIn, escapeUnicode, isPrintable, escapeDebug, debugChars, debugError, handleBuiltinCommands, runLine, enter}
+use Rattle.rust.specs.Same.{allPrinted, debugged, QuotedAsIs}
 
 -- `vm` without a handler and its child `start`, with a required option, a flag and an option of a name alone; `log`. The map puts `log` first.
 forest : Forest
@@ -62,7 +62,7 @@ runs :
     × (enter all tree (ascii "help " ++ 0x01 ∷ 0x7f ∷ ascii "x") ≡ fails (UnknownCommand (0x01 ∷ 0x7f ∷ ascii "x")) (ascii "Error: UnknownCommand(\"\\u{1}\\u{7f}x\")\n"))
     × (enter (λ c. false) tree (ascii "help " ++ 0xC2 ∷ 0x80 ∷ []) ≡ fails (UnknownCommand (0xC2 ∷ 0x80 ∷ [])) (ascii "Error: UnknownCommand(\"\\u{80}\")\n"))
     × (enter all tree (0xFF ∷ []) ≡ garbled (ascii "Error: Input contains invalid UTF-8 characters\n"))
-unfolding forest tree ascii sameBytes order insertNode get someOf optionDefs flagDefs commandsOf all decodeFirst table decodeTwo decodeThree decodeFour leastSecond greatestSecond within piecesFrom piecesOf codesOf codesIn bytesAll encode encodeAll among whiteSpace isWhiteSpace behindRun trimEnd trimmed wordsAfter wordsBetween wellFormedLength closed tokenizeFrom tokenize insert containsKey deepest findCommand any find isOption isFlag isShortOption isShortFlag optionNameByShort flagNameByShort stripPrefix startsWith findEquals optionValue longName shortNames shortOrPositional long turn parseArgsFrom parseArgs validateRequired parseCommand parseTokens parse println leftIn join forEach forEachNode labelStr optionLine flagLine nodeLine helpLines nodeUnder showHelp availableLine showAvailableCommands isUtf8 utf8OrEmpty along nodeAt report handle executeCommand runCmdBytes digitOf hexIn escapeUnicode isPrintable escapeDebug debugChars debugError handleBuiltinCommands enter
+unfolding forest tree ascii sameBytes order insertNode get someOf optionDefs flagDefs commandsOf all decodeFirst table decodeTwo decodeThree decodeFour leastSecond greatestSecond within piecesFrom piecesOf codesOf codesIn bytesAll encode encodeAll among whiteSpace isWhiteSpace behindRun trimEnd trimmed wordsAfter wordsBetween wellFormedLength closed tokenizeFrom tokenize insert containsKey deepest findCommand any find isOption isFlag isShortOption isShortFlag optionNameByShort flagNameByShort stripPrefix startsWith findEquals optionValue longName shortNames shortOrPositional long turn parseArgsFrom parseArgs validateRequired parseCommand parseTokens parse println leftIn join forEach forEachNode labelStr optionLine flagLine nodeLine helpLines nodeUnder showHelp availableLine showAvailableCommands isUtf8 utf8OrEmpty along nodeAt report handle executeCommand runCmdBytes digitOf hexIn escapeUnicode isPrintable escapeDebug debugChars debugError handleBuiltinCommands runLine enter
 runs = (refl, refl, refl, refl, refl, refl, refl, refl, refl)
 
 helps :
@@ -73,14 +73,14 @@ helps :
     × (enter all tree (ascii "\thelp ")
     ≡ prints
     (ascii "ArceOS Shell - Available Commands:\n\n  log             Change log level\n  vm              Machines\n    start         Start one\n\nBuilt-in Commands:\n  help            Show help information\n  help <command>  Show help for a specific command\n  clear           Clear the screen\n  exit/quit       Exit the shell\n\nTip: Use 'help <command>' to see detailed usage of a command\n"))
-unfolding forest tree ascii sameBytes order insertNode get someOf optionDefs flagDefs commandsOf all decodeFirst table decodeTwo decodeThree decodeFour leastSecond greatestSecond within piecesFrom piecesOf codesOf codesIn bytesAll encode encodeAll among whiteSpace isWhiteSpace behindRun trimEnd trimmed wordsAfter wordsBetween wellFormedLength closed tokenizeFrom tokenize insert containsKey deepest findCommand any find isOption isFlag isShortOption isShortFlag optionNameByShort flagNameByShort stripPrefix startsWith findEquals optionValue longName shortNames shortOrPositional long turn parseArgsFrom parseArgs validateRequired parseCommand parseTokens parse println leftIn join forEach forEachNode labelStr optionLine flagLine nodeLine helpLines nodeUnder showHelp availableLine showAvailableCommands isUtf8 utf8OrEmpty along nodeAt report handle executeCommand runCmdBytes digitOf hexIn escapeUnicode isPrintable escapeDebug debugChars debugError handleBuiltinCommands enter
+unfolding forest tree ascii sameBytes order insertNode get someOf optionDefs flagDefs commandsOf all decodeFirst table decodeTwo decodeThree decodeFour leastSecond greatestSecond within piecesFrom piecesOf codesOf codesIn bytesAll encode encodeAll among whiteSpace isWhiteSpace behindRun trimEnd trimmed wordsAfter wordsBetween wellFormedLength closed tokenizeFrom tokenize insert containsKey deepest findCommand any find isOption isFlag isShortOption isShortFlag optionNameByShort flagNameByShort stripPrefix startsWith findEquals optionValue longName shortNames shortOrPositional long turn parseArgsFrom parseArgs validateRequired parseCommand parseTokens parse println leftIn join forEach forEachNode labelStr optionLine flagLine nodeLine helpLines nodeUnder showHelp availableLine showAvailableCommands isUtf8 utf8OrEmpty along nodeAt report handle executeCommand runCmdBytes digitOf hexIn escapeUnicode isPrintable escapeDebug debugChars debugError handleBuiltinCommands runLine enter
 helps = (refl, refl, refl)
 
 -- `help log` with U+3000 behind it: no word is quoted, so that nothing is asked of the tables, and what is printed is the help of `log`. Of an unknown word only its own characters are asked.
 beside :
     (enter (λ c. false) tree (ascii "help log" ++ 0xE3 ∷ 0x80 ∷ 0x80 ∷ []) ≡ prints (ascii "Command: log\nDescription: Change log level\n"))
-    × (allPrinted (λ c. false) (codesIn (debugged tree (utf8OrEmpty (ascii "help log" ++ 0xE3 ∷ 0x80 ∷ 0x80 ∷ [])))) ≡ true)
+    × QuotedAsIs (λ c. false) tree (ascii "help log" ++ 0xE3 ∷ 0x80 ∷ 0x80 ∷ [])
     × (debugged tree (utf8OrEmpty (ascii "help vm" ++ 0xE3 ∷ 0x80 ∷ 0x80 ∷ ascii "stop")) ≡ ascii "stop")
     × (debugged tree (utf8OrEmpty (ascii "help " ++ 0xFF ∷ [])) ≡ [])
-unfolding forest tree ascii sameBytes order insertNode get someOf optionDefs flagDefs commandsOf all decodeFirst table decodeTwo decodeThree decodeFour leastSecond greatestSecond within piecesFrom piecesOf codesOf codesIn bytesAll encode encodeAll among whiteSpace isWhiteSpace behindRun trimEnd trimmed wordsAfter wordsBetween wellFormedLength closed tokenizeFrom tokenize insert containsKey deepest findCommand any find isOption isFlag isShortOption isShortFlag optionNameByShort flagNameByShort stripPrefix startsWith findEquals optionValue longName shortNames shortOrPositional long turn parseArgsFrom parseArgs validateRequired parseCommand parseTokens parse println leftIn join forEach forEachNode labelStr optionLine flagLine nodeLine helpLines nodeUnder showHelp availableLine showAvailableCommands isUtf8 utf8OrEmpty along nodeAt report handle executeCommand runCmdBytes digitOf hexIn escapeUnicode isPrintable escapeDebug debugChars debugError handleBuiltinCommands enter allPrinted debugged
+unfolding forest tree ascii sameBytes order insertNode get someOf optionDefs flagDefs commandsOf all decodeFirst table decodeTwo decodeThree decodeFour leastSecond greatestSecond within piecesFrom piecesOf codesOf codesIn bytesAll encode encodeAll among whiteSpace isWhiteSpace behindRun trimEnd trimmed wordsAfter wordsBetween wellFormedLength closed tokenizeFrom tokenize insert containsKey deepest findCommand any find isOption isFlag isShortOption isShortFlag optionNameByShort flagNameByShort stripPrefix startsWith findEquals optionValue longName shortNames shortOrPositional long turn parseArgsFrom parseArgs validateRequired parseCommand parseTokens parse println leftIn join forEach forEachNode labelStr optionLine flagLine nodeLine helpLines nodeUnder showHelp availableLine showAvailableCommands isUtf8 utf8OrEmpty along nodeAt report handle executeCommand runCmdBytes digitOf hexIn escapeUnicode isPrintable escapeDebug debugChars debugError handleBuiltinCommands runLine enter allPrinted debugged
 beside = (refl, refl, refl, refl)

@@ -17,7 +17,6 @@ use Rattle.history.specs.Slots.{good}
 use Rattle.history.specs.Answer.{atEnd, entriesIn, entriesAfter, addAnswer, historyBy, slotsBy, Addition}
 use Rattle.history.specs.Steps.{back, recalledAt, onward}
 use Rattle.history.specs.declared.past.History.{History}
-use Rattle.history.specs.declared.past.Recalled.{Recalled}
 use Rattle.history.specs.declared.past.Recalled.the-variants.{Entry, Nothing}
 use Rattle.history.specs.declared.past.Step.{Step}
 use Rattle.history.specs.declared.adding.Added.{Added}
@@ -26,7 +25,8 @@ use Rattle.history.proofs.Layouts.{length-entries, entries-layout}
 use Rattle.history.proofs.States.{good-has}
 use Rattle.history.proofs.Called.{done-has, entries-after}
 use Rattle.rust.specs.Parser.{isEmpty}
-use Rattle.rust.specs.History.{CommandHistory, new, last, isSome, pushed, kept, addCommand, Stepped, previous, next}
+use Rattle.rust.specs.History.{new, last, isSome, pushed, kept, addCommand, Stepped, previous, next}
+use Rattle.rust.specs.Same.{original, stepIn}
 
 -- `trim().is_empty()` is blank
 some-left : (l : List ℕ) → 0 < length l → isEmpty l ≡ false
@@ -78,10 +78,6 @@ kept-is es t =
     by true n = refl
     by false true = refl
     by false false = refl
-
--- the Rust's history with these entries, at this place
-abbrev pub original : List (List ℕ) → ℕ → CommandHistory
-original es place = record { history = es; index = place; size = 100 }
 
 -- it begins as the Rust's does
 pub fresh-is : original [] 0 ≡ new 100
@@ -147,13 +143,6 @@ add-as-rust h slots text r left a =
     add-is (entriesIn h slots) (h .place) text ∙ same (sym held) (ap (λ (x : History). x .place) (sym record-is))
 
 -- its previous and next: the place that a step leads to, and the entry of the number that it recalls
-abbrev pub recalledIn : List (List ℕ) → Recalled → Option (List ℕ)
-recalledIn es (Entry n) = some (getD es n [])
-recalledIn es Nothing = none
-
-abbrev pub stepIn : List (List ℕ) → Step → Stepped
-stepIn es step = record { after = original es (step .history .place); text = recalledIn es (step .recalled) }
-
 module _ (h : History) (slots : List ℕ) (is : good (h .count) (h .place) slots ≡ true) where
   counted : length (entriesIn h slots) ≡ h .count
   unfolding entriesIn

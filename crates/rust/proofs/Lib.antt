@@ -17,4 +17,5 @@ pub mod Running
 pub mod Calls
 pub mod Histories
 pub mod Keys
+pub mod Sessions
 mod Examples

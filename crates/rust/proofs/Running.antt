@@ -32,8 +32,8 @@ use Rattle.shell.proofs.Bare.{bare-help}
 use Rattle.rust.specs.Tree.{Commands, commandsOf}
 use Rattle.rust.specs.Parser.{UnknownCommand, ifSome, startsWith, parseTokens, parse}
 use Rattle.rust.specs.Help.{println, showHelp, showAvailableCommands}
-use Rattle.rust.specs.Shell.{returns, prints, exits, panics, isUtf8, utf8OrEmpty, executed, executeCommand, runCmdBytes, debugError, helped, handleBuiltinCommands, enter}
-use Rattle.rust.specs.Same.{replyFor, output, ended, seenOf, seenFor, allPrinted, wordIn, debugged}
+use Rattle.rust.specs.Shell.{returns, prints, exits, panics, isUtf8, utf8OrEmpty, executed, executeCommand, runCmdBytes, debugError, helped, handleBuiltinCommands, runLine, enter}
+use Rattle.rust.specs.Same.{replyFor, output, ended, seenOf, seenFor, allPrinted, wordIn, debugged, QuotedAsIs}
 use Rattle.rust.proofs.Words.{tokenize-is}
 use Rattle.rust.proofs.Histories.{blank-is-empty}
 use Rattle.rust.proofs.Parsing.{frames-are}
@@ -159,7 +159,7 @@ module _ (image : List ℕ) (f : Forest) (stands : StandsFor image f) (printable
         by false q = run-seen utf
 
     line-seen : seenOf (enter printable (commandsOf f) line) ≡ seenFor (lineSaid (framesOf image) line)
-    unfolding enter utf8OrEmpty lineSaid
+    unfolding enter runLine utf8OrEmpty lineSaid
     line-seen = rw (utf, builtin-is printable (commandsOf f) line) (by (builtinOf (trimmed line)) refl)
       where
         by : (b : Builtin) → builtinOf (trimmed line) ≡ b
@@ -173,12 +173,12 @@ module _ (image : List ℕ) (f : Forest) (stands : StandsFor image f) (printable
 
   -- a line that is not well-formed is no builtin
   ill-seen : isUtf8 line ≡ false → seenOf (enter printable (commandsOf f) line) ≡ output 3 illFormed
-  unfolding enter utf8OrEmpty runCmdBytes
+  unfolding enter runLine utf8OrEmpty runCmdBytes
   ill-seen e = rw (e, empty-is-none printable (commandsOf f)) (ap (output 3) ill-is)
 
   -- ANY LINE under a well-formed image: nothing, the same output with the error's number, the same handler with the same report, or the end with the same output. In the word
   -- that a help line's `Debug` text quotes each character outside ASCII is to be one that the Rust prints as it is.
-  pub same-run : allPrinted printable (codesIn (debugged (commandsOf f) (utf8OrEmpty line))) ≡ true → seenOf (enter printable (commandsOf f) line) ≡ seenFor (saidOf (framesOf image) line)
+  pub same-run : QuotedAsIs printable (commandsOf f) line → seenOf (enter printable (commandsOf f) line) ≡ seenFor (saidOf (framesOf image) line)
   unfolding saidOf
   same-run printed = by (ltb (wellFormedLength line) (length line)) refl
     where

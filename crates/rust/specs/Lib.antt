@@ -8,3 +8,4 @@ pub mod History
 pub mod Loop
 pub mod Same
 pub mod Calls
+pub mod Session

@@ -1,11 +1,13 @@
--- The Rust's loop (docs/src/src/shell/mod.rs) as a function on values: what one key writes and leaves. The prompt after Enter and the command's own
--- output are left out: the caller writes them. `buf[..line_len]` is a list, and a `String` its bytes.
+-- The Rust's loop (docs/src/src/shell/mod.rs) as a function on values: what one key writes and runs, in the loop's order, and what it leaves.
+-- `buf[..line_len]` is a list, and a `String` its bytes.
 use Prim.Native.Nat.{ℕ, _+_, _-_, min}
 use mathlib.Core.Bool.{cond}
 use mathlib.Core.List.{List, [], _∷_, _++_}
 use lib.Dec.{eqb, ltb}
 use lib.ListN.{length, take, drop}
+use Rattle.ink.specs.Ascii.{ascii}
 use Rattle.rust.specs.Parser.{ifSome}
+use Rattle.rust.specs.Help.{println}
 use Rattle.rust.specs.Shell.{utf8OrEmpty}
 use Rattle.rust.specs.History.{CommandHistory, addCommand, previous, next, clearLineAndRedraw}
 
@@ -22,21 +24,46 @@ pub record Shell : Type 0 where
   pub input : InputState
   pub history : CommandHistory
 
--- the shell after a key, and what was written to stdout
+-- what the loop does: it writes bytes to stdout, or runs a line, if !handle_builtin_commands(cmd) { run_cmd_bytes(bytes); }
+pub data Event : Type 0 where
+  writes : (bytes : List ℕ) → Event
+  runs : (cmd bytes : List ℕ) → Event
+
+-- one turn: the shell after it, and what it did, in order
 pub record Loop : Type 0 where
   pub after : Shell
-  pub stdout : List ℕ
+  pub events : List Event
+
+abbrev pub turned : Shell → List Event → Loop
+turned after events = record { after = after; events = events }
+
+-- the bytes that a turn writes first, and the line that it runs; nothing where there are none
+abbrev pub firstBytes : List Event → List ℕ
+firstBytes [] = []
+firstBytes (writes bytes ∷ events) = bytes
+firstBytes (runs cmd bytes ∷ events) = []
+
+abbrev pub lineRun : List Event → List ℕ
+lineRun [] = []
+lineRun (writes bytes ∷ events) = lineRun events
+lineRun (runs cmd bytes ∷ events) = bytes
+
+-- #[cfg(not(feature = "fs"))] let prompt = "axvisor:$ ".to_string(); with `fs` the current directory stands in it
+unfoldable pub promptWithoutFs : List ℕ
+promptWithoutFs = ascii "axvisor:$ "
 
 -- the line, the cursor and the input state set anew
 abbrev pub withBuf : Shell → List ℕ → ℕ → Shell
 withBuf sh buf cursor = record { buf = buf; cursor = cursor; input = Normal; history = sh .history }
 
--- CR | LF: println!(); if line_len > 0 { history.add_command(cmd_str.to_string()); .. buf[..line_len].fill(0); cursor = 0; line_len = 0; }
-unfoldable pub crlf : Shell → Loop
-crlf sh =
+-- CR | LF: println!(); if line_len > 0 { let cmd_str = std::str::from_utf8(&buf[..line_len]).unwrap_or(""); history.add_command(cmd_str.to_string());
+-- if !handle_builtin_commands(cmd_str) { run_cmd_bytes(&buf[..line_len]); } buf[..line_len].fill(0); cursor = 0; line_len = 0; } print_prompt();
+unfoldable pub crlf : List ℕ → Shell → Loop
+crlf prompt sh =
     cond (ltb 0 (length (sh .buf)))
-    (record { after = record { buf = []; cursor = 0; input = sh .input; history = addCommand (sh .history) (utf8OrEmpty (sh .buf)) }; stdout = 0x0A ∷ [] })
-    (record { after = sh; stdout = 0x0A ∷ [] })
+    (turned (record { buf = []; cursor = 0; input = sh .input; history = addCommand (sh .history) (utf8OrEmpty (sh .buf)) })
+    (writes (println []) ∷ runs (utf8OrEmpty (sh .buf)) (sh .buf) ∷ writes prompt ∷ []))
+    (turned sh (writes (println []) ∷ writes prompt ∷ []))
 
 -- BS | DL: if cursor > 0 { .. clear_line_and_redraw(&mut stdout, &prompt, current_content, cursor); }
 abbrev pub without : List ℕ → ℕ → List ℕ
@@ -45,11 +72,9 @@ without buf cursor = take (cursor - 1) buf ++ drop cursor buf
 unfoldable pub bsdl : List ℕ → Shell → Loop
 bsdl prompt sh =
     cond (ltb 0 (sh .cursor))
-    (record {
-      after = record { buf = without (sh .buf) (sh .cursor); cursor = sh .cursor - 1; input = sh .input; history = sh .history };
-      stdout = clearLineAndRedraw prompt (utf8OrEmpty (without (sh .buf) (sh .cursor))) (sh .cursor - 1);
-    })
-    (record { after = sh; stdout = [] })
+    (turned (record { buf = without (sh .buf) (sh .cursor); cursor = sh .cursor - 1; input = sh .input; history = sh .history })
+    (writes (clearLineAndRedraw prompt (utf8OrEmpty (without (sh .buf) (sh .cursor))) (sh .cursor - 1)) ∷ []))
+    (turned sh [])
 
 -- c: if line_len < MAX_LINE_LEN - 1 { .. }
 abbrev pub with : List ℕ → ℕ → ℕ → List ℕ
@@ -58,61 +83,53 @@ with buf cursor c = take cursor buf ++ (c ∷ drop cursor buf)
 unfoldable pub other : List ℕ → Shell → ℕ → Loop
 other prompt sh c =
     cond (ltb (length (sh .buf)) 255)
-    (record {
-      after = record { buf = with (sh .buf) (sh .cursor) c; cursor = sh .cursor + 1; input = sh .input; history = sh .history };
-      stdout = clearLineAndRedraw prompt (utf8OrEmpty (with (sh .buf) (sh .cursor) c)) (sh .cursor + 1);
-    })
-    (record { after = sh; stdout = [] })
+    (turned (record { buf = with (sh .buf) (sh .cursor) c; cursor = sh .cursor + 1; input = sh .input; history = sh .history })
+    (writes (clearLineAndRedraw prompt (utf8OrEmpty (with (sh .buf) (sh .cursor) c)) (sh .cursor + 1)) ∷ []))
+    (turned sh [])
 
 -- InputState::Normal => match ch { CR | LF, BS | DL, ESC, 0..=31, c }
 unfoldable pub normal : List ℕ → Shell → ℕ → Loop
 normal prompt sh ch =
-    cond (eqb ch 0x0D) (crlf sh)
-    (cond (eqb ch 0x0A) (crlf sh)
+    cond (eqb ch 0x0D) (crlf prompt sh)
+    (cond (eqb ch 0x0A) (crlf prompt sh)
     (cond (eqb ch 0x08) (bsdl prompt sh)
     (cond (eqb ch 0x7F) (bsdl prompt sh)
-    (cond (eqb ch 0x1B) (record { after = record { buf = sh .buf; cursor = sh .cursor; input = Escape; history = sh .history }; stdout = [] })
-    (cond (ltb ch 0x20) (record { after = sh; stdout = [] })
+    (cond (eqb ch 0x1B) (turned (record { buf = sh .buf; cursor = sh .cursor; input = Escape; history = sh .history }) [])
+    (cond (ltb ch 0x20) (turned sh [])
     (other prompt sh ch))))))
 
 -- InputState::Escape => match ch { b'[' => EscapeSeq, _ => Normal }
 unfoldable pub escape : Shell → ℕ → Loop
-escape sh ch =
-    record {
-      after = record { buf = sh .buf; cursor = sh .cursor; input = cond (eqb ch 0x5B) EscapeSeq Normal; history = sh .history };
-      stdout = [];
-    }
+escape sh ch = turned (record { buf = sh .buf; cursor = sh .cursor; input = cond (eqb ch 0x5B) EscapeSeq Normal; history = sh .history }) []
 
 -- a recalled command: copy_len = cmd_bytes.len().min(MAX_LINE_LEN - 1), cursor = line_len = copy_len, redrawn
 unfoldable pub recalledIn : List ℕ → CommandHistory → List ℕ → Loop
 recalledIn prompt h cmd =
-    record {
-      after = record { buf = take (min (length cmd) 255) cmd; cursor = min (length cmd) 255; input = Normal; history = h };
-      stdout = clearLineAndRedraw prompt cmd (min (length cmd) 255);
-    }
+    turned (record { buf = take (min (length cmd) 255) cmd; cursor = min (length cmd) 255; input = Normal; history = h })
+    (writes (clearLineAndRedraw prompt cmd (min (length cmd) 255)) ∷ [])
 
 -- b'A': if let Some(prev_cmd) = history.previous() { .. } input_state = Normal
 unfoldable pub keyA : List ℕ → Shell → Loop
 keyA prompt sh =
     ifSome (previous (sh .history) .text) (recalledIn prompt (previous (sh .history) .after))
-    (record { after = record { buf = sh .buf; cursor = sh .cursor; input = Normal; history = previous (sh .history) .after }; stdout = [] })
+    (turned (record { buf = sh .buf; cursor = sh .cursor; input = Normal; history = previous (sh .history) .after }) [])
 
 -- b'B': match history.next() { Some(next_cmd) => .., None => { .. clear_line_and_redraw(&mut stdout, &prompt, "", cursor); } }
 unfoldable pub keyB : List ℕ → Shell → Loop
 keyB prompt sh =
     ifSome (next (sh .history) .text) (recalledIn prompt (next (sh .history) .after))
-    (record { after = record { buf = []; cursor = 0; input = Normal; history = next (sh .history) .after }; stdout = clearLineAndRedraw prompt [] 0 })
+    (turned (record { buf = []; cursor = 0; input = Normal; history = next (sh .history) .after }) (writes (clearLineAndRedraw prompt [] 0) ∷ []))
 
 -- b'C': if cursor < line_len { cursor += 1; stdout.write_all(b"\x1b[C") }; b'D': if cursor > 0 { cursor -= 1; .. b"\x1b[D" }
 unfoldable pub keyC : Shell → Loop
 keyC sh =
-    cond (ltb (sh .cursor) (length (sh .buf))) (record { after = withBuf sh (sh .buf) (sh .cursor + 1); stdout = 0x1B ∷ 0x5B ∷ 0x43 ∷ [] })
-    (record { after = withBuf sh (sh .buf) (sh .cursor); stdout = [] })
+    cond (ltb (sh .cursor) (length (sh .buf))) (turned (withBuf sh (sh .buf) (sh .cursor + 1)) (writes (0x1B ∷ 0x5B ∷ 0x43 ∷ []) ∷ []))
+    (turned (withBuf sh (sh .buf) (sh .cursor)) [])
 
 unfoldable pub keyD : Shell → Loop
 keyD sh =
-    cond (ltb 0 (sh .cursor)) (record { after = withBuf sh (sh .buf) (sh .cursor - 1); stdout = 0x1B ∷ 0x5B ∷ 0x44 ∷ [] })
-    (record { after = withBuf sh (sh .buf) (sh .cursor); stdout = [] })
+    cond (ltb 0 (sh .cursor)) (turned (withBuf sh (sh .buf) (sh .cursor - 1)) (writes (0x1B ∷ 0x5B ∷ 0x44 ∷ []) ∷ []))
+    (turned (withBuf sh (sh .buf) (sh .cursor)) [])
 
 -- InputState::EscapeSeq => match ch { b'A', b'B', b'C', b'D', b'3', _ }
 unfoldable pub escapeSeq : List ℕ → Shell → ℕ → Loop
@@ -121,7 +138,7 @@ escapeSeq prompt sh ch =
     (cond (eqb ch 0x42) (keyB prompt sh)
     (cond (eqb ch 0x43) (keyC sh)
     (cond (eqb ch 0x44) (keyD sh)
-    (record { after = withBuf sh (sh .buf) (sh .cursor); stdout = [] }))))
+    (turned (withBuf sh (sh .buf) (sh .cursor)) []))))
 
 -- match input_state
 unfoldable pub rustIn : InputState → List ℕ → Shell → ℕ → Loop

@@ -133,6 +133,10 @@ handleBuiltinCommands printable tree input =
     (cond (startsWith (ascii "help ") input) (some (ifSome (showHelp tree (wordsBetween (drop 5 input))) (helped printable) panics))
     none)))
 
--- shell/mod.rs: let cmd_str = std::str::from_utf8(&buf[..line_len]).unwrap_or(""); .. if !handle_builtin_commands(cmd_str) { run_cmd_bytes(&buf[..line_len]); }
+-- shell/mod.rs: if !handle_builtin_commands(cmd_str) { run_cmd_bytes(&buf[..line_len]); }
+unfoldable pub runLine : (ℕ → Bool) → Commands → List ℕ → List ℕ → Effect
+runLine printable tree cmd bytes = ifSome (handleBuiltinCommands printable tree cmd) (λ e. e) (runCmdBytes tree bytes)
+
+-- the same of a line: let cmd_str = std::str::from_utf8(&buf[..line_len]).unwrap_or("");
 unfoldable pub enter : (ℕ → Bool) → Commands → List ℕ → Effect
-enter printable tree line = ifSome (handleBuiltinCommands printable tree (utf8OrEmpty line)) (λ e. e) (runCmdBytes tree line)
+enter printable tree line = runLine printable tree (utf8OrEmpty line) line

@@ -1,0 +1,145 @@
+-- A key of a session prints the frames of what one turn of the Rust's loop does: the bytes that it writes, what the line that it runs comes to, and the prompt, in the loop's order.
+use Prim.Native.Nat.{ℕ, _≤_}
+use mathlib.Core.Path.{_≡_, refl, sym, ap, _∙_}
+use mathlib.Core.Bool.{Bool, true, false}
+use mathlib.Core.List.{List, [], _∷_, _++_, append-nil}
+use lib.ListN.{length}
+use Rattle.buffer.specs.Compare.{sameBytes}
+use Rattle.buffer.proofs.Choices.{then-is, else-is}
+use Rattle.text.specs.Unicode.{encodeAll}
+use Rattle.text.specs.Decoding.{piecesFrom, piecesOf, codesOf, codesIn, bytesAll, wellFormedLength}
+use Rattle.text.specs.Apart.{behindRun, trimEnd, trimmed, allWhite, blank}
+use Rattle.image.specs.Frames.{Frame}
+use Rattle.tree.specs.Images.{framesOf}
+use Rattle.tree.specs.Forest.{Forest}
+use Rattle.tree.specs.declared.check.Checked.the-variants.{Good}
+use Rattle.tree.proofs.Forests.{StandsFor, forest-good}
+use Rattle.ink.specs.Ascii.{ascii}
+use Rattle.shell.specs.Lines.{Said, silence, text, farewell, handed as handsOver, builtinOf, beginsHelp, otherSaid, lineSaid, saidOf}
+use Rattle.editor.specs.Keys.{State, Kind, shows, enters, drops, Turn, lineFeed, turnOf}
+use Rattle.editor.specs.Answer.{stateOf, editorOf, historyOf, goodState}
+use Rattle.editor.proofs.Fine.{Fine, fine-of, turn-fine}
+use Rattle.editor.proofs.Called.{held-state}
+use Rattle.session.specs.Prints.{Printed, shown, prompt, answered, leaves, turnPrints, keyPrints, turnEnds, keyEnds}
+use Rattle.session.specs.Held.{Laid}
+use Rattle.session.specs.Calls.{imageOf, isEnter, treeBefore, most, PressingKey}
+use Rattle.session.specs.declared.running.Printing.{Printing}
+use Rattle.session.specs.declared.standing.Session.{Session}
+use Rattle.session.specs.declared.pressing.Pressing.{Pressing}
+use Rattle.session.proofs.Screens.{Plain, screen-plain}
+use Rattle.rust.specs.Tree.{Commands, commandsOf}
+use Rattle.rust.specs.Shell.{enter}
+use Rattle.rust.specs.Loop.{writes, Loop, lineRun, promptWithoutFs}
+use Rattle.rust.specs.Same.{Seen, shellOf, written, entered, seenOf, seenFor, QuotedAsIs}
+use Rattle.rust.specs.Session.{turnFrom, seenThen, endsThen, printedBy, endedBy, PrintsAs}
+use Rattle.rust.proofs.Running.{same-run}
+use Rattle.rust.proofs.Keys.{eventsBy, Tidy, Same, run-submitted, same-key}
+
+-- what the console says of a line is what the Rust's line comes to, before the prompt
+said-printed : (s : Said) → answered s ≡ seenThen (seenFor s) (shown prompt)
+unfolding answered
+said-printed silence = refl
+said-printed (text number bytes) = refl
+said-printed farewell = refl
+said-printed (handsOver number report) = refl
+
+said-ends : (s : Said) → leaves s ≡ endsThen (seenFor s) false
+unfolding leaves
+said-ends silence = refl
+said-ends (text number bytes) = refl
+said-ends farewell = refl
+said-ends (handsOver number report) = refl
+
+-- an empty line is not run by the Rust, and says nothing with us
+empty-silent : (frames : List Frame) → saidOf frames [] ≡ silence
+unfolding saidOf lineSaid otherSaid builtinOf beginsHelp wellFormedLength codesIn codesOf encodeAll trimmed blank allWhite piecesOf piecesFrom behindRun trimEnd bytesAll sameBytes ascii
+empty-silent frames = refl
+
+-- the prompt without the feature fs, and a turn with it
+prompt-is : promptWithoutFs ≡ prompt
+unfolding promptWithoutFs prompt
+prompt-is = refl
+
+same-turn : (s : State) → Fine s → (byte : ℕ) → Same prompt (turnFrom s byte) (turnOf prompt s byte)
+same-turn s fine byte = rw prompt-is (same-key prompt s fine byte)
+
+module _ (printable : ℕ → Bool) (tree : Commands) where
+  -- bytes that are shown
+  written-printed : (bytes : List ℕ) → shown bytes ≡ printedBy printable tree (written bytes)
+  unfolding shown printedBy
+  written-printed [] = refl
+  written-printed (b ∷ bytes) = refl
+
+  written-goes : (bytes : List ℕ) → false ≡ endedBy printable tree (written bytes)
+  unfolding endedBy
+  written-goes [] = refl
+  written-goes (b ∷ bytes) = refl
+
+module _ (image : List ℕ) (f : Forest) (printable : ℕ → Bool) where
+  -- the line that was submitted, and the prompt
+  module _ (stands : StandsFor image f) where
+    entered-printed : (line : List ℕ) → QuotedAsIs printable (commandsOf f) line
+        → (answered (saidOf (framesOf image) line) ≡ printedBy printable (commandsOf f) (entered line ++ (writes prompt ∷ [])))
+        × (leaves (saidOf (framesOf image) line) ≡ endedBy printable (commandsOf f) (entered line ++ (writes prompt ∷ [])))
+    unfolding printedBy endedBy enter
+    entered-printed [] p = (
+      ap answered (empty-silent (framesOf image)) ∙ said-printed silence ∙ sym (append-nil (shown prompt)),
+      ap leaves (empty-silent (framesOf image)) ∙ said-ends silence,
+    )
+    entered-printed (b ∷ line) p =
+        let said : Said = saidOf (framesOf image) (b ∷ line) in
+        let same = sym (same-run image f stands printable (b ∷ line) p) in (
+          said-printed said ∙ ap (λ (x : Seen). seenThen x (shown prompt)) same ∙ ap (seenThen (seenOf (enter printable (commandsOf f) (b ∷ line)))) (sym (append-nil (shown prompt))),
+          said-ends said ∙ ap (λ (x : Seen). endsThen x false) same,
+        )
+
+  module _ (s : State) (fine : Fine s) (byte : ℕ) (stands : isEnter byte ≡ true → StandsFor image f) where
+    t : Turn
+    t = turnOf prompt s byte
+
+    -- by the kind of the turn
+    prints-by : (q : Kind) → Plain byte q (t .screen) → Tidy t q
+        → QuotedAsIs printable (commandsOf f) (lineRun (eventsBy prompt t q))
+        → (turnPrints (framesOf image) t q ≡ printedBy printable (commandsOf f) (eventsBy prompt t q)) × (turnEnds (framesOf image) t q ≡ endedBy printable (commandsOf f) (eventsBy prompt t q))
+    unfolding printedBy endedBy
+    prints-by shows plain tidy p = (written-printed printable (commandsOf f) (t .screen), written-goes printable (commandsOf f) (t .screen))
+    prints-by enters plain tidy p =
+        let line = entered-printed (stands (plain .1)) (t .submitted) (rw (run-submitted prompt t enters tidy) at p) in (
+          ap (λ (l : List Printed). shown lineFeed ++ l) (line .0) ∙ ap (λ (bytes : List ℕ). shown bytes ++ printedBy printable (commandsOf f) (entered (t .submitted) ++ (writes prompt ∷ []))) (sym (plain .0)),
+          line .1,
+        )
+    prints-by drops plain tidy p = (refl, refl)
+
+    -- what a key prints is what one turn of the Rust's loop does, and it is the last exactly if the process ends
+    pub key-printed : QuotedAsIs printable (commandsOf f) (lineRun (turnFrom s byte .events))
+        → (keyPrints (framesOf image) (turnOf prompt s byte) ≡ printedBy printable (commandsOf f) (turnFrom s byte .events))
+        × (keyEnds (framesOf image) (turnOf prompt s byte) ≡ endedBy printable (commandsOf f) (turnFrom s byte .events))
+    unfolding keyPrints keyEnds t
+    key-printed p =
+        let same = same-turn s fine byte in
+        let q = rw (same .loop) at p in rw (same .loop) (prints-by (t .kind) (screen-plain prompt s byte fine) (same .tidy) q)
+
+-- as it is called
+laid-as : {a b : List Printed} {e g : Bool} (out : List ℕ) (r : Printing) (out′ : List ℕ) → a ≡ b → e ≡ g → Laid a e out r out′ → Laid b g out r out′
+laid-as out r out′ p q l = rw (← p, ← q) l
+
+module _ (h : Session) (image slots : List ℕ) (byte : ℕ) (out : List ℕ) (r : Pressing) (slots′ out′ : List ℕ) (p : PressingKey h image slots byte out r slots′ out′)
+    (room : most ≤ length out) (good : goodState (h .editor) (h .history) slots ≡ true) (f : Forest) (stands : isEnter byte ≡ true → StandsFor (imageOf h image) f) where
+  tested : (b : Bool) → isEnter byte ≡ b → treeBefore byte (imageOf h image) ≡ Good
+  unfolding treeBefore
+  tested true e = then-is _ _ _ e ∙ forest-good (imageOf h image) f (stands e)
+  tested false e = else-is _ _ _ e
+
+  pub press-printed : (printable : ℕ → Bool) → QuotedAsIs printable (commandsOf f) (lineRun (turnFrom (stateOf (h .editor) (h .history) slots) byte .events))
+      → PrintsAs printable (commandsOf f) (turnFrom (stateOf (h .editor) (h .history) slots) byte) out (shellOf (stateOf (r .session .editor) (r .session .history) slots′)) (r .answer) out′
+  press-printed printable plain =
+      let s : State = stateOf (h .editor) (h .history) slots in
+      let fine = fine-of (h .editor) (h .history) slots good in
+      let made = p .pressed room (tested (isEnter byte) refl) good in
+      let same = key-printed (imageOf h image) f printable s fine byte stands plain in
+      let after : State = turnOf prompt s byte .after in
+      record {
+        state = ap shellOf (ap (λ (x : Session). stateOf (x .editor) (x .history) slots′) (made .session) ∙ ap (stateOf (editorOf after) (historyOf after)) (made .held) ∙ held-state after (turn-fine prompt s byte fine))
+            ∙ ap (λ (l : Loop). l .after) (sym (same-turn s fine byte .loop));
+        lines = laid-as out (r .answer) out′ (same .0) (same .1) (made .lines);
+      }
