@@ -1,17 +1,25 @@
 -- Demand 2, same as the Rust: each call does what the Rust's function does, which stands as a function on values, beside its lines, in the crate `rust`.
--- Well-formed text and white space are Unicode's, and a quoted list of words splits back into that list.
-use Prim.Native.Nat.{ℕ, _≤_}
-use mathlib.Core.Path.{_≡_}
+-- What both sides take from Rust's std is held to Unicode and to what it is, and a quoted list of words splits back into that list.
+use Prim.Native.Nat.{ℕ, _<_, _≤_}
+use mathlib.Core.Path.{_≡_, ap}
 use mathlib.Core.Bool.{Bool, true, false}
 use mathlib.Core.List.{List, [], _++_}
-use lib.ListN.{length, take}
+use lib.ListN.{length, take, getD}
+use Rattle.buffer.specs.Compare.{order, sameBytes}
 use Rattle.buffer.specs.Write.{over}
-use Rattle.text.specs.Unicode.{Scalar, encode, WellFormed}
-use Rattle.text.specs.Decoding.{decodeFirst, wellFormedLength}
+use Rattle.buffer.specs.declared.order.Order.the-variants.{Less, Equal}
+use Rattle.buffer.proofs.Ordering.{same-is, is-same, order-is, turned, order-turned, order-trans}
+use Rattle.text.specs.Unicode.{Scalar, Scalars, encode, encodeAll, WellFormed}
+use Rattle.text.specs.Decoding.{decodeFirst, codesIn, wellFormedLength}
+use Rattle.text.specs.Space.{isWhiteSpace}
+use Rattle.text.specs.Apart.{trimmed, blank, nextWord}
 use Rattle.text.specs.declared.utf8.Decoded.the-variants.{Character}
 use Rattle.text.proofs.Encoding.{SoundOf, decode-sound, decode-complete}
-use Rattle.text.proofs.Prefix.{prefix-well-formed, prefix-longest, whole-is, is-whole}
+use Rattle.text.proofs.Prefix.{codes-are, prefix-well-formed, prefix-longest, whole-is, is-whole}
+use Rattle.text.proofs.Splits.{Trimming, trimming, WordsBy, words-next}
 use Rattle.frame.specs.Text.{Bytes}
+use Rattle.frame.specs.Hex.{digitOf, digitValue, valueOf as valueIn}
+use Rattle.frame.proofs.Digits.{digit-read}
 use Rattle.words.specs.Tokens.{wordsOf}
 use Rattle.words.specs.Answer.{Tokenized}
 use Rattle.words.specs.declared.tokenizer.Tokens.{Tokens}
@@ -27,13 +35,15 @@ use Rattle.tree.proofs.Forests.{StandsFor}
 use Rattle.trees.specs.Commands.{baseTree, fsTree}
 use Rattle.rust.specs.Tree.{commandsOf}
 use Rattle.rust.specs.Base.{buildCommandTree}
-use Rattle.rust.specs.Parser.{tokenize}
+use Rattle.rust.specs.Parser.{isEmpty, tokenize}
+use Rattle.rust.specs.Shell.{isUtf8}
 use Rattle.rust.specs.History.{new, addCommand, previous, next, clearLineAndRedraw}
 use Rattle.rust.specs.Loop.{lineRun, rustKey}
 use Rattle.rust.specs.Same.{original, stepIn, shellOf, QuotedAsIs}
 use Rattle.rust.specs.Calls.{PressesAs, SplitsAs, Fair, SameAsRust}
 use Rattle.rust.specs.Session.{turnFrom, printedBy, endedBy, PrintsAs}
-use Rattle.rust.proofs.Histories.{fresh-is, add-as-rust, previous-as-rust, next-as-rust}
+use Rattle.rust.proofs.Running.{utf-formed}
+use Rattle.rust.proofs.Histories.{blank-is-empty, fresh-is, add-as-rust, previous-as-rust, next-as-rust}
 use Rattle.rust.proofs.Keys.{same-redraw, presses-as}
 use Rattle.rust.proofs.Sessions.{key-printed, press-printed}
 use Rattle.rust.proofs.Calls.{splits-as, good-same, base-same, fs-same}
@@ -46,12 +56,15 @@ use Rattle.history.specs.Answer.{entriesIn, Addition}
 use Rattle.history.specs.Steps.{back, onward}
 use Rattle.history.specs.declared.past.History.{History}
 use Rattle.history.specs.declared.adding.Added.the-variants.{Done}
+use Rattle.screen.specs.Decimal.{decimal, valueOf}
 use Rattle.screen.specs.Redraw.{redraw}
+use Rattle.screen.proofs.Numerals.{Digits, decimal-value, decimal-digits, decimal-lead}
 use Rattle.editor.specs.declared.line.Editor.{Editor}
 use Rattle.editor.specs.declared.drawing.Key.{Key}
 use Rattle.editor.specs.Keys.{State, turnOf}
 use Rattle.editor.specs.Answer.{stateOf, goodState, refused, Pressing}
 use Rattle.editor.proofs.Fine.{Fine}
+use Rattle.promises.proofs.WhiteSpace.{propList, Listed, white-is-listed, listed-is-white}
 
 -- HISTORY (002): `CommandHistory::new(100)`, and its add_command on the entries and the place that record and slots hold
 pub history-new : original [] 0 ≡ new 100
@@ -110,19 +123,59 @@ pub press : (h : Session) (image slots : List ℕ) (byte : ℕ) (out : List ℕ)
     → PrintsAs printable (commandsOf f) (turnFrom (stateOf (h .editor) (h .history) slots) byte) out (shellOf (stateOf (r .session .editor) (r .session .history) slots′)) (r .answer) out′
 press = press-printed
 
--- UNICODE: a character is read from its encoding, whatever follows, and what is read as a character begins with the encoding of a scalar value; the prefix that is
--- found is well-formed, and no longer one is; a text is wholly found exactly if it is well-formed
-pub read-back : (n : ℕ) (t : List ℕ) → Scalar n → decodeFirst (encode n ++ t) ≡ Character n (length (encode n))
-read-back = decode-complete
+-- WHAT BOTH SIDES SHARE: the Rust's functions on values stand on these of Rust's std, and so do our definitions. A misreading of one would pass every theorem above, so each is held
+-- here to what it is, by a law that names neither side.
 
-pub read-sound : (s : List ℕ) → SoundOf s (decodeFirst s)
-read-sound = decode-sound
+-- `str::from_utf8` (isUtf8, wellFormedLength) is Ok exactly on well-formed text, a concatenation of encodings of scalar values (Unicode, D92); the prefix that is found is well-formed, and
+-- no longer one is
+pub from-utf8 : (s : List ℕ) → (isUtf8 s ≡ true → WellFormed s) × (WellFormed s → isUtf8 s ≡ true)
+from-utf8 = utf-formed
 
 pub longest-prefix : (s : List ℕ) → WellFormed (take (wellFormedLength s) s) × ((n : ℕ) → n ≤ length s → WellFormed (take n s) → n ≤ wellFormedLength s)
 longest-prefix s = (prefix-well-formed s, prefix-longest s)
 
 pub well-formed : (s : List ℕ) → (WellFormed s → wellFormedLength s ≡ length s) × (wellFormedLength s ≡ length s → WellFormed s)
 well-formed s = (whole-is s, is-whole s)
+
+-- `str::chars` and `String::push` (codesIn, encode): a character is read from its encoding, whatever follows; what is read as a character begins with the encoding of a scalar value; and
+-- characters pushed one after the other are the characters of the text
+pub read-back : (n : ℕ) (t : List ℕ) → Scalar n → decodeFirst (encode n ++ t) ≡ Character n (length (encode n))
+read-back = decode-complete
+
+pub read-sound : (s : List ℕ) → SoundOf s (decodeFirst s)
+read-sound = decode-sound
+
+pub chars : (codes : List ℕ) → Scalars codes → codesIn (encodeAll codes) ≡ codes
+chars = codes-are
+
+-- `char::is_whitespace` (isWhiteSpace) is White_Space of Unicode's PropList, code point by code point; `propList` has its rows
+pub white-space : (n : ℕ) → (isWhiteSpace n ≡ true → Listed n propList) × (Listed n propList → isWhiteSpace n ≡ true)
+white-space n = (white-is-listed n, listed-is-white n)
+
+-- `str::trim` (trimmed) removes the white space at either end and nothing else; what is left `is_empty` exactly if the text is blank
+pub trim : (s : List ℕ) → Trimming s
+trim = trimming
+
+pub is-empty : (s : List ℕ) → isEmpty (trimmed s) ≡ blank s
+is-empty = blank-is-empty
+
+-- `str::split_whitespace` (wordsBetween): the next word lies behind the white space that a text begins with and goes on to the next, and the words behind it are the others
+pub split-whitespace : (s : List ℕ) → WordsBy s (nextWord 0 s)
+split-whitespace = words-next
+
+-- `Display` of a usize (decimal): the ASCII digits of the number, with no leading 0; and in `\u{..}` a digit of 16 (digitOf) has its value
+pub display : (n : ℕ) → (valueOf (decimal n) ≡ n) × Digits (decimal n) × (0 < n → 0x30 < getD (decimal n) 0 0)
+display n = (decimal-value n, decimal-digits n, decimal-lead n)
+
+pub hex-digit : (v : ℕ) → v < 16 → valueIn (digitValue (digitOf v)) ≡ v
+hex-digit v h = ap valueIn (digit-read v h)
+
+-- `==` and `Ord` of strings (sameBytes, order): equal exactly if they are the same bytes; the order is total, the first byte that differs decides, and a prefix comes first
+pub equal : (a b : List ℕ) → (sameBytes a b ≡ true → a ≡ b) × (a ≡ b → sameBytes a b ≡ true)
+equal a b = (same-is a b, is-same a b)
+
+pub ordered : (a b c : List ℕ) → (order a b ≡ Equal → a ≡ b) × (order b a ≡ turned (order a b)) × (order a b ≡ Less → order b c ≡ Less → order a c ≡ Less)
+ordered a b c = (order-is a b, order-turned a b, order-trans a b c)
 
 -- QUOTING: the line of a list of words that quoting accepts splits into that list; and as calls, `tokenize` of what `quote` writes gives back the very frames
 pub splits-back : (words : List ℕ) (ws : List (List ℕ)) → judge (listed words) ≡ fine ws → wordsOf (quoteLine ws) ≡ ws

@@ -7,12 +7,13 @@ use mathlib.Core.Option.{none, some}
 use native.Mathlib.Omega.{arith}
 use lib.Dec.{ltb}
 use lib.ListN.{length, drop}
-use borrow.Author.Tests.{ltb-false}
+use borrow.Author.Tests.{le-ltb, ltb-false}
 use Rattle.buffer.specs.Compare.{sameBytes}
-use Rattle.buffer.proofs.Choices.{then-is}
+use Rattle.buffer.proofs.Choices.{then-is, true-is-not-false}
+use Rattle.text.specs.Unicode.{WellFormed}
 use Rattle.text.specs.Decoding.{piecesFrom, piecesOf, bytesAll, codesIn, wellFormedLength}
 use Rattle.text.specs.Apart.{behindRun, trimEnd, trimmed, blank, wordsBetween}
-use Rattle.text.proofs.Prefix.{prefix-fits}
+use Rattle.text.proofs.Prefix.{prefix-fits, whole-is, is-whole}
 use Rattle.words.specs.Tokens.{wordsOf}
 use Rattle.image.specs.Frames.{Frame}
 use Rattle.tree.specs.Images.{framesOf}
@@ -113,6 +114,15 @@ empty-is-none printable tree = refl
 utf-is : (line : List ℕ) (t : Bool) → ltb (wellFormedLength line) (length line) ≡ t → isUtf8 line ≡ not t
 unfolding isUtf8
 utf-is line t e = ap not e
+
+-- `from_utf8` is Ok exactly on Unicode's well-formed text
+pub utf-formed : (s : List ℕ) → (isUtf8 s ≡ true → WellFormed s) × (WellFormed s → isUtf8 s ≡ true)
+unfolding isUtf8
+utf-formed s = (λ e. formed (ltb (wellFormedLength s) (length s)) refl e, λ w. let e = whole-is s w in ap not (le-ltb (wellFormedLength s) (length s) (omega arith)))
+  where
+    formed : (t : Bool) → ltb (wellFormedLength s) (length s) ≡ t → not t ≡ true → WellFormed s
+    formed true q e = absurd (true-is-not-false (sym e))
+    formed false q e = is-whole s (let h = ltb-false (wellFormedLength s) (length s) q in let k = prefix-fits s in omega arith)
 
 str-whole : (line : List ℕ) → isUtf8 line ≡ true → utf8OrEmpty line ≡ line
 unfolding utf8OrEmpty
