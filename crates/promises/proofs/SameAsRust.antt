@@ -12,11 +12,11 @@ use Rattle.buffer.proofs.Ordering.{same-is, is-same, order-is, turned, order-tu
 use Rattle.text.specs.Unicode.{Scalar, Scalars, encode, encodeAll, WellFormed}
 use Rattle.text.specs.Decoding.{decodeFirst, codesIn, wellFormedLength}
 use Rattle.text.specs.Space.{isWhiteSpace}
-use Rattle.text.specs.Apart.{trimmed, blank, nextWord}
+use Rattle.text.specs.Apart.{trimmed, blank}
 use Rattle.text.specs.declared.utf8.Decoded.the-variants.{Character}
 use Rattle.text.proofs.Encoding.{SoundOf, decode-sound, decode-complete}
 use Rattle.text.proofs.Prefix.{codes-are, prefix-well-formed, prefix-longest, whole-is, is-whole}
-use Rattle.text.proofs.Splits.{Trimming, trimming, WordsBy, words-next}
+use Rattle.text.proofs.Splits.{Trimming, trimming}
 use Rattle.frame.specs.Text.{Bytes}
 use Rattle.frame.specs.Hex.{digitOf, digitValue, valueOf as valueIn}
 use Rattle.frame.proofs.Digits.{digit-read}
@@ -38,16 +38,17 @@ use Rattle.rust.specs.Base.{buildCommandTree}
 use Rattle.rust.specs.Parser.{isEmpty, tokenize}
 use Rattle.rust.specs.Shell.{isUtf8}
 use Rattle.rust.specs.History.{new, addCommand, previous, next, clearLineAndRedraw}
-use Rattle.rust.specs.Loop.{lineRun, rustKey}
-use Rattle.rust.specs.Same.{original, stepIn, shellOf, QuotedAsIs}
+use Rattle.rust.specs.Loop.{rustKey}
+use Rattle.rust.specs.Same.{original, stepIn, shellOf}
 use Rattle.rust.specs.Calls.{PressesAs, SplitsAs, Fair, SameAsRust}
-use Rattle.rust.specs.Session.{turnFrom, printedBy, endedBy, PrintsAs}
+use Rattle.rust.specs.Session.{turnFrom, turnsFrom, printedBy, endedBy, EachQuoted, CourseAs, PrintsAs}
 use Rattle.rust.proofs.Running.{utf-formed}
 use Rattle.rust.proofs.Histories.{blank-is-empty, fresh-is, add-as-rust, previous-as-rust, next-as-rust}
 use Rattle.rust.proofs.Keys.{same-redraw, presses-as}
-use Rattle.rust.proofs.Sessions.{key-printed, press-printed}
+use Rattle.rust.proofs.Sessions.{key-printed, keys-printed, press-printed}
 use Rattle.rust.proofs.Calls.{splits-as, good-same, base-same, fs-same}
 use Rattle.session.specs.Prints.{prompt, keyPrints, keyEnds}
+use Rattle.session.specs.Lines.{Standing, pressKeys}
 use Rattle.session.specs.Calls.{imageOf, isEnter, most, PressingKey}
 use Rattle.session.specs.declared.standing.Session.{Session}
 use Rattle.session.specs.declared.pressing.Pressing.{Pressing as Press}
@@ -64,7 +65,7 @@ use Rattle.editor.specs.declared.drawing.Key.{Key}
 use Rattle.editor.specs.Keys.{State, turnOf}
 use Rattle.editor.specs.Answer.{stateOf, goodState, refused, Pressing}
 use Rattle.editor.proofs.Fine.{Fine}
-use Rattle.promises.proofs.WhiteSpace.{propList, Listed, white-is-listed, listed-is-white}
+use Rattle.promises.proofs.Std.{propList, Listed, white-is-listed, listed-is-white, Splitting, splitting}
 
 -- HISTORY (002): `CommandHistory::new(100)`, and its add_command on the entries and the place that record and slots hold
 pub history-new : original [] 0 ≡ new 100
@@ -109,17 +110,22 @@ pub fs-tree : SameAsRust (flat fsTree) (buildCommandTree true)
 fs-tree = fs-same
 
 -- A SESSION: what a key prints are the frames of what one turn of the Rust's loop does, in its order: a 22 for the bytes that it writes, at Enter what the line that it runs comes to,
--- 22, 21 or 23, then a 22 for the prompt. Line, order and end are the loop's own; the tree is asked for at Enter alone.
+-- 22, 21 or 23, then a 22 for the prompt; it is the last exactly if the process ends. The line, the order and the end are the loop's own, and a tree is asked for at Enter alone.
 pub session-key : (image : List ℕ) (f : Forest) (printable : ℕ → Bool) (s : State) → Fine s → (byte : ℕ) → (isEnter byte ≡ true → StandsFor image f)
-    → QuotedAsIs printable (commandsOf f) (lineRun (turnFrom s byte .events))
+    → EachQuoted printable (commandsOf f) (turnFrom s byte .events)
     → (keyPrints (framesOf image) (turnOf prompt s byte) ≡ printedBy printable (commandsOf f) (turnFrom s byte .events))
     × (keyEnds (framesOf image) (turnOf prompt s byte) ≡ endedBy printable (commandsOf f) (turnFrom s byte .events))
 session-key = key-printed
 
+-- so do the keys of a line, one after the other, as the loop goes on
+pub session-keys : (f : Forest) (printable : ℕ → Bool) (s : Standing) → StandsFor (s .image) f → Fine (s .state) → (keys : List ℕ)
+    → EachQuoted printable (commandsOf f) (turnsFrom (s .state) keys .events) → CourseAs printable (commandsOf f) (turnsFrom (s .state) keys) (pressKeys s keys)
+session-keys = keys-printed
+
 -- and so does the call: what `press` leaves, with room and in a good state, are the loop's state and the house lines of those frames
 pub press : (h : Session) (image slots : List ℕ) (byte : ℕ) (out : List ℕ) (r : Press) (slots′ out′ : List ℕ) → PressingKey h image slots byte out r slots′ out′
     → most ≤ length out → goodState (h .editor) (h .history) slots ≡ true → (f : Forest) → (isEnter byte ≡ true → StandsFor (imageOf h image) f)
-    → (printable : ℕ → Bool) → QuotedAsIs printable (commandsOf f) (lineRun (turnFrom (stateOf (h .editor) (h .history) slots) byte .events))
+    → (printable : ℕ → Bool) → EachQuoted printable (commandsOf f) (turnFrom (stateOf (h .editor) (h .history) slots) byte .events)
     → PrintsAs printable (commandsOf f) (turnFrom (stateOf (h .editor) (h .history) slots) byte) out (shellOf (stateOf (r .session .editor) (r .session .history) slots′)) (r .answer) out′
 press = press-printed
 
@@ -159,9 +165,9 @@ trim = trimming
 pub is-empty : (s : List ℕ) → isEmpty (trimmed s) ≡ blank s
 is-empty = blank-is-empty
 
--- `str::split_whitespace` (wordsBetween): the next word lies behind the white space that a text begins with and goes on to the next, and the words behind it are the others
-pub split-whitespace : (s : List ℕ) → WordsBy s (nextWord 0 s)
-split-whitespace = words-next
+-- `str::split_whitespace` (wordsBetween): white space is passed over, a word goes on up to the next or to the end, and none is empty
+pub split-whitespace : (s : List ℕ) → Splitting s
+split-whitespace = splitting
 
 -- `Display` of a usize (decimal): the ASCII digits of the number, with no leading 0; and in `\u{..}` a digit of 16 (digitOf) has its value
 pub display : (n : ℕ) → (valueOf (decimal n) ≡ n) × Digits (decimal n) × (0 < n → 0x30 < getD (decimal n) 0 0)

@@ -291,12 +291,12 @@ line-run prompt [] = refl
 line-run prompt (b ∷ line) = refl
 
 module _ (prompt : List ℕ) (t : Turn) where
-  pub first-shown : (q : Kind) → Tidy t q → firstBytes (eventsBy prompt t q) ≡ t .screen
+  first-shown : (q : Kind) → Tidy t q → firstBytes (eventsBy prompt t q) ≡ t .screen
   first-shown shows e = first-written (t .screen)
   first-shown enters e = refl
   first-shown drops e = sym (e .0)
 
-  pub run-submitted : (q : Kind) → Tidy t q → lineRun (eventsBy prompt t q) ≡ t .submitted
+  run-submitted : (q : Kind) → Tidy t q → lineRun (eventsBy prompt t q) ≡ t .submitted
   run-submitted shows e = none-run (t .screen) ∙ sym e
   run-submitted enters e = line-run prompt (t .submitted)
   run-submitted drops e = sym (e .1)

@@ -148,3 +148,9 @@ rustIn EscapeSeq prompt sh ch = escapeSeq prompt sh ch
 
 unfoldable pub rustKey : List ℕ → Shell → ℕ → Loop
 rustKey prompt sh ch = rustIn (sh .input) prompt sh ch
+
+-- loop { .. }: a turn for each byte that is read
+unfoldable pub rustKeys : List ℕ → Shell → List ℕ → Loop
+rustKeys prompt sh [] = turned sh []
+rustKeys prompt sh (ch ∷ keys) =
+    turned (rustKeys prompt (rustKey prompt sh ch .after) keys .after) (rustKey prompt sh ch .events ++ rustKeys prompt (rustKey prompt sh ch .after) keys .events)

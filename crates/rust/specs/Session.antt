@@ -6,16 +6,20 @@ use mathlib.Core.Bool.{Bool, true, false}
 use mathlib.Core.List.{List, [], _∷_, _++_}
 use Rattle.editor.specs.Keys.{State}
 use Rattle.session.specs.Prints.{Printed, handler, exit, shown}
+use Rattle.session.specs.Lines.{Course}
 use Rattle.session.specs.Held.{Laid}
 use Rattle.session.specs.declared.running.Printing.{Printing}
 use Rattle.rust.specs.Tree.{Commands}
 use Rattle.rust.specs.Shell.{runLine}
-use Rattle.rust.specs.Loop.{Shell, Event, writes, runs, Loop, promptWithoutFs, rustKey}
-use Rattle.rust.specs.Same.{shellOf, Seen, quiet, output, handed, ended, crashed, seenOf}
+use Rattle.rust.specs.Loop.{Shell, Event, writes, runs, Loop, promptWithoutFs, rustKey, rustKeys}
+use Rattle.rust.specs.Same.{shellOf, Seen, quiet, output, handed, ended, crashed, seenOf, QuotedAsIs}
 
--- one turn of the loop without the feature fs, from a state of ours
+-- a turn of the loop without the feature fs, from a state of ours, and its turns
 abbrev pub turnFrom : State → ℕ → Loop
 turnFrom s byte = rustKey promptWithoutFs (shellOf s) byte
+
+abbrev pub turnsFrom : State → List ℕ → Loop
+turnsFrom s keys = rustKeys promptWithoutFs (shellOf s) keys
 
 -- what a line comes to, before what the loop does next; a process that has ended or crashed does nothing more
 abbrev pub seenThen : Seen → List Printed → List Printed
@@ -42,6 +46,18 @@ unfoldable pub endedBy : (ℕ → Bool) → Commands → List Event → Bool
 endedBy printable tree [] = false
 endedBy printable tree (writes bytes ∷ events) = endedBy printable tree events
 endedBy printable tree (runs cmd bytes ∷ events) = endsThen (seenOf (runLine printable tree cmd bytes)) (endedBy printable tree events)
+
+-- in the word that the `Debug` text of a line that is run quotes, each character is printed as it is
+abbrev pub EachQuoted : (ℕ → Bool) → Commands → List Event → Type 0
+EachQuoted printable tree [] = Unit {0}
+EachQuoted printable tree (writes bytes ∷ events) = EachQuoted printable tree events
+EachQuoted printable tree (runs cmd bytes ∷ events) = QuotedAsIs printable tree bytes × EachQuoted printable tree events
+
+-- KEYS: turns of the loop. What they print, whether the process has ended, and if not, where it stands.
+pub record CourseAs (printable : ℕ → Bool) (tree : Commands) (turns : Loop) (course : Course) : Type 0 where
+  pub prints : course .prints ≡ printedBy printable tree (turns .events)
+  pub ends : course .ends ≡ endedBy printable tree (turns .events)
+  pub after : course .ends ≡ false → shellOf (course .after .state) ≡ turns .after
 
 -- PRESS: one turn of the loop. The house lines in the out buffer are the frames of the loop's events, in its order, and the answer says whether they are the last.
 pub record PrintsAs (printable : ℕ → Bool) (tree : Commands) (turn : Loop) (out : List ℕ) (after : Shell) (r : Printing) (out′ : List ℕ) : Type 0 where

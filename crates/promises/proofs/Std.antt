@@ -1,13 +1,15 @@
--- White_Space as Unicode's PropList.txt lists it (version 17.0.0), row by row, and that our table holds these code points and no others.
+-- White space as Rust's std has it, in words that neither side uses: White_Space as Unicode's PropList.txt lists it (version 17.0.0), row by row, and the words between white space.
 use Prim.Native.Nat.{ℕ, suc, _+_, _-_, _≤_}
 use mathlib.Core.Path.{_≡_, refl, sym, ap, _∙_}
 use mathlib.Core.Bool.{Bool, true, false, cond}
-use mathlib.Core.List.{List, [], _∷_}
+use mathlib.Core.List.{List, [], _∷_, _++_, map, append-assoc, append-nil}
 use mathlib.Core.Logic.{_⊎_, inl, inr}
 use native.Mathlib.Omega.{arith}
 use lib.Dec.{eqb, leb}
 use borrow.Author.Tests.{eqb-true, leb-true}
+use Rattle.text.specs.Decoding.{Piece, piecesOf, bytesAll}
 use Rattle.text.specs.Space.{whiteSpace, among, isWhiteSpace}
+use Rattle.text.specs.Apart.{white, ended, wordsAfter, wordsBetween}
 use Rattle.text.proofs.Spaces.{allOf, allBelow, below-passes}
 
 -- a row of the list: its first and its last code point
@@ -82,3 +84,47 @@ white-is-listed n e = listed-is n propList (among-passes (λ m. listed m propLis
 pub listed-is-white : (n : ℕ) → Listed n propList → isWhiteSpace n ≡ true
 unfolding isWhiteSpace whiteSpace among rowPasses rowsPass
 listed-is-white n k = rows-pass isWhiteSpace n propList refl k
+
+-- a word: pieces of which none is white space
+abbrev pub Solid : List Piece → Type 0
+Solid [] = Unit {0}
+Solid (p ∷ ps) = (white p ≡ false) × Solid ps
+
+-- the words of a text: white space is passed over, and a word, which is not empty, goes on up to the next white space or the end
+pub data WordsIn : List Piece → List (List Piece) → Type 0 where
+  done : WordsIn [] []
+  space : {p : Piece} {ps : List Piece} {words : List (List Piece)} → white p ≡ true → WordsIn ps words → WordsIn (p ∷ ps) words
+  last : (p : Piece) (more : List Piece) → Solid (p ∷ more) → WordsIn (p ∷ more) ((p ∷ more) ∷ [])
+  word : (p : Piece) (more : List Piece) (q : Piece) {ps : List Piece} {words : List (List Piece)} → Solid (p ∷ more) → white q ≡ true → WordsIn ps words
+      → WordsIn ((p ∷ more) ++ (q ∷ ps)) ((p ∷ more) ∷ words)
+
+solid-on : (ps : List Piece) (p : Piece) → Solid ps → white p ≡ false → Solid (ps ++ (p ∷ []))
+solid-on [] p h e = (e, tt)
+solid-on (q ∷ ps) p h e = (h .0, solid-on ps p (h .1) e)
+
+words-end : (begun : List Piece) → Solid begun → WordsIn (begun ++ []) (ended begun [])
+words-end [] h = done
+words-end (p ∷ begun) h = rw (append-nil begun) (last p begun h)
+
+words-then : (begun : List Piece) (q : Piece) (ps : List Piece) (words : List (List Piece)) → Solid begun → white q ≡ true → WordsIn ps words → WordsIn (begun ++ (q ∷ ps)) (ended begun words)
+words-then [] q ps words h e w = space e w
+words-then (p ∷ begun) q ps words h e w = word p begun q h e w
+
+words-in : (begun ps : List Piece) → Solid begun → WordsIn (begun ++ ps) (wordsAfter begun ps)
+unfolding wordsAfter
+words-in begun [] h = words-end begun h
+words-in begun (p ∷ ps) h = by (white p) refl (words-in [] ps tt) (words-in (begun ++ (p ∷ [])) ps)
+  where
+    by : (t : Bool) → white p ≡ t → WordsIn ps (wordsAfter [] ps) → (Solid (begun ++ (p ∷ [])) → WordsIn ((begun ++ (p ∷ [])) ++ ps) (wordsAfter (begun ++ (p ∷ [])) ps))
+        → WordsIn (begun ++ (p ∷ ps)) (cond t (ended begun (wordsAfter [] ps)) (wordsAfter (begun ++ (p ∷ [])) ps))
+    by true e fresh on = words-then begun p ps (wordsAfter [] ps) h e fresh
+    by false e fresh on = rw append-assoc at (on (solid-on begun p h e))
+
+pub record Splitting (s : List ℕ) : Type 0 where
+  pub words : List (List Piece)
+  pub split : WordsIn (piecesOf s) words
+  pub bytes : wordsBetween s ≡ map bytesAll words
+
+pub splitting : (s : List ℕ) → Splitting s
+unfolding wordsBetween
+splitting s = record { words = wordsAfter [] (piecesOf s); split = words-in [] (piecesOf s) tt; bytes = refl }
