@@ -3,7 +3,8 @@
 use Prim.Native.Nat.{ℕ, _<_, _≤_}
 use mathlib.Core.Path.{_≡_, ap}
 use mathlib.Core.Bool.{Bool, true, false}
-use mathlib.Core.List.{List, [], _++_}
+use mathlib.Core.List.{List, [], _∷_, _++_}
+use native.Mathlib.Omega.{arith}
 use lib.ListN.{length, take, getD}
 use Rattle.buffer.specs.Compare.{order, sameBytes}
 use Rattle.buffer.specs.Write.{over}
@@ -59,7 +60,7 @@ use Rattle.history.specs.declared.past.History.{History}
 use Rattle.history.specs.declared.adding.Added.the-variants.{Done}
 use Rattle.screen.specs.Decimal.{decimal, valueOf}
 use Rattle.screen.specs.Redraw.{redraw}
-use Rattle.screen.proofs.Numerals.{Digits, decimal-value, decimal-digits, decimal-lead}
+use Rattle.screen.proofs.Numerals.{Digits, decimal-one, decimal-value, decimal-digits, decimal-lead}
 use Rattle.editor.specs.declared.line.Editor.{Editor}
 use Rattle.editor.specs.declared.drawing.Key.{Key}
 use Rattle.editor.specs.Keys.{State, turnOf}
@@ -169,9 +170,12 @@ is-empty = blank-is-empty
 pub split-whitespace : (s : List ℕ) → Splitting s
 split-whitespace = splitting
 
--- `Display` of a usize (decimal): the ASCII digits of the number, with no leading 0; and in `\u{..}` a digit of 16 (digitOf) has its value
+-- `Display` of a usize (decimal): the ASCII digits of the number, one for 0 and no leading 0 for any other; and in `\u{..}` a digit of 16 (digitOf) has its value
 pub display : (n : ℕ) → (valueOf (decimal n) ≡ n) × Digits (decimal n) × (0 < n → 0x30 < getD (decimal n) 0 0)
 display n = (decimal-value n, decimal-digits n, decimal-lead n)
+
+pub display-zero : decimal 0 ≡ 0x30 ∷ []
+display-zero = decimal-one 0 (omega arith)
 
 pub hex-digit : (v : ℕ) → v < 16 → valueIn (digitValue (digitOf v)) ≡ v
 hex-digit v h = ap valueIn (digit-read v h)
