@@ -34,10 +34,10 @@ use Rattle.tree.specs.Rules.{checkTree}
 use Rattle.tree.specs.declared.check.Checked.the-variants.{Good}
 use Rattle.tree.proofs.Forests.{StandsFor}
 use Rattle.trees.specs.Commands.{baseTree, fsTree}
+use Rattle.rust.specs.Std.{isEmpty, isUtf8}
 use Rattle.rust.specs.Tree.{commandsOf}
 use Rattle.rust.specs.Base.{buildCommandTree}
-use Rattle.rust.specs.Parser.{isEmpty, tokenize}
-use Rattle.rust.specs.Shell.{isUtf8}
+use Rattle.rust.specs.Parser.{tokenize}
 use Rattle.rust.specs.History.{new, addCommand, previous, next, clearLineAndRedraw}
 use Rattle.rust.specs.Loop.{rustKey}
 use Rattle.rust.specs.Same.{original, stepIn, shellOf}
@@ -130,8 +130,8 @@ pub press : (h : Session) (image slots : List ℕ) (byte : ℕ) (out : List ℕ)
     → PrintsAs printable (commandsOf f) (turnFrom (stateOf (h .editor) (h .history) slots) byte) out (shellOf (stateOf (r .session .editor) (r .session .history) slots′)) (r .answer) out′
 press = press-printed
 
--- WHAT BOTH SIDES SHARE: the Rust's functions on values stand on these of Rust's std, and so do our definitions. A misreading of one would pass every theorem above, so each is held
--- here to what it is, by a law that names neither side.
+-- WHAT BOTH SIDES SHARE: the Rust's functions on values stand on these of Rust's std (rust: Std, under the Rust's names), and so do our definitions, and they share nothing else. A
+-- misreading of one would pass every theorem above, so each is held here to what it is, by a law that names neither side.
 
 -- `str::from_utf8` (isUtf8, wellFormedLength) is Ok exactly on well-formed text, a concatenation of encodings of scalar values (Unicode, D92); the prefix that is found is well-formed, and
 -- no longer one is

@@ -12,10 +12,11 @@ use Rattle.frame.specs.Hex.{digitOf}
 use Rattle.image.specs.Frames.{absent, present, option, flag}
 use Rattle.tree.specs.Forest.{Forest, bare, grown}
 use Rattle.ink.specs.Ascii.{ascii}
+use Rattle.rust.specs.Std.{isUtf8, join, leftIn, println, startsWith, stripPrefix, utf8OrEmpty}
 use Rattle.rust.specs.Tree.{Commands, insertNode, get, someOf, optionDefs, flagDefs, commandsOf}
-use Rattle.rust.specs.Parser.{insert, containsKey, UnknownCommand, UnknownOption, MissingValue, MissingRequiredOption, NoHandler, ok, err, closed, tokenizeFrom, tokenize, deepest, findCommand, any, find, isOption, isFlag, isShortOption, isShortFlag, optionNameByShort, flagNameByShort, stripPrefix, startsWith, findEquals, optionValue, longName, shortNames, shortOrPositional, long, turn, parseArgsFrom, parseArgs, validateRequired, parseCommand, parseTokens, parse}
-use Rattle.rust.specs.Help.{println, leftIn, join, forEach, forEachNode, labelStr, optionLine, flagLine, nodeLine, helpLines, nodeUnder, showHelp, availableLine, showAvailableCommands}
-use Rattle.rust.specs.Shell.{returns, prints, fails, garbled, calls, exits, isUtf8, utf8OrEmpty, along, nodeAt, report, handle, executeCommand, runCmdBytes, hexIn, escapeUnicode, isPrintable, escapeDebug, debugChars, debugError, handleBuiltinCommands, runLine, enter}
+use Rattle.rust.specs.Parser.{insert, containsKey, UnknownCommand, UnknownOption, MissingValue, MissingRequiredOption, NoHandler, ok, err, closed, tokenizeFrom, tokenize, deepest, findCommand, any, find, isOption, isFlag, isShortOption, isShortFlag, optionNameByShort, flagNameByShort, findEquals, optionValue, longName, shortNames, shortOrPositional, long, turn, parseArgsFrom, parseArgs, validateRequired, parseCommand, parseTokens, parse}
+use Rattle.rust.specs.Help.{forEach, forEachNode, labelStr, optionLine, flagLine, nodeLine, helpLines, nodeUnder, showHelp, availableLine, showAvailableCommands}
+use Rattle.rust.specs.Shell.{returns, prints, fails, garbled, calls, exits, along, nodeAt, report, handle, executeCommand, runCmdBytes, hexIn, escapeUnicode, isPrintable, escapeDebug, debugChars, debugError, handleBuiltinCommands, runLine, enter}
 use Rattle.rust.specs.Same.{allPrinted, debugged, QuotedAsIs}
 
 -- `vm` without a handler and its child `start`, with a required option, a flag and an option of a name alone; `log`. The map puts `log` first.

@@ -24,7 +24,7 @@ use Rattle.history.specs.declared.adding.Added.the-variants.{Done}
 use Rattle.history.proofs.Layouts.{length-entries, entries-layout}
 use Rattle.history.proofs.States.{good-has}
 use Rattle.history.proofs.Called.{done-has, entries-after}
-use Rattle.rust.specs.Parser.{isEmpty}
+use Rattle.rust.specs.Std.{isEmpty}
 use Rattle.rust.specs.History.{new, last, isSome, pushed, kept, addCommand, Stepped, previous, next}
 use Rattle.rust.specs.Same.{original, stepIn}
 

@@ -30,10 +30,11 @@ use Rattle.shell.specs.Lines.{silence, text, farewell, builtinOf, onBuiltin, be
 use Rattle.shell.specs.declared.builtin.Builtin.{Builtin}
 use Rattle.shell.specs.declared.builtin.Builtin.the-variants.{Help, Exit, Clear, None}
 use Rattle.shell.proofs.Bare.{bare-help}
+use Rattle.rust.specs.Std.{ifSome, isUtf8, println, startsWith, utf8OrEmpty}
 use Rattle.rust.specs.Tree.{Commands, commandsOf}
-use Rattle.rust.specs.Parser.{UnknownCommand, ifSome, startsWith, parseTokens, parse}
-use Rattle.rust.specs.Help.{println, showHelp, showAvailableCommands}
-use Rattle.rust.specs.Shell.{returns, prints, exits, panics, isUtf8, utf8OrEmpty, executed, executeCommand, runCmdBytes, debugError, helped, handleBuiltinCommands, runLine, enter}
+use Rattle.rust.specs.Parser.{UnknownCommand, parseTokens, parse}
+use Rattle.rust.specs.Help.{showHelp, showAvailableCommands}
+use Rattle.rust.specs.Shell.{returns, prints, exits, panics, executed, executeCommand, runCmdBytes, debugError, helped, handleBuiltinCommands, runLine, enter}
 use Rattle.rust.specs.Same.{replyFor, output, ended, seenOf, seenFor, allPrinted, wordIn, debugged, QuotedAsIs}
 use Rattle.rust.proofs.Words.{tokenize-is}
 use Rattle.rust.proofs.Histories.{blank-is-empty}

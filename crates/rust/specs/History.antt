@@ -6,9 +6,7 @@ use mathlib.Core.Option.{Option, none, some}
 use lib.Dec.{ltb, leb}
 use lib.ListN.{length, drop, getElem?}
 use Rattle.buffer.specs.Compare.{sameBytes}
-use Rattle.text.specs.Apart.{trimmed}
-use Rattle.screen.specs.Decimal.{decimal}
-use Rattle.rust.specs.Parser.{isEmpty}
+use Rattle.rust.specs.Std.{display, isEmpty, trim}
 
 -- pub struct CommandHistory { history: Vec<String>, current_index: usize, max_size: usize }
 pub record CommandHistory : Type 0 where
@@ -37,7 +35,7 @@ pushed size es cmd = cond (leb size (length es)) (drop 1 es) es ++ (cmd ∷ [])
 
 -- if !cmd.trim().is_empty() && self.history.last() != Some(&cmd) { .. }
 unfoldable pub kept : ℕ → List (List ℕ) → List ℕ → List (List ℕ)
-kept size es cmd = cond (not (isEmpty (trimmed cmd))) (cond (not (isSome (last es) cmd)) (pushed size es cmd) es) es
+kept size es cmd = cond (not (isEmpty (trim cmd))) (cond (not (isSome (last es) cmd)) (pushed size es cmd) es) es
 
 -- pub fn add_command(&mut self, cmd: String): .. self.current_index = self.history.len();
 unfoldable pub addCommand : CommandHistory → List ℕ → CommandHistory
@@ -68,8 +66,8 @@ next h =
     })
     (record { after = h; text = none })
 
--- pub fn clear_line_and_redraw(stdout, prompt, content, cursor_pos): the bytes that it writes; `{}` of a number is `decimal`
+-- pub fn clear_line_and_redraw(stdout, prompt, content, cursor_pos): the bytes that it writes
 unfoldable pub clearLineAndRedraw : List ℕ → List ℕ → ℕ → List ℕ
 clearLineAndRedraw prompt text cursor =
     0x0D ∷ 0x1B ∷ 0x5B ∷ 0x32 ∷ 0x4B
-    ∷ (prompt ++ (text ++ cond (ltb cursor (length text)) (0x1B ∷ 0x5B ∷ (decimal (length text - cursor) ++ (0x44 ∷ []))) []))
+    ∷ (prompt ++ (text ++ cond (ltb cursor (length text)) (0x1B ∷ 0x5B ∷ (display (length text - cursor) ++ (0x44 ∷ []))) []))

@@ -7,7 +7,6 @@ use mathlib.Core.Option.{Option, none, some}
 use lib.Dec.{eqb, ltb}
 use lib.ListN.{drop, getD}
 use Rattle.text.specs.Decoding.{codesIn}
-use Rattle.text.specs.Apart.{wordsBetween}
 use Rattle.history.specs.declared.past.Recalled.{Recalled}
 use Rattle.history.specs.declared.past.Recalled.the-variants.{Entry, Nothing}
 use Rattle.history.specs.declared.past.Step.{Step}
@@ -22,10 +21,11 @@ use Rattle.parse.specs.Commands.{Outcome, parsed, fault}
 use Rattle.help.specs.Answer.{Reply, said, unknown, wordless}
 use Rattle.message.specs.Messages.{goodbye}
 use Rattle.shell.specs.Lines.{Said, silence, text, farewell, handed as handsOver}
+use Rattle.rust.specs.Std.{splitWhitespace, startsWith, utf8OrEmpty}
 use Rattle.rust.specs.Tree.{Commands}
-use Rattle.rust.specs.Parser.{BTreeMap, ParsedCommand, ParseError, UnknownCommand, UnknownOption, MissingValue, MissingRequiredOption, NoHandler, Result, ok, err, startsWith}
+use Rattle.rust.specs.Parser.{BTreeMap, ParsedCommand, ParseError, UnknownCommand, UnknownOption, MissingValue, MissingRequiredOption, NoHandler, Result, ok, err}
 use Rattle.rust.specs.Help.{showHelp}
-use Rattle.rust.specs.Shell.{Effect, returns, prints, fails, garbled, calls, exits, panics, textIn, utf8OrEmpty}
+use Rattle.rust.specs.Shell.{Effect, returns, prints, fails, garbled, calls, exits, panics, textIn}
 use Rattle.rust.specs.History.{CommandHistory, Stepped}
 use Rattle.rust.specs.Loop.{InputState, Normal, Escape as EscapeState, EscapeSeq, Shell, Event, writes, runs}
 
@@ -134,7 +134,7 @@ wordIn (some (err e)) = textIn e
 wordIn none = []
 
 unfoldable pub debugged : Commands → List ℕ → List ℕ
-debugged tree input = cond (startsWith (ascii "help ") input) (wordIn (showHelp tree (wordsBetween (drop 5 input)))) []
+debugged tree input = cond (startsWith (ascii "help ") input) (wordIn (showHelp tree (splitWhitespace (drop 5 input)))) []
 
 -- that word of a line is one whose characters are printed as they are
 abbrev pub QuotedAsIs : (ℕ → Bool) → Commands → List ℕ → Type 0
