@@ -1,6 +1,6 @@
 -- Demand 2, same as the Rust: each call does what the Rust's function does, which stands as a function on values, beside its lines, in the crate `rust`.
 -- What both sides take from Rust's std is held to Unicode and to what it is, and a quoted list of words splits back into that list.
-use Prim.Native.Nat.{ℕ, _<_, _≤_}
+use Prim.Native.Nat.{ℕ, _+_, _<_, _≤_}
 use mathlib.Core.Path.{_≡_, ap}
 use mathlib.Core.Bool.{Bool, true, false}
 use mathlib.Core.List.{List, [], _∷_, _++_}
@@ -42,14 +42,15 @@ use Rattle.rust.specs.History.{new, addCommand, previous, next, clearLineAndRed
 use Rattle.rust.specs.Loop.{rustKey}
 use Rattle.rust.specs.Same.{original, stepIn, shellOf}
 use Rattle.rust.specs.Calls.{PressesAs, SplitsAs, Fair, SameAsRust}
-use Rattle.rust.specs.Session.{turnFrom, turnsFrom, printedBy, endedBy, EachQuoted, CourseAs, PrintsAs}
+use Rattle.rust.specs.Session.{turnFrom, turnsFrom, printedBy, endedBy, EachQuoted, CourseAs, KeyLines, PrintsAs}
 use Rattle.rust.proofs.Running.{utf-formed}
 use Rattle.rust.proofs.Histories.{blank-is-empty, fresh-is, add-as-rust, previous-as-rust, next-as-rust}
 use Rattle.rust.proofs.Keys.{same-redraw, presses-as}
 use Rattle.rust.proofs.Sessions.{key-printed, keys-printed, press-printed}
+use Rattle.rust.proofs.Whole.{session-printed}
 use Rattle.rust.proofs.Calls.{splits-as, good-same, base-same, fs-same}
 use Rattle.session.specs.Prints.{prompt, keyPrints, keyEnds}
-use Rattle.session.specs.Lines.{Standing, pressKeys}
+use Rattle.session.specs.Lines.{Standing, pressKeys, session}
 use Rattle.session.specs.Calls.{imageOf, isEnter, most, PressingKey}
 use Rattle.session.specs.declared.standing.Session.{Session}
 use Rattle.session.specs.declared.pressing.Pressing.{Pressing as Press}
@@ -122,6 +123,12 @@ session-key = key-printed
 pub session-keys : (f : Forest) (printable : ℕ → Bool) (s : Standing) → StandsFor (s .image) f → Fine (s .state) → (keys : List ℕ)
     → EachQuoted printable (commandsOf f) (turnsFrom (s .state) keys .events) → CourseAs printable (commandsOf f) (turnsFrom (s .state) keys) (pressKeys s keys)
 session-keys = keys-printed
+
+-- and so do whole lines of keys behind a tree: a session prints what the loop does with all their bytes, up to where the process ends
+pub whole-session : (f : Forest) (printable : ℕ → Bool) (s : Standing) → StandsFor (s .image) f → Fine (s .state) → {lines : List (List ℕ)} {bytes : List ℕ} → KeyLines lines bytes
+    → s .lines + length lines ≤ 65535 → EachQuoted printable (commandsOf f) (turnsFrom (s .state) bytes .events)
+    → session s lines ≡ printedBy printable (commandsOf f) (turnsFrom (s .state) bytes .events)
+whole-session = session-printed
 
 -- and so does the call: what `press` leaves, with room and in a good state, are the loop's state and the house lines of those frames
 pub press : (h : Session) (image slots : List ℕ) (byte : ℕ) (out : List ℕ) (r : Press) (slots′ out′ : List ℕ) → PressingKey h image slots byte out r slots′ out′

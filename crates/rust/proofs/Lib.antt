@@ -18,4 +18,5 @@ pub mod Calls
 pub mod Histories
 pub mod Keys
 pub mod Sessions
+pub mod Whole
 mod Examples

@@ -142,7 +142,7 @@ module _ (printable : ℕ → Bool) (tree : Commands) where
   shown-both a b c true = refl
   shown-both a b c false = sym (append-assoc a b c)
 
-  printed-both : (a b : List Event) → printedBy printable tree (a ++ b) ≡ cond (endedBy printable tree a) (printedBy printable tree a) (printedBy printable tree a ++ printedBy printable tree b)
+  pub printed-both : (a b : List Event) → printedBy printable tree (a ++ b) ≡ cond (endedBy printable tree a) (printedBy printable tree a) (printedBy printable tree a ++ printedBy printable tree b)
   unfolding printedBy endedBy
   printed-both [] b = refl
   printed-both (writes bytes ∷ a) b = ap (λ (l : List Printed). shown bytes ++ l) (printed-both a b) ∙ shown-both (shown bytes) (printedBy printable tree a) (printedBy printable tree b) (endedBy printable tree a)
@@ -157,7 +157,7 @@ module _ (printable : ℕ → Bool) (tree : Commands) where
   ended-both (runs cmd bytes ∷ a) b =
       ap (endsThen (seenOf (runLine printable tree cmd bytes))) (ended-both a b) ∙ ends-both (seenOf (runLine printable tree cmd bytes)) (endedBy printable tree a) (endedBy printable tree b)
 
-  quoted-both : (a b : List Event) → EachQuoted printable tree (a ++ b) → EachQuoted printable tree a × EachQuoted printable tree b
+  pub quoted-both : (a b : List Event) → EachQuoted printable tree (a ++ b) → EachQuoted printable tree a × EachQuoted printable tree b
   quoted-both [] b q = (tt, q)
   quoted-both (writes bytes ∷ a) b q = quoted-both a b q
   quoted-both (runs cmd bytes ∷ a) b q = let k = quoted-both a b (q .1) in ((q .0, k .0), k .1)

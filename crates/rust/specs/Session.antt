@@ -6,7 +6,7 @@ use mathlib.Core.Bool.{Bool, true, false}
 use mathlib.Core.List.{List, [], _∷_, _++_}
 use Rattle.editor.specs.Keys.{State}
 use Rattle.session.specs.Prints.{Printed, handler, exit, shown}
-use Rattle.session.specs.Lines.{Course}
+use Rattle.session.specs.Lines.{keys, lineForm, Course}
 use Rattle.session.specs.Held.{Laid}
 use Rattle.session.specs.declared.running.Printing.{Printing}
 use Rattle.rust.specs.Tree.{Commands}
@@ -19,7 +19,7 @@ abbrev pub turnFrom : State → ℕ → Loop
 turnFrom s byte = rustKey promptWithoutFs (shellOf s) byte
 
 abbrev pub turnsFrom : State → List ℕ → Loop
-turnsFrom s keys = rustKeys promptWithoutFs (shellOf s) keys
+turnsFrom s bytes = rustKeys promptWithoutFs (shellOf s) bytes
 
 -- what a line comes to, before what the loop does next; a process that has ended or crashed does nothing more
 abbrev pub seenThen : Seen → List Printed → List Printed
@@ -58,6 +58,11 @@ pub record CourseAs (printable : ℕ → Bool) (tree : Commands) (turns : Loop) 
   pub prints : course .prints ≡ printedBy printable tree (turns .events)
   pub ends : course .ends ≡ endedBy printable tree (turns .events)
   pub after : course .ends ≡ false → shellOf (course .after .state) ≡ turns .after
+
+-- house lines that are frames 20, and their key bytes one after the other
+pub data KeyLines : List (List ℕ) → List ℕ → Type 0 where
+  none : KeyLines [] []
+  more : (line : List ℕ) {bytes : List ℕ} {lines : List (List ℕ)} {others : List ℕ} → lineForm line ≡ keys bytes → KeyLines lines others → KeyLines (line ∷ lines) (bytes ++ others)
 
 -- PRESS: one turn of the loop. The house lines in the out buffer are the frames of the loop's events, in its order, and the answer says whether they are the last.
 pub record PrintsAs (printable : ℕ → Bool) (tree : Commands) (turn : Loop) (out : List ℕ) (after : Shell) (r : Printing) (out′ : List ℕ) : Type 0 where
