@@ -124,7 +124,7 @@ pub session-keys : (f : Forest) (printable : ℕ → Bool) (s : Standing) → St
     → EachQuoted printable (commandsOf f) (turnsFrom (s .state) keys .events) → CourseAs printable (commandsOf f) (turnsFrom (s .state) keys) (pressKeys s keys)
 session-keys = keys-printed
 
--- and so do whole lines of keys behind a tree: a session prints what the loop does with all their bytes, up to where the process ends
+-- and so do whole lines of keys after a tree: a session prints what the loop does with all their bytes, up to where the process ends
 pub whole-session : (f : Forest) (printable : ℕ → Bool) (s : Standing) → StandsFor (s .image) f → Fine (s .state) → {lines : List (List ℕ)} {bytes : List ℕ} → KeyLines lines bytes
     → s .lines + length lines ≤ 65535 → EachQuoted printable (commandsOf f) (turnsFrom (s .state) bytes .events)
     → session s lines ≡ printedBy printable (commandsOf f) (turnsFrom (s .state) bytes .events)

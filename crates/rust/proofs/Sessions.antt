@@ -31,8 +31,8 @@ use Rattle.session.proofs.Screens.{Plain, screen-plain}
 use Rattle.rust.specs.Tree.{Commands, commandsOf}
 use Rattle.rust.specs.Shell.{runLine, enter}
 use Rattle.rust.specs.Loop.{Shell, Event, writes, runs, Loop, turned, promptWithoutFs, rustKeys}
-use Rattle.rust.specs.Same.{Seen, quiet, output, handed, ended, crashed, shellOf, written, entered, seenOf, seenFor}
-use Rattle.rust.specs.Session.{turnFrom, turnsFrom, seenThen, endsThen, printedBy, endedBy, EachQuoted, CourseAs, PrintsAs}
+use Rattle.rust.specs.Same.{Seen, quiet, output, handed, ended, crashed, shellOf, written, entered, seenOf, seenFor, QuotedAsIs}
+use Rattle.rust.specs.Session.{turnFrom, turnsFrom, seenThen, endsThen, printedBy, endedBy, Unless, EachQuoted, CourseAs, PrintsAs}
 use Rattle.rust.proofs.Running.{same-run}
 use Rattle.rust.proofs.Keys.{eventsBy, Tidy, Same, same-key}
 
@@ -157,14 +157,24 @@ module _ (printable : ℕ → Bool) (tree : Commands) where
   ended-both (runs cmd bytes ∷ a) b =
       ap (endsThen (seenOf (runLine printable tree cmd bytes))) (ended-both a b) ∙ ends-both (seenOf (runLine printable tree cmd bytes)) (endedBy printable tree a) (endedBy printable tree b)
 
-  pub quoted-both : (a b : List Event) → EachQuoted printable tree (a ++ b) → EachQuoted printable tree a × EachQuoted printable tree b
-  quoted-both [] b q = (tt, q)
+  pub quoted-both : (a b : List Event) → EachQuoted printable tree (a ++ b) → EachQuoted printable tree a × (endedBy printable tree a ≡ false → EachQuoted printable tree b)
+  unfolding endedBy
+  quoted-both [] b q = (tt, λ n. q)
   quoted-both (writes bytes ∷ a) b q = quoted-both a b q
-  quoted-both (runs cmd bytes ∷ a) b q = let k = quoted-both a b (q .1) in ((q .0, k .0), k .1)
+  quoted-both (runs cmd bytes ∷ a) b q = by (seenOf (runLine printable tree cmd bytes)) (quoted-both a b) (q .1)
+    where
+      by : (seen : Seen) → (EachQuoted printable tree (a ++ b) → EachQuoted printable tree a × (endedBy printable tree a ≡ false → EachQuoted printable tree b))
+          → Unless (endsThen seen false) (EachQuoted printable tree (a ++ b))
+          → (QuotedAsIs printable tree bytes × Unless (endsThen seen false) (EachQuoted printable tree a)) × (endsThen seen (endedBy printable tree a) ≡ false → EachQuoted printable tree b)
+      by quiet more k = let x = more k in ((q .0, x .0), x .1)
+      by (output number said) more k = let x = more k in ((q .0, x .0), x .1)
+      by (handed number report) more k = let x = more k in ((q .0, x .0), x .1)
+      by (ended said) more k = ((q .0, tt), λ n. absurd (true-is-not-false n))
+      by crashed more k = ((q .0, tt), λ n. absurd (true-is-not-false n))
 
-  -- a turn, and those behind it
+  -- a turn, and those after it if the process goes on
   course-both : (first : Loop) (course : Course) (rest : Loop) (more : Course) → course .prints ≡ printedBy printable tree (first .events) → course .ends ≡ endedBy printable tree (first .events)
-      → CourseAs printable tree rest more → CourseAs printable tree (turned (rest .after) (first .events ++ rest .events)) (cond (course .ends) course (behind (course .prints) more))
+      → (course .ends ≡ false → CourseAs printable tree rest more) → CourseAs printable tree (turned (rest .after) (first .events ++ rest .events)) (cond (course .ends) course (behind (course .prints) more))
   course-both first course rest more p q k = by (course .ends) refl
     where
       by : (b : Bool) → course .ends ≡ b → CourseAs printable tree (turned (rest .after) (first .events ++ rest .events)) (cond b course (behind (course .prints) more))
@@ -178,10 +188,10 @@ module _ (printable : ℕ → Bool) (tree : Commands) where
           record {
             prints =
                 ap (λ (l : List Printed). l ++ more .prints) p
-                ∙ ap (λ (l : List Printed). printedBy printable tree (first .events) ++ l) (k .prints)
+                ∙ ap (λ (l : List Printed). printedBy printable tree (first .events) ++ l) (k e .prints)
                 ∙ sym (printed-both (first .events) (rest .events) ∙ else-is _ _ _ (sym q ∙ e));
-            ends = k .ends ∙ sym (ended-both (first .events) (rest .events) ∙ else-is _ _ _ (sym q ∙ e));
-            after = k .after;
+            ends = k e .ends ∙ sym (ended-both (first .events) (rest .events) ∙ else-is _ _ _ (sym q ∙ e));
+            after = k e .after;
           }
 
 module _ (f : Forest) (printable : ℕ → Bool) where
@@ -197,9 +207,10 @@ module _ (f : Forest) (printable : ℕ → Bool) where
       let rest : Loop = rustKeys promptWithoutFs (first .after) keys in
       let quoted = quoted-both printable (commandsOf f) (first .events) (rest .events) q in
       let same = key-printed (s .image) f printable (s .state) fine byte (λ e. stands) (quoted .0) in
-      let more = keys-printed (inState s after) stands (turn-fine prompt (s .state) byte fine) keys (subst (λ (sh : Shell). EachQuoted printable (commandsOf f) (rustKeys promptWithoutFs sh keys .events)) moved (quoted .1)) in
       course-both printable (commandsOf f) first (pressKey s byte) rest (pressKeys (inState s after) keys) (same .0) (same .1)
-      (subst (λ (sh : Shell). CourseAs printable (commandsOf f) (rustKeys promptWithoutFs sh keys) (pressKeys (inState s after) keys)) (sym moved) more)
+      (λ n. subst (λ (sh : Shell). CourseAs printable (commandsOf f) (rustKeys promptWithoutFs sh keys) (pressKeys (inState s after) keys)) (sym moved)
+      (keys-printed (inState s after) stands (turn-fine prompt (s .state) byte fine) keys
+      (subst (λ (sh : Shell). EachQuoted printable (commandsOf f) (rustKeys promptWithoutFs sh keys .events)) moved (quoted .1 (sym (same .1) ∙ n)))))
 
 -- as it is called
 laid-as : {a b : List Printed} {e g : Bool} (out : List ℕ) (r : Printing) (out′ : List ℕ) → a ≡ b → e ≡ g → Laid a e out r out′ → Laid b g out r out′

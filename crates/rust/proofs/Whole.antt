@@ -81,7 +81,7 @@ module _ (f : Forest) (printable : ℕ → Bool) where
       let moved : shellOf (course .after .state) ≡ first .after = same .after n in
       let count = kept .lines in
       session-printed (course .after) (subst (λ (x : List ℕ). StandsFor x f) (sym (kept .image)) stands) (kept .fine) l (omega arith)
-      (subst (λ (sh : Shell). EachQuoted printable (commandsOf f) (rustKeys promptWithoutFs sh others .events)) (sym moved) (quoted .1))
+      (subst (λ (sh : Shell). EachQuoted printable (commandsOf f) (rustKeys promptWithoutFs sh others .events)) (sym moved) (quoted .1 (sym (same .ends) ∙ n)))
       ∙ ap (λ (sh : Shell). printedBy printable (commandsOf f) (rustKeys promptWithoutFs sh others .events)) moved
       in
       then-is _ _ _ (lt-ltb (s .lines) 65535 (omega arith))

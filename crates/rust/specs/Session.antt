@@ -1,5 +1,5 @@
 -- What a session prints of the loop's events: bytes that are written are a frame 22; a line that is run is what it comes to, its output in a 22, its handler's call in a 21, the end in
--- a 23 behind its output, after which nothing comes.
+-- a 23 after its output, and nothing comes after that.
 use Prim.Native.Nat.{ℕ}
 use mathlib.Core.Path.{_≡_}
 use mathlib.Core.Bool.{Bool, true, false}
@@ -47,11 +47,16 @@ endedBy printable tree [] = false
 endedBy printable tree (writes bytes ∷ events) = endedBy printable tree events
 endedBy printable tree (runs cmd bytes ∷ events) = endsThen (seenOf (runLine printable tree cmd bytes)) (endedBy printable tree events)
 
--- in the word that the `Debug` text of a line that is run quotes, each character is printed as it is
+-- of each line that is run, until the process ends, the word that its `Debug` text quotes is printed as it is
+abbrev pub Unless : Bool → Type 0 → Type 0
+Unless true asked = Unit {0}
+Unless false asked = asked
+
 abbrev pub EachQuoted : (ℕ → Bool) → Commands → List Event → Type 0
 EachQuoted printable tree [] = Unit {0}
 EachQuoted printable tree (writes bytes ∷ events) = EachQuoted printable tree events
-EachQuoted printable tree (runs cmd bytes ∷ events) = QuotedAsIs printable tree bytes × EachQuoted printable tree events
+EachQuoted printable tree (runs cmd bytes ∷ events) =
+    QuotedAsIs printable tree bytes × Unless (endsThen (seenOf (runLine printable tree cmd bytes)) false) (EachQuoted printable tree events)
 
 -- KEYS: turns of the loop. What they print, whether the process has ended, and if not, where it stands.
 pub record CourseAs (printable : ℕ → Bool) (tree : Commands) (turns : Loop) (course : Course) : Type 0 where
