@@ -142,13 +142,19 @@ module _ (printable : ℕ → Bool) (tree : Commands) where
   shown-both a b c true = refl
   shown-both a b c false = sym (append-assoc a b c)
 
-  pub printed-both : (a b : List Event) → printedBy printable tree (a ++ b) ≡ cond (endedBy printable tree a) (printedBy printable tree a) (printedBy printable tree a ++ printedBy printable tree b)
+  printed-both : (a b : List Event) → printedBy printable tree (a ++ b) ≡ cond (endedBy printable tree a) (printedBy printable tree a) (printedBy printable tree a ++ printedBy printable tree b)
   unfolding printedBy endedBy
   printed-both [] b = refl
   printed-both (writes bytes ∷ a) b = ap (λ (l : List Printed). shown bytes ++ l) (printed-both a b) ∙ shown-both (shown bytes) (printedBy printable tree a) (printedBy printable tree b) (endedBy printable tree a)
   printed-both (runs cmd bytes ∷ a) b =
       ap (seenThen (seenOf (runLine printable tree cmd bytes))) (printed-both a b)
       ∙ seen-both (seenOf (runLine printable tree cmd bytes)) (printedBy printable tree a) (printedBy printable tree b) (endedBy printable tree a)
+
+  pub both-printed : (a b : List Event) (prints later : List Printed) (ends : Bool) → prints ≡ printedBy printable tree a → ends ≡ endedBy printable tree a
+      → (ends ≡ false → later ≡ printedBy printable tree b) → cond ends prints (prints ++ later) ≡ printedBy printable tree (a ++ b)
+  both-printed a b prints later true p q more = p ∙ sym (printed-both a b ∙ then-is _ _ _ (sym q))
+  both-printed a b prints later false p q more =
+      ap (λ (l : List Printed). l ++ later) p ∙ ap (λ (l : List Printed). printedBy printable tree a ++ l) (more refl) ∙ sym (printed-both a b ∙ else-is _ _ _ (sym q))
 
   ended-both : (a b : List Event) → endedBy printable tree (a ++ b) ≡ cond (endedBy printable tree a) true (endedBy printable tree b)
   unfolding endedBy
@@ -177,19 +183,19 @@ module _ (printable : ℕ → Bool) (tree : Commands) where
       → (course .ends ≡ false → CourseAs printable tree rest more) → CourseAs printable tree (turned (rest .after) (first .events ++ rest .events)) (cond (course .ends) course (behind (course .prints) more))
   course-both first course rest more p q k = by (course .ends) refl
     where
+      whole : cond (course .ends) (course .prints) (course .prints ++ more .prints) ≡ printedBy printable tree (first .events ++ rest .events)
+      whole = both-printed (first .events) (rest .events) (course .prints) (more .prints) (course .ends) p q (λ n. k n .prints)
+
       by : (b : Bool) → course .ends ≡ b → CourseAs printable tree (turned (rest .after) (first .events ++ rest .events)) (cond b course (behind (course .prints) more))
       by true e =
           record {
-            prints = p ∙ sym (printed-both (first .events) (rest .events) ∙ then-is _ _ _ (sym q ∙ e));
+            prints = sym (then-is _ _ _ e) ∙ whole;
             ends = e ∙ sym (ended-both (first .events) (rest .events) ∙ then-is _ _ _ (sym q ∙ e));
             after = λ n. absurd (true-is-not-false (sym e ∙ n));
           }
       by false e =
           record {
-            prints =
-                ap (λ (l : List Printed). l ++ more .prints) p
-                ∙ ap (λ (l : List Printed). printedBy printable tree (first .events) ++ l) (k e .prints)
-                ∙ sym (printed-both (first .events) (rest .events) ∙ else-is _ _ _ (sym q ∙ e));
+            prints = sym (else-is _ _ _ e) ∙ whole;
             ends = k e .ends ∙ sym (ended-both (first .events) (rest .events) ∙ else-is _ _ _ (sym q ∙ e));
             after = k e .after;
           }

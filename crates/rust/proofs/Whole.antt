@@ -6,18 +6,18 @@ use mathlib.Core.List.{List, [], _∷_, _++_, append-assoc}
 use native.Mathlib.Omega.{arith}
 use lib.ListN.{length}
 use borrow.Author.Tests.{lt-ltb}
-use Rattle.buffer.proofs.Choices.{then-is, else-is}
+use Rattle.buffer.proofs.Choices.{then-is}
 use Rattle.tree.specs.Forest.{Forest}
 use Rattle.tree.proofs.Forests.{StandsFor}
 use Rattle.editor.specs.Keys.{turnOf}
 use Rattle.editor.proofs.Fine.{Fine, turn-fine}
-use Rattle.session.specs.Prints.{Printed, prompt}
+use Rattle.session.specs.Prints.{prompt}
 use Rattle.session.specs.Lines.{Form, keys, lineForm, Standing, withKeys, inState, takeForm, takeLine, Course, behind, pressKey, pressKeys, onTaking, lineCourse, session}
 use Rattle.rust.specs.Tree.{commandsOf}
 use Rattle.rust.specs.Loop.{Shell, Loop, turned, promptWithoutFs, rustKey, rustKeys}
 use Rattle.rust.specs.Same.{shellOf}
-use Rattle.rust.specs.Session.{turnsFrom, printedBy, endedBy, EachQuoted, CourseAs, KeyLines, none, more}
-use Rattle.rust.proofs.Sessions.{printed-both, quoted-both, keys-printed}
+use Rattle.rust.specs.Session.{turnsFrom, printedBy, EachQuoted, KeyLines, none, more}
+use Rattle.rust.proofs.Sessions.{both-printed, quoted-both, keys-printed}
 
 -- the loop goes on from where it stands
 keys-both : (p : List ℕ) (sh : Shell) (a b : List ℕ) → rustKeys p sh (a ++ b) ≡ turned (rustKeys p (rustKeys p sh a .after) b .after) (rustKeys p sh a .events ++ rustKeys p (rustKeys p sh a .after) b .events)
@@ -52,18 +52,6 @@ unfolding lineCourse takeLine takeForm onTaking
 keys-course s line bytes e = ap (λ (x : Form). onTaking s (takeForm s x)) e
 
 module _ (f : Forest) (printable : ℕ → Bool) where
-  -- what is printed by a line and by those after it
-  both-printed : (first rest : Loop) (course : Course) (later : List Printed) → CourseAs printable (commandsOf f) first course
-      → (course .ends ≡ false → later ≡ printedBy printable (commandsOf f) (rest .events))
-      → cond (course .ends) (course .prints) (course .prints ++ later) ≡ printedBy printable (commandsOf f) (first .events ++ rest .events)
-  both-printed first rest course later k goes = by (course .ends) refl goes ∙ sym (printed-both printable (commandsOf f) (first .events) (rest .events))
-    where
-      by : (b : Bool) → course .ends ≡ b → (b ≡ false → later ≡ printedBy printable (commandsOf f) (rest .events))
-          → cond b (course .prints) (course .prints ++ later)
-          ≡ cond (endedBy printable (commandsOf f) (first .events)) (printedBy printable (commandsOf f) (first .events)) (printedBy printable (commandsOf f) (first .events) ++ printedBy printable (commandsOf f) (rest .events))
-      by true e m = k .prints ∙ sym (then-is _ _ _ (sym (k .ends) ∙ e))
-      by false e m = ap (λ (l : List Printed). l ++ later) (k .prints) ∙ ap (λ (l : List Printed). printedBy printable (commandsOf f) (first .events) ++ l) (m refl) ∙ sym (else-is _ _ _ (sym (k .ends) ∙ e))
-
   pub session-printed : (s : Standing) → StandsFor (s .image) f → Fine (s .state) → {lines : List (List ℕ)} {bytes : List ℕ} → KeyLines lines bytes → s .lines + length lines ≤ 65535
       → EachQuoted printable (commandsOf f) (turnsFrom (s .state) bytes .events) → session s lines ≡ printedBy printable (commandsOf f) (turnsFrom (s .state) bytes .events)
   unfolding session rustKeys printedBy
@@ -86,5 +74,5 @@ module _ (f : Forest) (printable : ℕ → Bool) where
       in
       then-is _ _ _ (lt-ltb (s .lines) 65535 (omega arith))
       ∙ ap (λ (c : Course). cond (c .ends) (c .prints) (c .prints ++ session (c .after) lines)) (keys-course s line bytes e)
-      ∙ both-printed first rest course (session (course .after) lines) same later
+      ∙ both-printed printable (commandsOf f) (first .events) (rest .events) (course .prints) (session (course .after) lines) (course .ends) (same .prints) (same .ends) later
       ∙ ap (printedBy printable (commandsOf f)) (sym whole)
