@@ -1,4 +1,4 @@
--- What holds of keys as they are called: two bring typing back, a full line drops a byte, the value counts the bytes shown, and each does what the Rust's loop does.
+-- What holds of keys as they are called: two bring typing back, a full line drops a byte, the value counts the bytes shown, and what is held after a key is the turn's state.
 use Prim.Native.Nat.{ℕ, _≤_}
 use mathlib.Core.Path.{_≡_, refl, sym, ap, _∙_}
 use mathlib.Core.Bool.{Bool, true, false, cond}
@@ -9,7 +9,7 @@ use lib.Dec.{eqb, ltb}
 use lib.ListN.{length}
 use borrow.Author.Tests.{le-ltb}
 use Rattle.buffer.specs.Write.{over}
-use Rattle.buffer.proofs.Choices.{then-is, else-is}
+use Rattle.buffer.proofs.Choices.{then-is, else-is, true-is-not-false}
 use Rattle.history.specs.Answer.{entriesIn}
 use Rattle.history.specs.declared.past.History.{History}
 use Rattle.history.proofs.Layouts.{entries-layout}
@@ -17,16 +17,15 @@ use Rattle.editor.specs.declared.line.Mode.{Mode}
 use Rattle.editor.specs.declared.line.Mode.the-variants.{Typing, Escape, Sequence}
 use Rattle.editor.specs.declared.line.Editor.{Editor}
 use Rattle.editor.specs.declared.drawing.Key.{Key}
-use Rattle.editor.specs.declared.drawing.Pressed.the-variants.{Dropped}
+use Rattle.editor.specs.declared.drawing.Pressed.{Pressed}
+use Rattle.editor.specs.declared.drawing.Pressed.the-variants.{Dropped, BadState, BadPrompt, NoRoom}
 use Rattle.editor.specs.Line.{limit, holding}
 use Rattle.editor.specs.Keys.{State, Turn, drops, inMode, enter, erase, insert, typed, escaped, up, onPlace, down, right, left, sequenced, turnIn, turnOf}
 use Rattle.editor.specs.Answer.{stateOf, editorOf, historyOf, slotsOf, goodState, goodPrompt, taken, turnAnswer, keyAnswer, refused, Pressing, value}
-use Rattle.editor.specs.Rust.{Loop, rustKey}
 use Rattle.editor.proofs.Lines.{line-held, good-line, length-of}
 use Rattle.editor.proofs.Seats.{good-parts, holds-history, holds-editor, holds-slots, over-nothing}
 use Rattle.editor.proofs.Always.{then-typing, after-one, full-drops}
 use Rattle.editor.proofs.Fine.{Fine, fine-of, turn-fine}
-use Rattle.editor.proofs.Original.{shellOf, loopOf, same-key}
 
 -- the state that the parts of a state within the rules hold is that state
 pub held-state : (s : State) → Fine s → stateOf (editorOf s) (historyOf s) (slotsOf s) ≡ s
@@ -40,6 +39,21 @@ held-state s f = parts (line-held (s .line) (s .cursor) (s .mode)) (entries-layo
 same-state : {e e′ : Editor} {h h′ : History} {slots slots′ : List ℕ} → e ≡ e′ → h ≡ h′ → slots ≡ slots′ → stateOf e h slots ≡ stateOf e′ h′ slots′
 same-state p q r = cc
 
+-- what is not refused is taken
+taken-if : (is : Bool) (prompt : List ℕ) (t : Turn) (line screen : ℕ) → refused (keyAnswer is prompt t line screen) ≡ false → keyAnswer is prompt t line screen ≡ taken t (t .kind)
+unfolding keyAnswer turnAnswer
+taken-if is prompt t line screen = by is (goodPrompt prompt) (ltb line limit) (ltb screen (length (t .screen)))
+  where
+    answer : Bool → Bool → Bool → Bool → Pressed
+    answer a b c d = cond a (cond b (cond c (NoRoom limit) (cond d (NoRoom (length (t .screen))) (taken t (t .kind)))) (BadPrompt (length prompt))) BadState
+
+    by : (a b c d : Bool) → refused (answer a b c d) ≡ false → answer a b c d ≡ taken t (t .kind)
+    by true true false false q = refl
+    by true true false true q = absurd (true-is-not-false q)
+    by true true true d q = absurd (true-is-not-false q)
+    by true false c d q = absurd (true-is-not-false q)
+    by false b c d q = absurd (true-is-not-false q)
+
 -- one key, as it is called
 module _ (e : Editor) (h : History) (slots prompt : List ℕ) (byte : ℕ) (line screen : List ℕ) (k : Key) (slots′ line′ screen′ : List ℕ)
     (p : Pressing e h slots prompt byte line screen k slots′ line′ screen′) where
@@ -51,20 +65,13 @@ module _ (e : Editor) (h : History) (slots prompt : List ℕ) (byte : ℕ) (line
     unfolding turn editorOf holding
     mode-after = ap (λ (x : Editor). x .mode) (p .editor ∙ else-is _ _ _ is)
 
-    -- its state and its screen are those that the Rust's loop makes of the state before
-    pub as-rust : goodState e h slots ≡ true
-        → (shellOf (stateOf (k .editor) (k .history) slots′) ≡ rustKey prompt (shellOf (stateOf e h slots)) byte .after)
-        × (screen′ ≡ over (rustKey prompt (shellOf (stateOf e h slots)) byte .stdout) screen)
-    unfolding turn
-    as-rust g =
-        let f = fine-of e h slots g in
-        let r : rustKey prompt (shellOf (stateOf e h slots)) byte ≡ loopOf turn = same-key prompt (stateOf e h slots) f byte in
-        let s : stateOf (k .editor) (k .history) slots′ ≡ turn .after =
+    pub key-taken : k .answer ≡ taken (turnOf prompt (stateOf e h slots) byte) (turnOf prompt (stateOf e h slots) byte .kind)
+    key-taken = p .answer ∙ taken-if _ prompt _ (length line) (length screen) (sym (ap refused (p .answer)) ∙ is)
+
+    pub state-after : goodState e h slots ≡ true → stateOf (k .editor) (k .history) slots′ ≡ turnOf prompt (stateOf e h slots) byte .after
+    state-after g =
         same-state (p .editor ∙ else-is _ _ _ is) (p .history ∙ else-is _ _ _ is) (p .held ∙ else-is _ _ _ is)
-        ∙ held-state (turn .after) (turn-fine prompt (stateOf e h slots) byte f) in (
-          ap shellOf s ∙ ap (λ (l : Loop). l .after) (sym r),
-          p .shown ∙ else-is _ _ _ is ∙ ap (λ (l : Loop). over (l .stdout) screen) (sym r),
-        )
+        ∙ held-state (turnOf prompt (stateOf e h slots) byte .after) (turn-fine prompt (stateOf e h slots) byte (fine-of e h slots g))
 
   -- a byte typed into a full line is answered dropped, and nothing changes: not the state, not a byte of any buffer
   module _ (g : goodState e h slots ≡ true) (fair : goodPrompt prompt ≡ true) (room : limit ≤ length line)

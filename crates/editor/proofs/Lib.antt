@@ -9,5 +9,4 @@ pub mod Keeping
 pub mod Pressings
 pub mod Always
 pub mod Fine
-pub mod Original
 pub mod Called

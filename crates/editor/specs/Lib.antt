@@ -3,4 +3,3 @@ pub mod Line
 pub mod Keys
 pub mod Answer
 pub mod Steps
-pub mod Rust

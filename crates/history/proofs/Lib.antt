@@ -6,5 +6,4 @@ pub mod Newest
 pub mod States
 pub mod Answers
 pub mod Kept
-pub mod Original
 pub mod Called

@@ -5,6 +5,7 @@ pub mod KeyAnswers
 pub mod SessionAnswers
 pub mod OneAnswer
 pub mod Lasting
+pub mod Std
 pub mod SameAsRust
 pub mod OtherCommands
 pub mod Marked

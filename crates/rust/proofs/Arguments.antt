@@ -21,8 +21,9 @@ use Rattle.scan.specs.Meanings.{onMeans, isSome, isOption as isOptionKey}
 use Rattle.scan.specs.Forms.{dash, valued, beforeEquals, longForm, formOf, positional, shorts}
 use Rattle.scan.specs.Forms.{long as longKey}
 use Rattle.scan.specs.Arguments.{Found, Stand, go, wait, unknownOption, missingValue, withOption as optionPut, withFlag as flagPut, withPositional as positionalPut, shortSteps, formStep, args}
+use Rattle.rust.specs.Std.{ifSome, isEmpty, startsWith, stripPrefix}
 use Rattle.rust.specs.Tree.{OptionDef, FlagDef, optionDefs, flagDefs}
-use Rattle.rust.specs.Parser.{BTreeMap, UnknownOption, MissingValue, Result, ok, err, ifSome, find, isText, isChar, isOption, isFlag, isShortOption, isShortFlag, optionNameByShort, flagNameByShort, Args, withOption, withFlag, withPositional, Turn, next, skip, return, stripPrefix, startsWith, findEquals, optionValue, longName, isEmpty, shortNames, shortOrPositional, long, turn, onTurn, parseArgsFrom}
+use Rattle.rust.specs.Parser.{BTreeMap, UnknownOption, MissingValue, Result, ok, err, find, isText, isChar, isOption, isFlag, isShortOption, isShortFlag, optionNameByShort, flagNameByShort, Args, withOption, withFlag, withPositional, Turn, next, skip, return, findEquals, optionValue, longName, shortNames, shortOrPositional, long, turn, onTurn, parseArgsFrom}
 use Rattle.rust.specs.Same.{flagsFor}
 use Rattle.rust.proofs.Trees.{Tree, nodeOf}
 use Rattle.rust.proofs.Maps.{insert-is, flag-is}

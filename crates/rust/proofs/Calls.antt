@@ -8,7 +8,7 @@ use lib.Dec.{eqb, ltb}
 use lib.ListN.{length}
 use borrow.Author.Tests.{lt-ltb, le-ltb}
 use Rattle.buffer.specs.Write.{over}
-use Rattle.text.specs.Decoding.{codesIn, wellFormedLength}
+use Rattle.text.specs.Decoding.{wellFormedLength}
 use Rattle.text.specs.Apart.{wordsBetween}
 use Rattle.frame.specs.Framed.{frameOf}
 use Rattle.words.specs.Tokens.{wordsOf, framesOf as wordFrames}
@@ -30,7 +30,7 @@ use Rattle.parse.specs.declared.answer.Parsed.the-variants.{UnknownCommand as U
 use Rattle.help.specs.Answer.{Reply, said, unknown, wordless, helpLine, bytesOf, roomFor, answerBy, answerIn, answerFor, leavesBy, leavesFor, Helping, number as helpNumber, value as helpValue}
 use Rattle.help.specs.declared.call.Helped.{Helped}
 use Rattle.help.specs.declared.call.Helped.the-variants.{Text, UnknownCommand as UnknownWord, NoRoom as HelpNoRoom}
-use Rattle.shell.specs.Lines.{Said, silence, text, farewell, handed, beginsHelp, saidOf}
+use Rattle.shell.specs.Lines.{Said, silence, text, farewell, handed, saidOf}
 use Rattle.shell.specs.Answer.{bytesOf as saidBytes, named, saidAnswer, saidLeaves, runAnswer, runLeaves, Running}
 use Rattle.shell.specs.declared.answer.Ran.{Ran}
 use Rattle.shell.specs.declared.answer.Ran.the-variants.{NoRoom as RunNoRoom}
@@ -40,7 +40,7 @@ use Rattle.rust.specs.Base.{buildCommandTree}
 use Rattle.rust.specs.Parser.{UnknownCommand, UnknownOption, MissingValue, MissingRequiredOption, tokenize, parse}
 use Rattle.rust.specs.Help.{showHelp}
 use Rattle.rust.specs.Shell.{textIn, enter}
-use Rattle.rust.specs.Same.{errorFor, resultFor, errorNumber, replyFor, seenOf, seenFor, allPrinted}
+use Rattle.rust.specs.Same.{errorFor, resultFor, errorNumber, replyFor, seenOf, seenFor, QuotedAsIs}
 use Rattle.rust.specs.Calls.{Writes, SplitsAs, parseBytes, resultNumber, ParsesAs, HelpsAs, seenBytes, Says, RunsAs, Fair, SameAsRust}
 use Rattle.rust.proofs.Supplied.{BuiltAs, base-built, fs-built}
 use Rattle.rust.proofs.Words.{tokenize-is}
@@ -191,7 +191,7 @@ module _ (image : List ℕ) (f : Forest) (stands : StandsFor image f) where
   unfolding answerFor answerIn leavesFor helpLine
   helps-as line out left r fair p = rw (p .answer, p .bytes, good, not-long line fair, not-broken line fair, same-help image f stands (wordsBetween line)) (reply-as (helpLine image line) out)
 
-  runs-as : (printable : ℕ → Bool) (line out left : List ℕ) (r : Ran) → length line ≤ 1024 → (beginsHelp line ≡ true → allPrinted printable (codesIn line) ≡ true)
+  runs-as : (printable : ℕ → Bool) (line out left : List ℕ) (r : Ran) → length line ≤ 1024 → QuotedAsIs printable (commandsOf f) line
       → Running image line out r left → RunsAs (seenOf (enter printable (commandsOf f) line)) out r left
   unfolding runAnswer runLeaves
   runs-as printable line out left r short printed p =

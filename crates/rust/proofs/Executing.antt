@@ -21,9 +21,9 @@ use Rattle.scan.specs.Arguments.{Found, noneFound, Stand, go, wait, unknownOpti
 use Rattle.parse.specs.Commands.{Outcome, parsed, fault, missingRequired, onMissing, outcomeOf, concluded, parseIn}
 use Rattle.parse.specs.Answer.{toldIn}
 use Rattle.shell.specs.Lines.{text, handed as handsOver, joined, faultMessage, handlerOf as handlerIn, carried, executeIn, execute}
+use Rattle.rust.specs.Std.{ifSome, join, println}
 use Rattle.rust.specs.Tree.{CommandNode, Commands, handlerOf, subcommandsOf, someOf, get, commandsOf}
-use Rattle.rust.specs.Parser.{ParsedCommand, UnknownCommand, UnknownOption, MissingValue, MissingRequiredOption, NoHandler, ifSome, Command, deepest, findCommand, parseCommand, parseTokens}
-use Rattle.rust.specs.Help.{println, join}
+use Rattle.rust.specs.Parser.{ParsedCommand, UnknownCommand, UnknownOption, MissingValue, MissingRequiredOption, NoHandler, Command, deepest, findCommand, parseCommand, parseTokens}
 use Rattle.rust.specs.Shell.{along, nodeAt, report, handle, failed, executed, calls}
 use Rattle.rust.specs.Same.{flagsFor, errorFor, resultFor, keysOf, reportFor, output, handed, seenOf, seenFor}
 use Rattle.rust.proofs.Trees.{Tree, alone, nodeOf, Sought, nowhere, there, command}

@@ -16,9 +16,10 @@ use Rattle.rows.specs.declared.row.Listing.the-variants.{Options, Flags, Subcom
 use Rattle.layout.specs.Texts.{spaced, usageLine, lists, about, helpText, availableHead, availableFoot, availableText}
 use Rattle.help.specs.Paths.{Led, found, lost, followed}
 use Rattle.help.specs.Answer.{replyBy, helpIn, helpOf}
+use Rattle.rust.specs.Std.{ifSome, isEmpty, join, println}
 use Rattle.rust.specs.Tree.{OptionDef, FlagDef, CommandNode, optionDefs, flagDefs, textOf, get, commandsOf}
-use Rattle.rust.specs.Parser.{UnknownCommand, Result, ok, err, ifSome, isEmpty}
-use Rattle.rust.specs.Help.{println, join, forEach, forEachNode, noNodes, optionLine, flagLine, nodeLine, availableLine, helpLines, nodeUnder, printed, showHelp, showAvailableCommands}
+use Rattle.rust.specs.Parser.{UnknownCommand, Result, ok, err}
+use Rattle.rust.specs.Help.{forEach, forEachNode, noNodes, optionLine, flagLine, nodeLine, availableLine, helpLines, nodeUnder, printed, showHelp, showAvailableCommands}
 use Rattle.rust.specs.Same.{replyFor}
 use Rattle.rust.proofs.Trees.{Tree, alone, nodeOf, Fine, fine-rules, Sought, nowhere, there, command, child}
 use Rattle.rust.proofs.Parsing.{frames-are}

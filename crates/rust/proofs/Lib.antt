@@ -1,4 +1,4 @@
--- The laws of the crate `rust`: on well-formed trees our definitions are the Rust's functions.
+-- The laws of the crate `rust`: within the rules of states, and on well-formed trees, our definitions are the Rust's functions.
 pub mod Words
 pub mod Trees
 pub mod Supplied
@@ -15,4 +15,8 @@ pub mod Asked
 pub mod Executing
 pub mod Running
 pub mod Calls
+pub mod Histories
+pub mod Keys
+pub mod Sessions
+pub mod Whole
 mod Examples

@@ -9,8 +9,9 @@ use Rattle.image.specs.Limits.{isName, isShort, optionally, definable, fair}
 use Rattle.image.proofs.Fields.{both-first, both-second}
 use Rattle.ink.specs.Ascii.{ascii}
 use Rattle.rows.specs.Rows.{padded, shownAs, requiredMark, entry, optionRow, flagRow, nodeRow}
+use Rattle.rust.specs.Std.{leftIn, println}
 use Rattle.rust.specs.Tree.{CommandNode, descriptionOf, someOf, textOf}
-use Rattle.rust.specs.Help.{println, leftIn, labelStr, optionLine, flagLine, nodeLine}
+use Rattle.rust.specs.Help.{labelStr, optionLine, flagLine, nodeLine}
 use Rattle.rust.proofs.Meanings.{optionDef, flagDef}
 use Rattle.rust.proofs.Plain.{name-plain, label, label-plain, column}
 

@@ -15,9 +15,9 @@ use Rattle.ink.specs.Ascii.{ascii}
 use Rattle.rows.specs.Rows.{optionRow, flagRow, nodeRow, rowOf, endsList, rows, titled}
 use Rattle.rows.specs.declared.row.Listing.{Listing}
 use Rattle.rows.specs.declared.row.Listing.the-variants.{Options, Flags, Subcommands, Commands as AllCommands}
+use Rattle.rust.specs.Std.{isEmpty, println}
 use Rattle.rust.specs.Tree.{OptionDef, FlagDef, CommandNode, Commands, empty, entry, optionDefs, flagDefs, commandsOf}
-use Rattle.rust.specs.Parser.{isEmpty}
-use Rattle.rust.specs.Help.{println, forEach, forEachNode, noNodes, optionLine, flagLine, nodeLine, availableLine}
+use Rattle.rust.specs.Help.{forEach, forEachNode, noNodes, optionLine, flagLine, nodeLine, availableLine}
 use Rattle.rust.proofs.Trees.{Tree, nodeOf, rules, put-first}
 use Rattle.rust.proofs.Lines.{option-line, flag-line, node-line}
 

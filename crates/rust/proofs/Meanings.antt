@@ -12,8 +12,9 @@ use Rattle.image.specs.Frames.{Perhaps, absent, present, Frame, node, option, f
 use Rattle.lookup.specs.Searches.{keyed}
 use Rattle.lookup.specs.Definitions.{hasKey, hasShort, shortIs, flagWith, optionWith}
 use Rattle.scan.specs.Meanings.{firstName, Means, aFlag, anOption, nothing, flagElse, meaning}
+use Rattle.rust.specs.Std.{ifSome}
 use Rattle.rust.specs.Tree.{OptionDef, FlagDef, someOf, textOf, optionDefs, flagDefs}
-use Rattle.rust.specs.Parser.{ifSome, any, find, isText, isChar}
+use Rattle.rust.specs.Parser.{any, find, isText, isChar}
 
 abbrev pub isThere : {A : Type 0} → Option A → Bool
 isThere (some a) = true

@@ -18,9 +18,9 @@ use Rattle.image.specs.Limits.{shown, allShown, isName, isShort, optionally}
 use Rattle.image.proofs.Fields.{both-first, both-second}
 use Rattle.ink.specs.Ascii.{ascii}
 use Rattle.rows.specs.Rows.{blanks, padded, shortThen, shownAs}
+use Rattle.rust.specs.Std.{isEmpty, leftIn}
 use Rattle.rust.specs.Tree.{someOf, textOf}
-use Rattle.rust.specs.Parser.{isEmpty}
-use Rattle.rust.specs.Help.{leftIn, shortStr, longStr, labelStr}
+use Rattle.rust.specs.Help.{shortStr, longStr, labelStr}
 
 -- bytes below 80
 abbrev pub Plain : List ℕ → Type 0

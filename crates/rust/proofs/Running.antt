@@ -7,11 +7,13 @@ use mathlib.Core.Option.{none, some}
 use native.Mathlib.Omega.{arith}
 use lib.Dec.{ltb}
 use lib.ListN.{length, drop}
-use borrow.Author.Tests.{ltb-false}
+use borrow.Author.Tests.{le-ltb, ltb-false}
 use Rattle.buffer.specs.Compare.{sameBytes}
+use Rattle.buffer.proofs.Choices.{then-is, true-is-not-false}
+use Rattle.text.specs.Unicode.{WellFormed}
 use Rattle.text.specs.Decoding.{piecesFrom, piecesOf, bytesAll, codesIn, wellFormedLength}
 use Rattle.text.specs.Apart.{behindRun, trimEnd, trimmed, blank, wordsBetween}
-use Rattle.text.proofs.Prefix.{prefix-fits}
+use Rattle.text.proofs.Prefix.{prefix-fits, whole-is, is-whole}
 use Rattle.words.specs.Tokens.{wordsOf}
 use Rattle.image.specs.Frames.{Frame}
 use Rattle.tree.specs.Images.{framesOf}
@@ -24,20 +26,21 @@ use Rattle.message.specs.Messages.{illFormed, goodbye, clearScreen}
 use Rattle.layout.specs.Texts.{availableText}
 use Rattle.help.specs.Paths.{Led, found, lost, onSubtree, followed}
 use Rattle.help.specs.Answer.{replyBy, helpIn, helpOf}
-use Rattle.history.proofs.Original.{blank-is-empty}
 use Rattle.shell.specs.Lines.{silence, text, farewell, builtinOf, onBuiltin, beginsHelp, helpWords, helpSaid, execute, otherSaid, lineSaid, saidOf}
 use Rattle.shell.specs.declared.builtin.Builtin.{Builtin}
 use Rattle.shell.specs.declared.builtin.Builtin.the-variants.{Help, Exit, Clear, None}
 use Rattle.shell.proofs.Bare.{bare-help}
+use Rattle.rust.specs.Std.{ifSome, isUtf8, println, startsWith, utf8OrEmpty}
 use Rattle.rust.specs.Tree.{Commands, commandsOf}
-use Rattle.rust.specs.Parser.{UnknownCommand, ifSome, startsWith, parseTokens, parse}
-use Rattle.rust.specs.Help.{println, showHelp, showAvailableCommands}
-use Rattle.rust.specs.Shell.{returns, prints, exits, panics, isUtf8, executed, executeCommand, runCmdBytes, debugError, helped, handleBuiltinCommands, enter}
-use Rattle.rust.specs.Same.{replyFor, output, ended, seenOf, seenFor, allPrinted}
+use Rattle.rust.specs.Parser.{UnknownCommand, parseTokens, parse}
+use Rattle.rust.specs.Help.{showHelp, showAvailableCommands}
+use Rattle.rust.specs.Shell.{returns, prints, exits, panics, executed, executeCommand, runCmdBytes, debugError, helped, handleBuiltinCommands, runLine, enter}
+use Rattle.rust.specs.Same.{replyFor, output, ended, seenOf, seenFor, allPrinted, wordIn, debugged, QuotedAsIs}
 use Rattle.rust.proofs.Words.{tokenize-is}
+use Rattle.rust.proofs.Histories.{blank-is-empty}
 use Rattle.rust.proofs.Parsing.{frames-are}
 use Rattle.rust.proofs.Helping.{same-help, same-available}
-use Rattle.rust.proofs.Asked.{Each, Told, help-told}
+use Rattle.rust.proofs.Asked.{Each, Whole, Told, whole-told, help-whole}
 use Rattle.rust.proofs.Executing.{same-execute}
 
 -- HELP: the word that is unknown is one of those asked for
@@ -58,15 +61,16 @@ error-is : (printable : ℕ → Bool) (v : List ℕ) → Told printable v → pr
 unfolding println debugError unknownHelp ascii
 error-is printable v e = rw e (error-bracketed (ascii "Error: ") (ascii "UnknownCommand") (ascii "(\"") (debugBytes v) (ascii "\")") (ascii "\n"))
 
-help-seen : (printable : ℕ → Bool) (frames : List Frame) (w : List ℕ) (words : List (List ℕ)) → Each (Told printable) (w ∷ words)
+help-seen : (printable : ℕ → Bool) (frames : List Frame) (w : List ℕ) (words : List (List ℕ)) → Each Whole (w ∷ words)
+    → allPrinted printable (codesIn (wordIn (replyFor (helpOf frames (w ∷ words))))) ≡ true
     → seenOf (ifSome (replyFor (helpOf frames (w ∷ words))) (helped printable) panics) ≡ seenFor (helpSaid (helpOf frames (w ∷ words)))
 unfolding helpOf helpIn followed
 help-seen printable frames w words each = by (followed 0 frames (w ∷ words)) refl
   where
-    by : (led : Led) → followed 0 frames (w ∷ words) ≡ led
+    by : (led : Led) → followed 0 frames (w ∷ words) ≡ led → allPrinted printable (codesIn (wordIn (replyFor (replyBy (w ∷ words) led)))) ≡ true
         → seenOf (ifSome (replyFor (replyBy (w ∷ words) led)) (helped printable) panics) ≡ seenFor (helpSaid (replyBy (w ∷ words) led))
-    by (found below) e = refl
-    by (lost v) e = ap (output 4) (error-is printable v (lost-told (Told printable) v (w ∷ words) 0 frames each e))
+    by (found below) e p = refl
+    by (lost v) e p = ap (output 4) (error-is printable v (whole-told printable v (lost-told Whole v (w ∷ words) 0 frames each e) p))
 
 -- BUILTINS
 chained : {A : Type 0} (a b c d : Bool) (x y z o : A) → cond a x (cond (cond b true c) y (cond d z o)) ≡ onBuiltin (cond a Help (cond b Exit (cond c Exit (cond d Clear None)))) x y z o
@@ -112,6 +116,19 @@ utf-is : (line : List ℕ) (t : Bool) → ltb (wellFormedLength line) (length li
 unfolding isUtf8
 utf-is line t e = ap not e
 
+-- `from_utf8` is Ok exactly on Unicode's well-formed text
+pub utf-formed : (s : List ℕ) → (isUtf8 s ≡ true → WellFormed s) × (WellFormed s → isUtf8 s ≡ true)
+unfolding isUtf8
+utf-formed s = (λ e. formed (ltb (wellFormedLength s) (length s)) refl e, λ w. let e = whole-is s w in ap not (le-ltb (wellFormedLength s) (length s) (omega arith)))
+  where
+    formed : (t : Bool) → ltb (wellFormedLength s) (length s) ≡ t → not t ≡ true → WellFormed s
+    formed true q e = absurd (true-is-not-false (sym e))
+    formed false q e = is-whole s (let h = ltb-false (wellFormedLength s) (length s) q in let k = prefix-fits s in omega arith)
+
+str-whole : (line : List ℕ) → isUtf8 line ≡ true → utf8OrEmpty line ≡ line
+unfolding utf8OrEmpty
+str-whole line utf = then-is _ _ _ utf
+
 module _ (image : List ℕ) (f : Forest) (stands : StandsFor image f) (printable : ℕ → Bool) (line : List ℕ) where
   -- a command, or nothing
   run-seen : isUtf8 line ≡ true → seenOf (runCmdBytes (commandsOf f) line) ≡ seenFor (cond (blank line) silence (execute (framesOf image) (wordsOf (trimmed line))))
@@ -123,17 +140,23 @@ module _ (image : List ℕ) (f : Forest) (stands : StandsFor image f) (printable
       by false = same-execute f (stands .rising) (wordsOf (trimmed line))
 
   -- a line that begins `help ` and is no bare `help`
-  help-line : Each (Told printable) (helpWords line) → (helpWords line ≡ [] → ⊥)
+  help-line : Each Whole (helpWords line) → allPrinted printable (codesIn (wordIn (showHelp (commandsOf f) (helpWords line)))) ≡ true → (helpWords line ≡ [] → ⊥)
       → seenOf (ifSome (showHelp (commandsOf f) (helpWords line)) (helped printable) panics) ≡ seenFor (helpSaid (helpOf (framesOf image) (helpWords line)))
-  help-line each some-word = rw (same-help image f stands (helpWords line)) (by (helpWords line) each some-word)
+  help-line each p some-word =
+      let q = rw (same-help image f stands (helpWords line)) at p in rw (same-help image f stands (helpWords line)) (by (helpWords line) each q some-word)
     where
-      by : (words : List (List ℕ)) → Each (Told printable) words → (words ≡ [] → ⊥)
+      by : (words : List (List ℕ)) → Each Whole words → allPrinted printable (codesIn (wordIn (replyFor (helpOf (framesOf image) words)))) ≡ true → (words ≡ [] → ⊥)
           → seenOf (ifSome (replyFor (helpOf (framesOf image) words)) (helped printable) panics) ≡ seenFor (helpSaid (helpOf (framesOf image) words))
-      by [] each k = absurd (k refl)
-      by (w ∷ words) each k = help-seen printable (framesOf image) w words each
+      by [] each p k = absurd (k refl)
+      by (w ∷ words) each p k = help-seen printable (framesOf image) w words each p
 
   -- the line is one of the builtins, or help, or a command
-  module _ (utf : isUtf8 line ≡ true) (told : beginsHelp line ≡ true → Each (Told printable) (helpWords line)) where
+  module _ (utf : isUtf8 line ≡ true) (whole : beginsHelp line ≡ true → Each Whole (helpWords line)) (plain : allPrinted printable (codesIn (debugged (commandsOf f) line)) ≡ true) where
+    -- the word in its `Debug` text
+    quoted : beginsHelp line ≡ true → wordIn (showHelp (commandsOf f) (helpWords line)) ≡ debugged (commandsOf f) line
+    unfolding debugged helpWords
+    quoted b = sym (then-is _ _ _ (starts-is line ∙ b))
+
     other-seen : builtinOf (trimmed line) ≡ None
         → seenOf (ifSome (cond (startsWith (ascii "help ") line) (some (ifSome (showHelp (commandsOf f) (wordsBetween (drop 5 line))) (helped printable) panics)) none) (λ e. e) (runCmdBytes (commandsOf f) line))
         ≡ seenFor (otherSaid (framesOf image) line)
@@ -143,11 +166,11 @@ module _ (image : List ℕ) (f : Forest) (stands : StandsFor image f) (printable
         by : (b : Bool) → beginsHelp line ≡ b
             → seenOf (ifSome (cond b (some (ifSome (showHelp (commandsOf f) (helpWords line)) (helped printable) panics)) none) (λ e. e) (runCmdBytes (commandsOf f) line))
             ≡ seenFor (cond b (helpSaid (helpOf (framesOf image) (helpWords line))) (cond (blank line) silence (execute (framesOf image) (wordsOf (trimmed line)))))
-        by true q = help-line (told q) (λ e. none-is-not-help (sym n ∙ bare-help line q e))
+        by true q = help-line (whole q) (ap (λ (w : List ℕ). allPrinted printable (codesIn w)) (quoted q) ∙ plain) (λ e. none-is-not-help (sym n ∙ bare-help line q e))
         by false q = run-seen utf
 
     line-seen : seenOf (enter printable (commandsOf f) line) ≡ seenFor (lineSaid (framesOf image) line)
-    unfolding enter lineSaid
+    unfolding enter runLine utf8OrEmpty lineSaid
     line-seen = rw (utf, builtin-is printable (commandsOf f) line) (by (builtinOf (trimmed line)) refl)
       where
         by : (b : Builtin) → builtinOf (trimmed line) ≡ b
@@ -161,12 +184,12 @@ module _ (image : List ℕ) (f : Forest) (stands : StandsFor image f) (printable
 
   -- a line that is not well-formed is no builtin
   ill-seen : isUtf8 line ≡ false → seenOf (enter printable (commandsOf f) line) ≡ output 3 illFormed
-  unfolding enter runCmdBytes
+  unfolding enter runLine utf8OrEmpty runCmdBytes
   ill-seen e = rw (e, empty-is-none printable (commandsOf f)) (ap (output 3) ill-is)
 
-  -- ANY LINE under a well-formed image: nothing, the same output with the error's number, the same handler with the same report, or the end with the same output. In a help line each
-  -- character outside ASCII is to be one that the Rust prints as it is.
-  pub same-run : (beginsHelp line ≡ true → allPrinted printable (codesIn line) ≡ true) → seenOf (enter printable (commandsOf f) line) ≡ seenFor (saidOf (framesOf image) line)
+  -- ANY LINE under a well-formed image: nothing, the same output with the error's number, the same handler with the same report, or the end with the same output. In the word
+  -- that a help line's `Debug` text quotes each character outside ASCII is to be one that the Rust prints as it is.
+  pub same-run : QuotedAsIs printable (commandsOf f) line → seenOf (enter printable (commandsOf f) line) ≡ seenFor (saidOf (framesOf image) line)
   unfolding saidOf
   same-run printed = by (ltb (wellFormedLength line) (length line)) refl
     where
@@ -176,4 +199,5 @@ module _ (image : List ℕ) (f : Forest) (stands : StandsFor image f) (printable
       by false q =
           let h = ltb-false (wellFormedLength line) (length line) q in
           let k = prefix-fits line in
-          line-seen (utf-is line false q) (λ b. help-told printable line (omega arith) b (printed b))
+          let utf = utf-is line false q in
+          line-seen utf (λ b. help-whole line (omega arith) b) (ap (λ (s : List ℕ). allPrinted printable (codesIn (debugged (commandsOf f) s))) (sym (str-whole line utf)) ∙ printed)

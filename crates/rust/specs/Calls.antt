@@ -1,14 +1,16 @@
 -- What the calls answer and leave, said by what the Rust does: the bytes that are written, the number of 01 beside them, and 9 where they don't fit.
 use Prim.Native.Nat.{ℕ, _<_, _≤_}
 use mathlib.Core.Path.{_≡_}
-use mathlib.Core.Bool.{Bool, true}
+use mathlib.Core.Bool.{Bool}
 use mathlib.Core.List.{List, []}
 use mathlib.Core.Option.{Option, none, some}
 use lib.ListN.{length}
 use Rattle.buffer.specs.Write.{over}
-use Rattle.text.specs.Decoding.{codesIn, wellFormedLength}
+use Rattle.text.specs.Decoding.{wellFormedLength}
 use Rattle.text.specs.Apart.{wordsBetween}
 use Rattle.frame.specs.Framed.{frameOf}
+use Rattle.editor.specs.declared.drawing.Pressed.{Pressed}
+use Rattle.editor.specs.declared.drawing.Pressed.the-variants.{Shown, Entered, Dropped, BadState, BadPrompt, NoRoom as KeyNoRoom}
 use Rattle.words.specs.Tokens.{framesOf}
 use Rattle.words.specs.declared.tokenizer.Tokens.{Tokens}
 use Rattle.words.specs.declared.tokenizer.Tokens.the-variants.{Words, NoRoom as WordsNoRoom}
@@ -19,7 +21,6 @@ use Rattle.parse.specs.declared.answer.Parsed.the-variants.{NoRoom as ParseNoRo
 use Rattle.help.specs.Answer.{Helping, number as helpNumber, value as helpValue}
 use Rattle.help.specs.declared.call.Helped.{Helped}
 use Rattle.help.specs.declared.call.Helped.the-variants.{NoWords, NoRoom as HelpNoRoom}
-use Rattle.shell.specs.Lines.{beginsHelp}
 use Rattle.shell.specs.Answer.{Running}
 use Rattle.shell.specs.declared.answer.Ran.{Ran}
 use Rattle.shell.specs.declared.answer.Ran.the-variants.{Nothing, Text, Exit, Handler, NoRoom as RunNoRoom}
@@ -27,7 +28,8 @@ use Rattle.rust.specs.Tree.{Commands}
 use Rattle.rust.specs.Parser.{ParsedCommand, Result, ok, err, parse}
 use Rattle.rust.specs.Help.{showHelp}
 use Rattle.rust.specs.Shell.{textIn, enter}
-use Rattle.rust.specs.Same.{reportFor, errorNumber, Seen, quiet, output, handed, ended, crashed, seenOf, allPrinted}
+use Rattle.rust.specs.Loop.{Shell, Event, Loop, firstBytes, lineRun}
+use Rattle.rust.specs.Same.{written, atEnter, reportFor, errorNumber, Seen, quiet, output, handed, ended, crashed, seenOf, QuotedAsIs}
 
 -- bytes at the front of a buffer where they fit, and an answer that says so; else nothing, and the other answer
 pub record Writes (bytes out left : List ℕ) (fits short : Type 0) : Type 0 where
@@ -37,6 +39,22 @@ pub record Writes (bytes out left : List ℕ) (fits short : Type 0) : Type 0 whe
 abbrev pub resultNumber : {A : Type 0} → Result A → ℕ
 resultNumber (ok a) = 0
 resultNumber (err e) = errorNumber e
+
+-- KEY: one turn of the loop. The call shows the bytes that the loop writes first and gives back the line that it runs, so that a caller who writes those, runs the line and
+-- writes the prompt after Enter does what the loop does, in its order. Where the loop does nothing the answer may be dropped.
+abbrev pub ToldAs : List ℕ → List Event → Pressed → Type 0
+ToldAs prompt events (Shown n) = (n ≡ length (firstBytes events)) × (events ≡ written (firstBytes events))
+ToldAs prompt events (Entered n) = (n ≡ length (lineRun events)) × (events ≡ atEnter prompt (firstBytes events) (lineRun events))
+ToldAs prompt events Dropped = events ≡ []
+ToldAs prompt events BadState = ⊥
+ToldAs prompt events (BadPrompt n) = ⊥
+ToldAs prompt events (KeyNoRoom n) = ⊥
+
+pub record PressesAs (prompt : List ℕ) (turn : Loop) (line screen : List ℕ) (after : Shell) (r : Pressed) (line′ screen′ : List ℕ) : Type 0 where
+  pub state : after ≡ turn .after
+  pub answer : ToldAs prompt (turn .events) r
+  pub given : line′ ≡ over (lineRun (turn .events)) line
+  pub shown : screen′ ≡ over (firstBytes (turn .events)) screen
 
 -- WORDS: a frame 14 for each token
 abbrev pub SplitsAs : List (List ℕ) → List ℕ → Tokens → List ℕ → Type 0
@@ -86,11 +104,10 @@ pub record Fair (line : List ℕ) : Type 0 where
   pub short : length line ≤ 1024
   pub formed : wellFormedLength line ≡ length line
 
--- under an image the calls do what the Rust does under a tree of its own. Running takes ill-formed lines too, as the Rust does; in a help line each character
--- outside ASCII is to be one that the Rust prints as it is.
+-- under an image the calls do what the Rust does under a tree of its own. Running takes ill-formed lines too, as the Rust does; in the word that a help
+-- line's `Debug` text quotes each character outside ASCII is to be one that the Rust prints as it is.
 pub record SameAsRust (image : List ℕ) (tree : Commands) : Type 0 where
   pub parses : (line out left : List ℕ) (r : Parsed) → Fair line → Parsing image line out r left → ParsesAs (parse tree line) out r left
   pub helps : (line out left : List ℕ) (r : Helped) → Fair line → Helping image line out r left → HelpsAs (showHelp tree (wordsBetween line)) out r left
-  pub runs : (printable : ℕ → Bool) (line out left : List ℕ) (r : Ran) → length line ≤ 1024
-      → (beginsHelp line ≡ true → allPrinted printable (codesIn line) ≡ true) → Running image line out r left
+  pub runs : (printable : ℕ → Bool) (line out left : List ℕ) (r : Ran) → length line ≤ 1024 → QuotedAsIs printable tree line → Running image line out r left
       → RunsAs (seenOf (enter printable tree line)) out r left

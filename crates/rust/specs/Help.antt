@@ -1,28 +1,12 @@
 -- The Rust's `show_help` and `show_available_commands` on values: what they print.
-use Prim.Native.Nat.{ℕ, _-_}
+use Prim.Native.Nat.{ℕ}
 use mathlib.Core.Bool.{Bool, true, false, cond}
 use mathlib.Core.List.{List, [], _∷_, _++_}
 use mathlib.Core.Option.{Option, none, some}
-use lib.ListN.{length, replicate}
-use Rattle.text.specs.Unicode.{encode}
-use Rattle.text.specs.Decoding.{codesIn}
 use Rattle.ink.specs.Ascii.{ascii}
+use Rattle.rust.specs.Std.{ifSome, isEmpty, join, leftIn, println, utf8}
 use Rattle.rust.specs.Tree.{OptionDef, FlagDef, CommandNode, Commands, empty, entry, subcommandsOf, descriptionOf, usageOf, optionsOf, flagsOf, get}
-use Rattle.rust.specs.Parser.{UnknownCommand, Result, ok, err, ifSome, isEmpty}
-
--- println!(..): a text and a line feed
-unfoldable pub println : List ℕ → List ℕ
-println t = t ++ ascii "\n"
-
--- {:<n}: spaces behind a text up to n characters
-unfoldable pub leftIn : ℕ → List ℕ → List ℕ
-leftIn n t = t ++ replicate (n - length (codesIn t)) 0x20
-
--- .join(" ")
-unfoldable pub join : List (List ℕ) → List ℕ
-join [] = []
-join (w ∷ []) = w
-join (w ∷ v ∷ words) = w ++ ascii " " ++ join (v ∷ words)
+use Rattle.rust.specs.Parser.{UnknownCommand, Result, ok, err}
 
 -- for x in ..: what each prints, one behind the other
 unfoldable pub forEach : {A : Type 0} → (A → List ℕ) → List A → List ℕ
@@ -40,7 +24,7 @@ noNodes (entry name command others) = false
 
 -- let mut opt_str = String::new(); if let Some(short) = option.short { opt_str.push_str(&format!("-{short}")); }
 abbrev pub shortStr : Option ℕ → List ℕ
-shortStr short = ifSome short (λ c. ascii "-" ++ encode c) []
+shortStr short = ifSome short (λ c. ascii "-" ++ utf8 c) []
 
 -- if let Some(long) = option.long { if !opt_str.is_empty() { opt_str.push_str(", "); } opt_str.push_str(&format!("--{long}")); }
 abbrev pub longStr : List ℕ → Option (List ℕ) → List ℕ

@@ -1,16 +1,13 @@
--- The Rust's `CommandParser` on values. Its `chars` is `codesIn`, `char::is_whitespace` is `isWhiteSpace`, and `push(ch)` adds `encode ch`.
+-- The Rust's `CommandParser` on values.
 use Prim.Native.Nat.{ℕ, suc}
 use mathlib.Core.Bool.{Bool, true, false, cond, not}
 use mathlib.Core.List.{List, [], _∷_, _++_}
 use mathlib.Core.Option.{Option, none, some}
 use lib.Dec.{eqb, ltb}
 use lib.ListN.{length, take, drop}
-use Rattle.buffer.specs.Compare.{order, sameBytes}
-use Rattle.text.specs.Unicode.{encode}
-use Rattle.text.specs.Decoding.{codesIn}
-use Rattle.text.specs.Space.{isWhiteSpace}
+use Rattle.buffer.specs.Compare.{sameBytes}
 use Rattle.ink.specs.Ascii.{ascii}
-use Rattle.table.specs.Map.{onOrder}
+use Rattle.rust.specs.Std.{byCmp, charsOf, ifSome, isEmpty, isWhitespace, startsWith, stripPrefix, utf8}
 use Rattle.rust.specs.Tree.{OptionDef, CommandNode, Commands, subcommandsOf, optionsOf, flagsOf, get}
 
 -- BTreeMap<String, A>, and its insert and contains_key
@@ -19,7 +16,7 @@ BTreeMap A = List (List ℕ × A)
 
 unfoldable pub insert : {A : Type 0} → List ℕ → A → BTreeMap A → BTreeMap A
 insert k v [] = (k, v) ∷ []
-insert k v (e ∷ m) = onOrder (order k (e .0)) ((k, v) ∷ e ∷ m) ((k, v) ∷ m) (e ∷ insert k v m)
+insert k v (e ∷ m) = byCmp k (e .0) ((k, v) ∷ e ∷ m) ((k, v) ∷ m) (e ∷ insert k v m)
 
 unfoldable pub containsKey : {A : Type 0} → List ℕ → BTreeMap A → Bool
 containsKey k [] = false
@@ -49,11 +46,6 @@ abbrev pub andThen : {A B : Type 0} → Result A → (A → Result B) → Result
 andThen (ok a) f = f a
 andThen (err e) f = err e
 
--- if let Some(x) = .. { .. } else { .. }
-abbrev pub ifSome : {A B : Type 0} → Option A → (A → B) → B → B
-ifSome (some a) f other = f a
-ifSome none f other = other
-
 -- fn tokenize(input: &str) -> Vec<String>, behind the characters before: tokens, current_token, in_quotes, escape_next
 unfoldable pub closed : List (List ℕ) → List ℕ → List (List ℕ)
 closed tokens [] = tokens
@@ -62,14 +54,14 @@ closed tokens (b ∷ current) = tokens ++ ((b ∷ current) ∷ [])
 unfoldable pub tokenizeFrom : List (List ℕ) → List ℕ → Bool → Bool → List ℕ → List (List ℕ)
 tokenizeFrom tokens current quotes escape [] = closed tokens current
 tokenizeFrom tokens current quotes escape (ch ∷ chars) =
-    cond escape (tokenizeFrom tokens (current ++ encode ch) quotes false chars)
+    cond escape (tokenizeFrom tokens (current ++ utf8 ch) quotes false chars)
     (cond (eqb ch 0x5C) (tokenizeFrom tokens current quotes true chars)
     (cond (eqb ch 0x22) (tokenizeFrom tokens current (not quotes) escape chars)
-    (cond (cond (isWhiteSpace ch) (not quotes) false) (tokenizeFrom (closed tokens current) [] quotes escape chars)
-    (tokenizeFrom tokens (current ++ encode ch) quotes escape chars))))
+    (cond (cond (isWhitespace ch) (not quotes) false) (tokenizeFrom (closed tokens current) [] quotes escape chars)
+    (tokenizeFrom tokens (current ++ utf8 ch) quotes escape chars))))
 
 unfoldable pub tokenize : List ℕ → List (List ℕ)
-tokenize input = tokenizeFrom [] [] false false (codesIn input)
+tokenize input = tokenizeFrom [] [] false false (charsOf input)
 
 -- fn find_command(tokens) -> Result<(Vec<String>, &CommandNode, &[String]), ParseError>
 pub record Command : Type 0 where
@@ -149,12 +141,6 @@ pub data Turn : Type 0 where
   skip : Args → Turn
   return : ParseError → Turn
 
--- token.strip_prefix(..)
-unfoldable pub stripPrefix : List ℕ → List ℕ → Option (List ℕ)
-stripPrefix [] t = some t
-stripPrefix (p ∷ prefix) [] = none
-stripPrefix (p ∷ prefix) (b ∷ t) = cond (eqb b p) (stripPrefix prefix t) none
-
 -- name.find('=')
 unfoldable pub findEquals : List ℕ → Option ℕ
 findEquals [] = none
@@ -173,27 +159,19 @@ longName command a name value =
     (return (UnknownOption (ascii "--" ++ name))))
 
 -- for (j, &ch) in chars.iter().enumerate(): j == chars.len() - 1 exactly if no character is left
-abbrev pub isEmpty : {A : Type 0} → List A → Bool
-isEmpty [] = true
-isEmpty (x ∷ l) = false
-
 unfoldable pub shortNames : CommandNode → Args → Option (List ℕ) → List ℕ → Turn
 shortNames command a value [] = next a
 shortNames command a value (ch ∷ chars) =
     cond (isShortFlag ch command) (shortNames command (withFlag a (flagNameByShort ch command)) value chars)
     (cond (isShortOption ch command)
-    (cond (isEmpty chars) (ifSome value (λ v. skip (withOption a (optionNameByShort ch command) v)) (return (MissingValue (ascii "-" ++ encode ch))))
-    (return (MissingValue (ascii "-" ++ encode ch))))
-    (return (UnknownOption (ascii "-" ++ encode ch))))
-
--- token.starts_with(..)
-unfoldable pub startsWith : List ℕ → List ℕ → Bool
-startsWith prefix t = sameBytes (take (length prefix) t) prefix
+    (cond (isEmpty chars) (ifSome value (λ v. skip (withOption a (optionNameByShort ch command) v)) (return (MissingValue (ascii "-" ++ utf8 ch))))
+    (return (MissingValue (ascii "-" ++ utf8 ch))))
+    (return (UnknownOption (ascii "-" ++ utf8 ch))))
 
 -- else if token.starts_with('-') && token.len() > 1 { .. token[1..].chars() .. } else { positional_args.push(token.clone()); }
 unfoldable pub shortOrPositional : CommandNode → Args → Option (List ℕ) → List ℕ → Turn
 shortOrPositional command a value token =
-    cond (cond (startsWith (ascii "-") token) (ltb 1 (length token)) false) (shortNames command a value (codesIn (drop 1 token)))
+    cond (cond (startsWith (ascii "-") token) (ltb 1 (length token)) false) (shortNames command a value (charsOf (drop 1 token)))
     (next (withPositional a token))
 
 -- if let Some(name) = token.strip_prefix("--") { if let Some(eq_pos) = name.find('=') { .. name.split_at(eq_pos), &value[1..] .. } .. }

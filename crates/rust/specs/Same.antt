@@ -1,9 +1,19 @@
 -- Our answers as the Rust would give them: what the laws of this crate equate.
 use Prim.Native.Nat.{ℕ}
+use mathlib.Core.Path.{_≡_}
 use mathlib.Core.Bool.{Bool, true, cond}
-use mathlib.Core.List.{List, [], _∷_}
+use mathlib.Core.List.{List, [], _∷_, _++_}
 use mathlib.Core.Option.{Option, none, some}
 use lib.Dec.{eqb, ltb}
+use lib.ListN.{drop, getD}
+use Rattle.text.specs.Decoding.{codesIn}
+use Rattle.history.specs.declared.past.Recalled.{Recalled}
+use Rattle.history.specs.declared.past.Recalled.the-variants.{Entry, Nothing}
+use Rattle.history.specs.declared.past.Step.{Step}
+use Rattle.editor.specs.declared.line.Mode.{Mode}
+use Rattle.editor.specs.declared.line.Mode.the-variants.{Typing, Escape, Sequence}
+use Rattle.editor.specs.Keys.{State}
+use Rattle.ink.specs.Ascii.{ascii}
 use Rattle.image.specs.Limits.{both}
 use Rattle.table.specs.Map.{Map}
 use Rattle.report.specs.Report.{reportOf}
@@ -11,8 +21,46 @@ use Rattle.parse.specs.Commands.{Outcome, parsed, fault}
 use Rattle.help.specs.Answer.{Reply, said, unknown, wordless}
 use Rattle.message.specs.Messages.{goodbye}
 use Rattle.shell.specs.Lines.{Said, silence, text, farewell, handed as handsOver}
+use Rattle.rust.specs.Std.{splitWhitespace, startsWith, utf8OrEmpty}
+use Rattle.rust.specs.Tree.{Commands}
 use Rattle.rust.specs.Parser.{BTreeMap, ParsedCommand, ParseError, UnknownCommand, UnknownOption, MissingValue, MissingRequiredOption, NoHandler, Result, ok, err}
-use Rattle.rust.specs.Shell.{Effect, returns, prints, fails, garbled, calls, exits, panics}
+use Rattle.rust.specs.Help.{showHelp}
+use Rattle.rust.specs.Shell.{Effect, returns, prints, fails, garbled, calls, exits, panics, textIn}
+use Rattle.rust.specs.History.{CommandHistory, Stepped}
+use Rattle.rust.specs.Loop.{InputState, Normal, Escape as EscapeState, EscapeSeq, Shell, Event, writes, runs}
+
+-- the Rust's history with these entries, at this place
+abbrev pub original : List (List ℕ) → ℕ → CommandHistory
+original es place = record { history = es; index = place; size = 100 }
+
+-- a step of ours among these entries: the place that it leads to, and the entry of the number that it recalls
+abbrev pub recalledIn : List (List ℕ) → Recalled → Option (List ℕ)
+recalledIn es (Entry n) = some (getD es n [])
+recalledIn es Nothing = none
+
+abbrev pub stepIn : List (List ℕ) → Step → Stepped
+stepIn es step = record { after = original es (step .history .place); text = recalledIn es (step .recalled) }
+
+-- the Rust's shell in a state of ours
+abbrev pub inputOf : Mode → InputState
+inputOf Typing = Normal
+inputOf Escape = EscapeState
+inputOf Sequence = EscapeSeq
+
+abbrev pub shellOf : State → Shell
+shellOf s = record { buf = s .line; cursor = s .cursor; input = inputOf (s .mode); history = original (s .entries) (s .place) }
+
+-- what a caller of ours does with bytes that are shown, and at Enter with the line that is submitted: it writes them, it runs the line, and writes the prompt
+abbrev pub written : List ℕ → List Event
+written [] = []
+written (b ∷ bytes) = writes (b ∷ bytes) ∷ []
+
+abbrev pub entered : List ℕ → List Event
+entered [] = []
+entered (b ∷ line) = runs (utf8OrEmpty (b ∷ line)) (b ∷ line) ∷ []
+
+abbrev pub atEnter : List ℕ → List ℕ → List ℕ → List Event
+atEnter prompt bytes line = writes bytes ∷ (entered line ++ (writes prompt ∷ []))
 
 -- BTreeMap<String, bool>: each flag that was found is true
 unfoldable pub flagsFor : Map → BTreeMap Bool
@@ -78,3 +126,16 @@ seenFor (handsOver handler report) = handed handler report
 unfoldable pub allPrinted : (ℕ → Bool) → List ℕ → Bool
 allPrinted printable [] = true
 allPrinted printable (c ∷ chars) = both (cond (ltb c 0x80) true (printable c)) (allPrinted printable chars)
+
+-- the word that a line's `Debug` text quotes: the text of e where handle_builtin_commands(input) comes to println!("Error: {:?}", e), and nothing elsewhere
+abbrev pub wordIn : Option (Result (List ℕ)) → List ℕ
+wordIn (some (ok bytes)) = []
+wordIn (some (err e)) = textIn e
+wordIn none = []
+
+unfoldable pub debugged : Commands → List ℕ → List ℕ
+debugged tree input = cond (startsWith (ascii "help ") input) (wordIn (showHelp tree (splitWhitespace (drop 5 input)))) []
+
+-- that word of a line is one whose characters are printed as they are
+abbrev pub QuotedAsIs : (ℕ → Bool) → Commands → List ℕ → Type 0
+QuotedAsIs printable tree line = allPrinted printable (codesIn (debugged tree (utf8OrEmpty line))) ≡ true

@@ -1,20 +1,16 @@
--- The Rust's `run_cmd_bytes`, `execute_command` and `handle_builtin_commands` on values: what they print, call and end. Its `trim` and `split_whitespace` are
--- `trimmed` and `wordsBetween`.
+-- The Rust's `run_cmd_bytes`, `execute_command` and `handle_builtin_commands` on values: what they print, call and end.
 use Prim.Native.Nat.{ℕ, zero, suc, _/_, _%_}
-use mathlib.Core.Bool.{Bool, true, false, cond, not}
+use mathlib.Core.Bool.{Bool, true, false, cond}
 use mathlib.Core.List.{List, [], _∷_, _++_}
 use mathlib.Core.Option.{Option, none, some}
 use lib.Dec.{ltb, eqb}
-use lib.ListN.{length, drop}
+use lib.ListN.{drop}
 use Rattle.buffer.specs.Compare.{sameBytes}
-use Rattle.text.specs.Unicode.{encode}
-use Rattle.text.specs.Decoding.{codesIn, wellFormedLength}
-use Rattle.text.specs.Apart.{trimmed, wordsBetween}
-use Rattle.frame.specs.Hex.{digitOf}
 use Rattle.ink.specs.Ascii.{ascii}
+use Rattle.rust.specs.Std.{charsOf, hexDigit, ifSome, isEmpty, isUtf8, join, println, splitWhitespace, startsWith, trim, utf8, utf8OrEmpty}
 use Rattle.rust.specs.Tree.{CommandNode, Commands, handlerOf, subcommandsOf, get}
-use Rattle.rust.specs.Parser.{ParsedCommand, ParseError, UnknownCommand, UnknownOption, MissingValue, MissingRequiredOption, NoHandler, Result, ok, err, ifSome, isEmpty, startsWith, parse}
-use Rattle.rust.specs.Help.{println, join, showHelp, showAvailableCommands}
+use Rattle.rust.specs.Parser.{ParsedCommand, ParseError, UnknownCommand, UnknownOption, MissingValue, MissingRequiredOption, NoHandler, Result, ok, err, parse}
+use Rattle.rust.specs.Help.{showHelp, showAvailableCommands}
 
 -- what a line comes to: nothing; a text that is printed, by itself or on an error, its own or that of `from_utf8`; a handler that is called with a command;
 -- the end of the process, with what was printed; or a panic
@@ -26,10 +22,6 @@ pub data Effect : Type 0 where
   calls : (handler : ℕ) (command : ParsedCommand) → Effect
   exits : List ℕ → Effect
   panics : Effect
-
--- whether str::from_utf8(bytes) is Ok
-unfoldable pub isUtf8 : List ℕ → Bool
-isUtf8 bytes = not (ltb (wellFormedLength bytes) (length bytes))
 
 -- for cmd in &parsed.command_path[1..] { current_node = current_node.subcommands.get(cmd).unwrap(); }, where an unwrap() that panics is none
 unfoldable pub along : CommandNode → List (List ℕ) → Option CommandNode
@@ -67,13 +59,13 @@ executeCommand tree input = executed tree (parse tree input)
 -- pub fn run_cmd_bytes(cmd_bytes: &[u8])
 unfoldable pub runCmdBytes : Commands → List ℕ → Effect
 runCmdBytes tree bytes =
-    cond (isUtf8 bytes) (cond (isEmpty (trimmed bytes)) returns (executeCommand tree (trimmed bytes)))
+    cond (isUtf8 bytes) (cond (isEmpty (trim bytes)) returns (executeCommand tree (trim bytes)))
     (garbled (println (ascii "Error: Input contains invalid UTF-8 characters")))
 
 -- `\u{..}`: a character's code in hexadecimal, without a leading 0
 unfoldable pub hexIn : ℕ → ℕ → List ℕ
 hexIn zero n = []
-hexIn (suc most) n = cond (ltb n 16) (digitOf n ∷ []) (hexIn most (n / 16) ++ (digitOf (n % 16) ∷ []))
+hexIn (suc most) n = cond (ltb n 16) (hexDigit n ∷ []) (hexIn most (n / 16) ++ (hexDigit (n % 16) ∷ []))
 
 unfoldable pub escapeUnicode : ℕ → List ℕ
 escapeUnicode c = ascii "\\u{" ++ hexIn 6 c ++ ascii "}"
@@ -90,7 +82,7 @@ escapeDebug printable c =
     (cond (eqb c 0x0a) (ascii "\\n")
     (cond (eqb c 0x5c) (ascii "\\\\")
     (cond (eqb c 0x22) (ascii "\\\"")
-    (cond (isPrintable printable c) (encode c)
+    (cond (isPrintable printable c) (utf8 c)
     (escapeUnicode c)))))))
 
 unfoldable pub debugChars : (ℕ → Bool) → List ℕ → List ℕ
@@ -113,7 +105,7 @@ textIn (MissingRequiredOption t) = t
 textIn (NoHandler t) = t
 
 unfoldable pub debugError : (ℕ → Bool) → ParseError → List ℕ
-debugError printable e = variant e ++ ascii "(\"" ++ debugChars printable (codesIn (textIn e)) ++ ascii "\")"
+debugError printable e = variant e ++ ascii "(\"" ++ debugChars printable (charsOf (textIn e)) ++ ascii "\")"
 
 -- if let Err(e) = show_help(&cmd_parts) { println!("Error: {:?}", e); }
 abbrev pub helped : (ℕ → Bool) → Result (List ℕ) → Effect
@@ -123,12 +115,16 @@ helped printable (err e) = fails e (println (ascii "Error: " ++ debugError print
 -- pub fn handle_builtin_commands(input: &str) -> bool: what it does where it answers true, none where it answers false
 unfoldable pub handleBuiltinCommands : (ℕ → Bool) → Commands → List ℕ → Option Effect
 handleBuiltinCommands printable tree input =
-    cond (sameBytes (trimmed input) (ascii "help")) (some (prints (showAvailableCommands tree)))
-    (cond (cond (sameBytes (trimmed input) (ascii "exit")) true (sameBytes (trimmed input) (ascii "quit"))) (some (exits (println (ascii "Goodbye!"))))
-    (cond (sameBytes (trimmed input) (ascii "clear")) (some (prints (0x1b ∷ ascii "[2J" ++ 0x1b ∷ ascii "[H")))
-    (cond (startsWith (ascii "help ") input) (some (ifSome (showHelp tree (wordsBetween (drop 5 input))) (helped printable) panics))
+    cond (sameBytes (trim input) (ascii "help")) (some (prints (showAvailableCommands tree)))
+    (cond (cond (sameBytes (trim input) (ascii "exit")) true (sameBytes (trim input) (ascii "quit"))) (some (exits (println (ascii "Goodbye!"))))
+    (cond (sameBytes (trim input) (ascii "clear")) (some (prints (0x1b ∷ ascii "[2J" ++ 0x1b ∷ ascii "[H")))
+    (cond (startsWith (ascii "help ") input) (some (ifSome (showHelp tree (splitWhitespace (drop 5 input))) (helped printable) panics))
     none)))
 
--- shell/mod.rs: let cmd_str = std::str::from_utf8(&buf[..line_len]).unwrap_or(""); .. if !handle_builtin_commands(cmd_str) { run_cmd_bytes(&buf[..line_len]); }
+-- shell/mod.rs: if !handle_builtin_commands(cmd_str) { run_cmd_bytes(&buf[..line_len]); }
+unfoldable pub runLine : (ℕ → Bool) → Commands → List ℕ → List ℕ → Effect
+runLine printable tree cmd bytes = ifSome (handleBuiltinCommands printable tree cmd) (λ e. e) (runCmdBytes tree bytes)
+
+-- the same of a line: let cmd_str = std::str::from_utf8(&buf[..line_len]).unwrap_or("");
 unfoldable pub enter : (ℕ → Bool) → Commands → List ℕ → Effect
-enter printable tree line = ifSome (handleBuiltinCommands printable tree (cond (isUtf8 line) line [])) (λ e. e) (runCmdBytes tree line)
+enter printable tree line = runLine printable tree (utf8OrEmpty line) line

@@ -5,10 +5,10 @@ use mathlib.Core.Bool.{Bool, cond}
 use mathlib.Core.List.{List, [], _∷_}
 use mathlib.Core.Option.{Option, none, some}
 use lib.Dec.{eqb}
-use Rattle.buffer.specs.Compare.{order, sameBytes}
+use Rattle.buffer.specs.Compare.{sameBytes}
 use Rattle.image.specs.Frames.{Perhaps, absent, present, Frame, node, option, flag}
 use Rattle.tree.specs.Forest.{Forest, bare, grown}
-use Rattle.table.specs.Map.{onOrder}
+use Rattle.rust.specs.Std.{byCmp}
 
 -- pub struct OptionDef { name: &'static str, short: Option<char>, long: Option<&'static str>, description: &'static str, required: bool }
 pub record OptionDef : Type 0 where
@@ -57,7 +57,7 @@ flagsOf (commandNode handler subcommands description usage options flags) = flag
 unfoldable pub insertNode : List ℕ → CommandNode → Commands → Commands
 insertNode k v empty = entry k v empty
 insertNode k v (entry name command others) =
-    onOrder (order k name) (entry k v (entry name command others)) (entry k v others) (entry name command (insertNode k v others))
+    byCmp k name (entry k v (entry name command others)) (entry k v others) (entry name command (insertNode k v others))
 
 -- BTreeMap::get
 unfoldable pub get : List ℕ → Commands → Option CommandNode

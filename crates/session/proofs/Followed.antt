@@ -2,7 +2,7 @@
 use Prim.Native.Nat.{ℕ, _+_, _≤_, _<_}
 use mathlib.Core.Path.{_≡_, refl, sym, ap, _∙_, subst}
 use mathlib.Core.Bool.{Bool, true, false, cond}
-use mathlib.Core.List.{List, [], _∷_, _++_, append-nil}
+use mathlib.Core.List.{List, [], _∷_, _++_}
 use native.Mathlib.Omega.{arith}
 use borrow.Author.Tests.{ltb-true, ltb-false, eqb-true}
 use lib.Dec.{eqb, ltb}
@@ -27,8 +27,7 @@ use Rattle.growth.proofs.Standing.{Growth, grows as grows-by, grows-whole}
 use Rattle.editor.specs.Keys.{State, Kind, shows, enters, drops, Turn, turnOf}
 use Rattle.editor.specs.Answer.{goodState}
 use Rattle.editor.proofs.Fine.{Fine}
-use Rattle.shell.specs.Lines.{saidOf}
-use Rattle.session.specs.Prints.{Printed, shown, prompt, answered, turnPrints, keyPrints, turnEnds, keyEnds}
+use Rattle.session.specs.Prints.{prompt, turnPrints, keyPrints, turnEnds, keyEnds}
 use Rattle.session.specs.Lines.{Form, tree, keys, formless, formOf, formBy, lineForm, Standing, withImage, withKeys as keyedNow, Taking, grown, pressing, refused, takeForm, takeLine}
 use Rattle.session.specs.Calls.{withWalk, withKeys, refusing, tookBy, imageBy, TakingLine, imageOf, isEnter, treeBefore, most, Kept, PressingKey, RefusingLine}
 use Rattle.session.specs.declared.running.Printing.{Printing}
@@ -164,23 +163,6 @@ module _ (s : Standing) (h : Session) (image slots : List ℕ) (k : Holds s h im
         subst (λ (x : Took). Holds (keyedNow s) (x .session) image′ slots) (sym a) (subst (λ (x : List ℕ). Holds (keyedNow s) (withKeys h) x slots) (sym b) keyed-held),
       )
       by formless e a b c = (number-held r a, b)
-
--- what a key prints is what it shows, and at Enter what the line says behind it
-abbrev pub atEnter : Kind → List Printed → List Printed
-atEnter shows prints = []
-atEnter enters prints = prints
-atEnter drops prints = []
-
-pub shows-then : (frames : List TreeFrame) (s : State) (byte : ℕ) → Fine s
-    → keyPrints frames (turnOf prompt s byte) ≡ shown (turnOf prompt s byte .screen) ++ atEnter (turnOf prompt s byte .kind) (answered (saidOf frames (turnOf prompt s byte .submitted)))
-unfolding keyPrints shown
-shows-then frames s byte f = by (turnOf prompt s byte .kind) (screen-plain prompt s byte f)
-  where
-    by : (q : Kind) → Plain byte q (turnOf prompt s byte .screen)
-        → turnPrints frames (turnOf prompt s byte) q ≡ shown (turnOf prompt s byte .screen) ++ atEnter q (answered (saidOf frames (turnOf prompt s byte .submitted)))
-    by shows p = sym (append-nil (shown (turnOf prompt s byte .screen)))
-    by enters p = ap (λ (x : List ℕ). shown x ++ answered (saidOf frames (turnOf prompt s byte .submitted))) (sym (p .0))
-    by drops p = ap (λ (x : List ℕ). shown x ++ []) (sym p)
 
 -- a byte that is none of Enter's prints the same under every tree
 pub treeless : (frames other : List TreeFrame) (s : State) (byte : ℕ) → Fine s → isEnter byte ≡ false

@@ -1,6 +1,6 @@
 -- Our history is the Rust's `CommandHistory::new(100)`: its three functions on values and ours do the same to entries and place.
 use Prim.Native.Nat.{ℕ, zero, suc, _+_, _-_, _<_, _≤_}
-use mathlib.Core.Path.{_≡_, refl, ap, _∙_}
+use mathlib.Core.Path.{_≡_, refl, sym, ap, _∙_}
 use mathlib.Core.Bool.{Bool, true, false, cond, not, Bool·beq}
 use mathlib.Core.List.{List, [], _∷_, _++_}
 use mathlib.Core.Option.{Option, none, some}
@@ -12,8 +12,21 @@ use Rattle.buffer.proofs.Choices.{then-is, else-is}
 use Rattle.text.specs.Decoding.{Piece, piecesOf, bytesAll}
 use Rattle.text.specs.Apart.{white, behindRun, trimEnd, beforeEnd, trimmed, allWhite, blank}
 use Rattle.text.proofs.Sights.{some-bytes}
 use Rattle.history.specs.Entries.{mostEntries, newestIs, isNew, withRoom, added}
-use Rattle.history.specs.Rust.{CommandHistory, new, isEmpty, last, isSome, pushed, kept, addCommand, Told, previous, next}
+use Rattle.history.specs.Slots.{good}
+use Rattle.history.specs.Answer.{atEnd, entriesIn, entriesAfter, addAnswer, historyBy, slotsBy, Addition}
+use Rattle.history.specs.Steps.{back, recalledAt, onward}
+use Rattle.history.specs.declared.past.History.{History}
+use Rattle.history.specs.declared.past.Recalled.the-variants.{Entry, Nothing}
+use Rattle.history.specs.declared.past.Step.{Step}
+use Rattle.history.specs.declared.adding.Added.{Added}
+use Rattle.history.specs.declared.adding.Added.the-variants.{Done}
+use Rattle.history.proofs.Layouts.{length-entries, entries-layout}
+use Rattle.history.proofs.States.{good-has}
+use Rattle.history.proofs.Called.{done-has, entries-after}
+use Rattle.rust.specs.Std.{isEmpty}
+use Rattle.rust.specs.History.{new, last, isSome, pushed, kept, addCommand, Stepped, previous, next}
+use Rattle.rust.specs.Same.{original, stepIn}
 
 -- `trim().is_empty()` is blank
 some-left : (l : List ℕ) → 0 < length l → isEmpty l ≡ false
@@ -66,10 +79,6 @@ kept-is es t =
     by false true = refl
     by false false = refl
 
--- the Rust's history with these entries, at this place
-abbrev pub original : List (List ℕ) → ℕ → CommandHistory
-original es place = record { history = es; index = place; size = 100 }
-
 -- it begins as the Rust's does
 pub fresh-is : original [] 0 ≡ new 100
 fresh-is = refl
@@ -91,7 +100,7 @@ unfolding previous
 previous-is es place h = by (eqb place 0) refl
   where
     by : (t : Bool) → eqb place 0 ≡ t
-        → cond {A = Told} (ltb 0 place) (record { after = original es (place - 1); text = getElem? es (place - 1) }) (record { after = original es place; text = none })
+        → cond {A = Stepped} (ltb 0 place) (record { after = original es (place - 1); text = getElem? es (place - 1) }) (record { after = original es place; text = none })
         ≡ cond t (record { after = original es place; text = none }) (record { after = original es (place - 1); text = some (getD es (place - 1) []) })
     by true q = let z = eqb-true place 0 q in else-is _ _ _ (le-ltb 0 place (omega arith))
     by false q =
@@ -108,8 +117,73 @@ unfolding next
 next-is es place h = by (ltb place (length es)) (ltb (place + 1) (length es)) refl refl
   where
     by : (t u : Bool) → ltb place (length es) ≡ t → ltb (place + 1) (length es) ≡ u
-        → cond {A = Told} t (record { after = original es (place + 1); text = cond u (getElem? es (place + 1)) none }) (record { after = original es place; text = none })
+        → cond {A = Stepped} t (record { after = original es (place + 1); text = cond u (getElem? es (place + 1)) none }) (record { after = original es place; text = none })
         ≡ cond t (record { after = original es (place + 1); text = cond u (some (getD es (place + 1) [])) none }) (record { after = original es place; text = none })
     by false u p q = refl
     by true false p q = refl
     by true true p q = ap (λ (x : Option (List ℕ)). record { after = original es (place + 1); text = x }) (found es (place + 1) (ltb-true _ _ q))
+
+-- THE CALLS
+-- the Rust's add_command on the entries and the place that record and slots hold
+holds : {r q : History} {s t : List ℕ} → r ≡ q → s ≡ t → entriesIn r s ≡ entriesIn q t
+holds p q = cc
+
+same : {es fs : List (List ℕ)} {n m : ℕ} → es ≡ fs → n ≡ m → original es n ≡ original fs m
+same p q = cc
+
+pub add-as-rust : (h : History) (slots text : List ℕ) (r : History) (left : List ℕ) → Addition h slots text r Done left
+    → addCommand (original (entriesIn h slots) (h .place)) text ≡ original (entriesIn r left) (r .place)
+unfolding entriesAfter entriesIn
+add-as-rust h slots text r left a =
+    let es : List (List ℕ) = entriesAfter h slots text in
+    let done : addAnswer h slots text ≡ Done = sym (a .answer) in
+    let short = entries-after h slots text (done-has h slots text done) .short in
+    let record-is : r ≡ atEnd (length es) = a .state ∙ ap (λ (x : Added). historyBy x h es) done in
+    let held : entriesIn r left ≡ es = holds record-is (a .bytes ∙ ap (λ (x : Added). slotsBy x slots es) done) ∙ entries-layout es short in
+    add-is (entriesIn h slots) (h .place) text ∙ same (sym held) (ap (λ (x : History). x .place) (sym record-is))
+
+-- its previous and next: the place that a step leads to, and the entry of the number that it recalls
+module _ (h : History) (slots : List ℕ) (is : good (h .count) (h .place) slots ≡ true) where
+  counted : length (entriesIn h slots) ≡ h .count
+  unfolding entriesIn
+  counted = length-entries (h .count) slots
+
+  within : h .place ≤ length (entriesIn h slots)
+  within = let p = good-has (h .count) (h .place) slots is .placed in let n = counted in omega arith
+
+  pub previous-as-rust : previous (original (entriesIn h slots) (h .place)) ≡ stepIn (entriesIn h slots) (back h)
+  unfolding back
+  previous-as-rust = previous-is (entriesIn h slots) (h .place) within ∙ by (eqb (h .place) 0)
+    where
+      es : List (List ℕ)
+      es = entriesIn h slots
+
+      by : (t : Bool)
+          → _≡_ {A = Stepped} (cond t (record { after = original es (h .place); text = none }) (record { after = original es (h .place - 1); text = some (getD es (h .place - 1) []) }))
+          (stepIn es (cond t (record { history = h; recalled = Nothing }) (record { history = record { count = h .count; place = h .place - 1 }; recalled = Entry (h .place - 1) })))
+      by true = refl
+      by false = refl
+
+  -- a step on, among so many entries
+  stepAmong : ℕ → Step
+  stepAmong n =
+      cond (ltb (h .place) n)
+      (record { history = record { count = h .count; place = h .place + 1 }; recalled = recalledAt n (h .place + 1) })
+      (record { history = h; recalled = Nothing })
+
+  pub next-as-rust : next (original (entriesIn h slots) (h .place)) ≡ stepIn (entriesIn h slots) (onward h)
+  unfolding onward stepAmong recalledAt
+  next-as-rust =
+      next-is (entriesIn h slots) (h .place) within
+      ∙ by (ltb (h .place) (length (entriesIn h slots))) (ltb (h .place + 1) (length (entriesIn h slots)))
+      ∙ ap (λ (n : ℕ). stepIn (entriesIn h slots) (stepAmong n)) counted
+    where
+      es : List (List ℕ)
+      es = entriesIn h slots
+
+      by : (t u : Bool)
+          → _≡_ {A = Stepped} (cond t (record { after = original es (h .place + 1); text = cond u (some (getD es (h .place + 1) [])) none }) (record { after = original es (h .place); text = none }))
+          (stepIn es (cond t (record { history = record { count = h .count; place = h .place + 1 }; recalled = cond u (Entry (h .place + 1)) Nothing }) (record { history = h; recalled = Nothing })))
+      by true true = refl
+      by true false = refl
+      by false u = refl

@@ -1,12 +1,12 @@
--- The Rust's history (docs/src/src/shell/command/history.rs) as functions on values: a `Vec<String>` is a list of texts, a `String` its bytes.
+-- The Rust's history and its redraw (docs/src/src/shell/command/history.rs) as functions on values: a `Vec<String>` is a list of texts, a `String` its bytes.
 use Prim.Native.Nat.{ℕ, _+_, _-_}
-use mathlib.Core.Bool.{Bool, true, false, cond, not}
+use mathlib.Core.Bool.{Bool, false, cond, not}
 use mathlib.Core.List.{List, [], _∷_, _++_}
 use mathlib.Core.Option.{Option, none, some}
 use lib.Dec.{ltb, leb}
 use lib.ListN.{length, drop, getElem?}
 use Rattle.buffer.specs.Compare.{sameBytes}
-use Rattle.text.specs.Apart.{trimmed}
+use Rattle.rust.specs.Std.{display, isEmpty, trim}
 
 -- pub struct CommandHistory { history: Vec<String>, current_index: usize, max_size: usize }
 pub record CommandHistory : Type 0 where
@@ -17,11 +17,6 @@ pub record CommandHistory : Type 0 where
 -- CommandHistory::new
 abbrev pub new : ℕ → CommandHistory
 new size = record { history = []; index = 0; size = size }
-
--- cmd.trim().is_empty()
-abbrev pub isEmpty : List ℕ → Bool
-isEmpty [] = true
-isEmpty (x ∷ s) = false
 
 -- self.history.last()
 unfoldable pub last : List (List ℕ) → Option (List ℕ)
@@ -40,7 +35,7 @@ pushed size es cmd = cond (leb size (length es)) (drop 1 es) es ++ (cmd ∷ [])
 
 -- if !cmd.trim().is_empty() && self.history.last() != Some(&cmd) { .. }
 unfoldable pub kept : ℕ → List (List ℕ) → List ℕ → List (List ℕ)
-kept size es cmd = cond (not (isEmpty (trimmed cmd))) (cond (not (isSome (last es) cmd)) (pushed size es cmd) es) es
+kept size es cmd = cond (not (isEmpty (trim cmd))) (cond (not (isSome (last es) cmd)) (pushed size es cmd) es) es
 
 -- pub fn add_command(&mut self, cmd: String): .. self.current_index = self.history.len();
 unfoldable pub addCommand : CommandHistory → List ℕ → CommandHistory
@@ -48,7 +43,7 @@ addCommand h cmd =
     record { history = kept (h .size) (h .history) cmd; index = length (kept (h .size) (h .history) cmd); size = h .size }
 
 -- what a step gives back: the history after it, and the text
-pub record Told : Type 0 where
+pub record Stepped : Type 0 where
   pub after : CommandHistory
   pub text : Option (List ℕ)
 
@@ -56,13 +51,13 @@ abbrev pub at : CommandHistory → ℕ → CommandHistory
 at h i = record { history = h .history; index = i; size = h .size }
 
 -- pub fn previous(&mut self) -> Option<&String>
-unfoldable pub previous : CommandHistory → Told
+unfoldable pub previous : CommandHistory → Stepped
 previous h =
     cond (ltb 0 (h .index)) (record { after = at h (h .index - 1); text = getElem? (h .history) (h .index - 1) })
     (record { after = h; text = none })
 
 -- pub fn next(&mut self) -> Option<&String>
-unfoldable pub next : CommandHistory → Told
+unfoldable pub next : CommandHistory → Stepped
 next h =
     cond (ltb (h .index) (length (h .history)))
     (record {
@@ -70,3 +65,9 @@ next h =
       text = cond (ltb (h .index + 1) (length (h .history))) (getElem? (h .history) (h .index + 1)) none;
     })
     (record { after = h; text = none })
+
+-- pub fn clear_line_and_redraw(stdout, prompt, content, cursor_pos): the bytes that it writes
+unfoldable pub clearLineAndRedraw : List ℕ → List ℕ → ℕ → List ℕ
+clearLineAndRedraw prompt text cursor =
+    0x0D ∷ 0x1B ∷ 0x5B ∷ 0x32 ∷ 0x4B
+    ∷ (prompt ++ (text ++ cond (ltb cursor (length text)) (0x1B ∷ 0x5B ∷ (display (length text - cursor) ++ (0x44 ∷ []))) []))

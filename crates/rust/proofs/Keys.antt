@@ -1,0 +1,328 @@
+-- Each key does what the Rust's loop does, in every state within the rules: it leaves the same line, cursor, mode and history, shows the bytes that the loop writes, and submits the
+-- line that the loop runs.
+use Prim.Native.Nat.{ℕ, zero, suc, _+_, _-_, min}
+use mathlib.Core.Path.{_≡_, refl, sym, ap, _∙_}
+use mathlib.Core.Bool.{Bool, true, false, cond, not}
+use mathlib.Core.List.{List, [], _∷_, _++_}
+use mathlib.Core.Option.{none, some}
+use native.Mathlib.Omega.{arith}
+use lib.Dec.{eqb, ltb}
+use lib.ListN.{length, take, getD}
+use lib.Seq.{take-all}
+use borrow.Author.Tests.{lt-ltb, le-ltb, ltb-true, ltb-false, eqb-true, eqb-false, ne-eqb}
+use Rattle.buffer.proofs.Choices.{then-is, else-is, true-is-not-false}
+use Rattle.buffer.specs.Compare.{sameBytes}
+use Rattle.buffer.specs.Write.{over}
+use Rattle.text.specs.Decoding.{wellFormedLength}
+use Rattle.text.specs.Apart.{blank}
+use Rattle.text.proofs.Prefix.{prefix-fits}
+use Rattle.history.specs.Entries.{wellFormed, usable, sound}
+use Rattle.history.specs.declared.past.History.{History}
+use Rattle.history.proofs.States.{holds, short-at}
+use Rattle.screen.specs.Decimal.{decimal}
+use Rattle.screen.specs.Redraw.{clearLine, moveBack, redraw}
+use Rattle.screen.proofs.Drawing.{move-none, move-some}
+use Rattle.editor.specs.declared.line.Mode.{Mode}
+use Rattle.editor.specs.declared.line.Mode.the-variants.{Typing, Escape, Sequence}
+use Rattle.editor.specs.declared.line.Editor.{Editor}
+use Rattle.editor.specs.declared.drawing.Key.{Key}
+use Rattle.editor.specs.Line.{limit, inserted, erased, content}
+use Rattle.editor.specs.Keys.{State, Kind, shows, enters, drops, Turn, lineFeed, showing, redrawn, redrawing, inMode, withLine, atPlace, enter, erase, insert, typed, escaped, recalling, up, onPlace, down, right, left, sequenced, turnIn, turnOf}
+use Rattle.editor.specs.Answer.{stateOf, goodState, taken, refused, Pressing}
+use Rattle.editor.proofs.Fine.{Fine, fine-of, formed-nothing}
+use Rattle.editor.proofs.Called.{key-taken, state-after}
+use Rattle.ink.specs.Ascii.{ascii}
+use Rattle.rust.specs.Std.{ifSome, isUtf8, println, utf8OrEmpty}
+use Rattle.rust.specs.History.{CommandHistory, addCommand, Stepped, clearLineAndRedraw}
+use Rattle.rust.specs.Loop.{InputState, Normal, EscapeSeq, Shell, Event, writes, runs, Loop, turned, firstBytes, lineRun, crlf, bsdl, other, normal, escape, recalledIn, keyA, keyB, keyC, keyD, escapeSeq, rustIn, rustKey}
+use Rattle.rust.specs.Same.{original, inputOf, shellOf, written, entered, atEnter}
+use Rattle.rust.specs.Calls.{ToldAs, PressesAs}
+use Rattle.rust.proofs.Histories.{add-is, previous-is, next-is}
+
+-- what the Rust's loop does if it does as a turn of ours: by the turn's kind, the events of one who shows its bytes and runs what it submits
+abbrev pub eventsBy : List ℕ → Turn → Kind → List Event
+eventsBy prompt t shows = written (t .screen)
+eventsBy prompt t enters = atEnter prompt (t .screen) (t .submitted)
+eventsBy prompt t drops = []
+
+abbrev pub loopOf : List ℕ → Turn → Loop
+loopOf prompt t = turned (shellOf (t .after)) (eventsBy prompt t (t .kind))
+
+-- no line is submitted but at Enter, and a turn that drops a byte shows nothing
+abbrev pub Tidy : Turn → Kind → Type 0
+Tidy t shows = t .submitted ≡ []
+Tidy t enters = Unit {0}
+Tidy t drops = (t .screen ≡ []) × (t .submitted ≡ [])
+
+-- a turn of the Rust's loop is ours
+pub record Same (prompt : List ℕ) (x : Loop) (t : Turn) : Type 0 where
+  pub loop : x ≡ loopOf prompt t
+  pub tidy : Tidy t (t .kind)
+
+-- a choice on both sides, and the same choice asked the other way: above 0, or 0
+both : (prompt : List ℕ) (b : Bool) (x y : Loop) (t u : Turn) → (b ≡ true → Same prompt x t) → (b ≡ false → Same prompt y u) → Same prompt (cond b x y) (cond b t u)
+both prompt true x y t u p q = p refl
+both prompt false x y t u p q = q refl
+
+above : (n : ℕ) (x y : Loop) → cond (ltb 0 n) x y ≡ cond (eqb n 0) y x
+above zero x y = refl
+above (suc n) x y = then-is _ _ _ (lt-ltb 0 (suc n) (omega arith)) ∙ sym (else-is _ _ _ (ne-eqb (suc n) 0 (λ e. omega arith)))
+
+none-or : (prompt : List ℕ) (n : ℕ) (x y : Loop) (t u : Turn) → (n ≡ 0 → Same prompt y t) → ((n ≡ 0 → ⊥) → Same prompt x u)
+    → Same prompt (cond (ltb 0 n) x y) (cond (eqb n 0) t u)
+none-or prompt n x y t u p q = rw (above n x y) (both prompt (eqb n 0) y x t u (λ e. p (eqb-true n 0 e)) (λ e. q (eqb-false n 0 e)))
+
+shells : {b b′ : List ℕ} {c c′ : ℕ} {i i′ : InputState} {h h′ : CommandHistory} → b ≡ b′ → c ≡ c′ → i ≡ i′ → h ≡ h′
+    → _≡_ {A = Shell} (record { buf = b; cursor = c; input = i; history = h }) (record { buf = b′; cursor = c′; input = i′; history = h′ })
+shells p q r s = cc
+
+loops : {a a′ : Shell} {e e′ : List Event} → a ≡ a′ → e ≡ e′ → turned a e ≡ turned a′ e′
+loops p q = cc
+
+-- the redraws are the same
+pub same-redraw : (prompt text : List ℕ) (cursor : ℕ) → clearLineAndRedraw prompt text cursor ≡ redraw prompt text cursor
+unfolding clearLineAndRedraw redraw
+same-redraw prompt text cursor = ap (λ (l : List ℕ). clearLine ++ (prompt ++ (text ++ l))) (by (ltb cursor (length text)) refl)
+  where
+    by : (t : Bool) → ltb cursor (length text) ≡ t → cond t (0x1B ∷ 0x5B ∷ (decimal (length text - cursor) ++ (0x44 ∷ []))) [] ≡ moveBack (length text - cursor)
+    by true q = let h = ltb-true cursor (length text) q in sym (move-some (length text - cursor) (λ e. omega arith))
+    by false q = let h = ltb-false cursor (length text) q in sym (move-none (length text - cursor) (omega arith))
+
+-- every entry is well-formed, so it is shown as it is
+formed-at : (before : List ℕ) (es : List (List ℕ)) (n : ℕ) → sound before es ≡ true → wellFormed (getD es n []) ≡ true
+unfolding sound usable
+formed-at before [] n s = formed-nothing
+formed-at before (e ∷ es) zero s = formed (blank e) (wellFormed e) (holds (usable e) _ s .0)
+  where
+    formed : (b w : Bool) → cond b false w ≡ true → w ≡ true
+    formed true w k = absurd (true-is-not-false (sym k))
+    formed false w k = k
+formed-at before (e ∷ es) (suc n) s = formed-at e es n (rest (sameBytes before e) _ (holds (usable e) _ s .1))
+  where
+    rest : (p q : Bool) → cond p false q ≡ true → q ≡ true
+    rest true q k = absurd (true-is-not-false (sym k))
+    rest false q k = k
+
+formed-content : (l : List ℕ) → wellFormed l ≡ true → content l ≡ l
+unfolding content
+formed-content l w = then-is _ _ _ w
+
+-- what the Rust makes a `str` of is our content
+pub str-is : (l : List ℕ) → utf8OrEmpty l ≡ content l
+unfolding utf8OrEmpty isUtf8 content wellFormed
+str-is l = ap (λ (t : Bool). cond t l []) (by (eqb (wellFormedLength l) (length l)) refl)
+  where
+    by : (t : Bool) → eqb (wellFormedLength l) (length l) ≡ t → not (ltb (wellFormedLength l) (length l)) ≡ t
+    by true q = let e = eqb-true (wellFormedLength l) (length l) q in ap not (le-ltb (wellFormedLength l) (length l) (omega arith))
+    by false q =
+        let e = eqb-false (wellFormedLength l) (length l) q in
+        let k = prefix-fits l in
+        ap not (lt-ltb (wellFormedLength l) (length l) (omega arith))
+
+-- bytes that are shown, and a line that is run
+one-write : (bytes : List ℕ) → (length bytes ≡ 0 → ⊥) → writes bytes ∷ [] ≡ written bytes
+one-write [] n = absurd (n refl)
+one-write (b ∷ bytes) n = refl
+
+one-run : (prompt bytes line : List ℕ) → (length line ≡ 0 → ⊥) → writes bytes ∷ runs (utf8OrEmpty line) line ∷ writes prompt ∷ [] ≡ atEnter prompt bytes line
+one-run prompt bytes [] n = absurd (n refl)
+one-run prompt bytes (b ∷ line) n = refl
+
+line-feed : println [] ≡ lineFeed
+unfolding println ascii
+line-feed = refl
+
+redrawn-as : (prompt text : List ℕ) (u : State) → text ≡ content (u .line) → clearLineAndRedraw prompt text (u .cursor) ≡ redrawn prompt u
+unfolding redrawn
+redrawn-as prompt text u e = same-redraw prompt text (u .cursor) ∙ ap (λ (l : List ℕ). redraw prompt l (u .cursor)) e
+
+some-redrawn : (prompt : List ℕ) (u : State) → length (redrawn prompt u) ≡ 0 → ⊥
+unfolding redrawn redraw
+some-redrawn prompt u e = omega arith
+
+module _ (prompt : List ℕ) (s : State) (f : Fine s) where
+  -- nothing but another state
+  quiet : (u : State) → Same prompt (turned (shellOf u) []) (showing u [])
+  quiet u = record { loop = refl; tidy = refl }
+
+  -- a line drawn anew, in a shell that holds it
+  redraws : (u : State) (sh : Shell) (text : List ℕ) (n : ℕ) → sh ≡ shellOf u → text ≡ content (u .line) → n ≡ u .cursor
+      → Same prompt (turned sh (writes (clearLineAndRedraw prompt text n) ∷ [])) (redrawing prompt u)
+  redraws u sh text n p q r =
+      record {
+        loop = loops p
+            (ap (λ (k : ℕ). writes (clearLineAndRedraw prompt text k) ∷ []) r
+            ∙ ap (λ (bytes : List ℕ). writes bytes ∷ []) (redrawn-as prompt text u q)
+            ∙ one-write (redrawn prompt u) (some-redrawn prompt u));
+        tidy = refl;
+      }
+
+  module _ (m : s .mode ≡ Typing) where
+    -- in the mode Normal the state says so
+    edited : (l : List ℕ) (c : ℕ)
+        → Same prompt (turned (record { buf = l; cursor = c; input = inputOf (s .mode); history = original (s .entries) (s .place) }) (writes (clearLineAndRedraw prompt (utf8OrEmpty l) c) ∷ []))
+        (redrawing prompt (withLine s l c))
+    edited l c = redraws (withLine s l c) _ (utf8OrEmpty l) c (shells refl refl (ap inputOf m) refl) (str-is l) refl
+
+    same-enter : Same prompt (crlf prompt (shellOf s)) (enter s)
+    unfolding crlf enter
+    same-enter =
+        none-or prompt (length (s .line)) _ _ _ _
+        (λ e. record { loop = loops refl (ap (λ (bytes : List ℕ). writes bytes ∷ writes prompt ∷ []) line-feed); tidy = tt })
+        (λ n. record {
+          loop = loops (shells refl refl (ap inputOf m) (ap (addCommand (original (s .entries) (s .place))) (str-is (s .line)) ∙ add-is (s .entries) (s .place) (content (s .line))))
+              (ap (λ (bytes : List ℕ). writes bytes ∷ runs (utf8OrEmpty (s .line)) (s .line) ∷ writes prompt ∷ []) line-feed ∙ one-run prompt lineFeed (s .line) n);
+          tidy = tt;
+        })
+
+    same-erase : Same prompt (bsdl prompt (shellOf s)) (erase prompt s)
+    unfolding bsdl erase erased
+    same-erase = none-or prompt (s .cursor) _ _ _ _ (λ e. quiet s) (λ n. edited _ (s .cursor - 1))
+
+    same-insert : (c : ℕ) → Same prompt (other prompt (shellOf s) c) (insert prompt s c)
+    unfolding other insert inserted limit
+    same-insert c = both prompt (ltb (length (s .line)) 255) _ _ _ _ (λ q. edited _ (s .cursor + 1)) (λ q. record { loop = refl; tidy = (refl, refl) })
+
+    same-normal : (c : ℕ) → Same prompt (normal prompt (shellOf s) c) (typed prompt s c)
+    unfolding normal typed
+    same-normal c =
+        both prompt (eqb c 0x0D) _ _ _ _ (λ q. same-enter)
+        (λ q. both prompt (eqb c 0x0A) _ _ _ _ (λ q. same-enter)
+        (λ q. both prompt (eqb c 0x08) _ _ _ _ (λ q. same-erase)
+        (λ q. both prompt (eqb c 0x7F) _ _ _ _ (λ q. same-erase)
+        (λ q. both prompt (eqb c 0x1B) _ _ _ _ (λ q. quiet (inMode s Escape))
+        (λ q. both prompt (ltb c 0x20) _ _ _ _ (λ q. quiet s)
+        (λ q. same-insert c))))))
+
+  -- after ESC `[` typing goes on
+  recalled-same : (n : ℕ) → Same prompt (recalledIn prompt (original (s .entries) n) (getD (s .entries) n [])) (recalling prompt (inMode s Typing) n)
+  unfolding recalledIn
+  recalled-same n =
+      let cmd : List ℕ = getD (s .entries) n [] in
+      let short = short-at (s .entries) n (f .entries .short) in
+      let all : min (length cmd) 255 ≡ length cmd = omega arith in
+      redraws (atPlace (withLine (inMode s Typing) cmd (length cmd)) n) _ cmd _
+      (shells (ap (λ (k : ℕ). take k cmd) all ∙ take-all (length cmd) cmd (omega arith)) all refl refl) (sym (formed-content cmd (formed-at [] (s .entries) n (f .entries .is-sound)))) all
+
+  cleared-same : (n : ℕ)
+      → Same prompt (turned (record { buf = []; cursor = 0; input = Normal; history = original (s .entries) n }) (writes (clearLineAndRedraw prompt [] 0) ∷ []))
+      (redrawing prompt (atPlace (withLine (inMode s Typing) [] 0) n))
+  cleared-same n = redraws (atPlace (withLine (inMode s Typing) [] 0) n) _ [] 0 refl (sym (formed-content [] formed-nothing)) refl
+
+  same-a : Same prompt (keyA prompt (shellOf s)) (up prompt (inMode s Typing))
+  unfolding keyA up
+  same-a = rw (previous-is (s .entries) (s .place) (f .placed)) (by (eqb (s .place) 0))
+    where
+      made : Stepped → Loop
+      made p = ifSome (p .text) (recalledIn prompt (p .after)) (turned (record { buf = s .line; cursor = s .cursor; input = Normal; history = p .after }) [])
+
+      by : (t : Bool) → Same prompt (made (cond t (record { after = original (s .entries) (s .place); text = none }) (record { after = original (s .entries) (s .place - 1); text = some (getD (s .entries) (s .place - 1) []) })))
+          (cond t (showing (inMode s Typing) []) (recalling prompt (inMode s Typing) (s .place - 1)))
+      by true = quiet (inMode s Typing)
+      by false = recalled-same (s .place - 1)
+
+  same-b : Same prompt (keyB prompt (shellOf s)) (down prompt (inMode s Typing))
+  unfolding keyB down onPlace
+  same-b = rw (next-is (s .entries) (s .place) (f .placed)) (by (ltb (s .place) (length (s .entries))) (ltb (s .place + 1) (length (s .entries))) refl refl)
+    where
+      made : Stepped → Loop
+      made p = ifSome (p .text) (recalledIn prompt (p .after)) (turned (record { buf = []; cursor = 0; input = Normal; history = p .after }) (writes (clearLineAndRedraw prompt [] 0) ∷ []))
+
+      turn : ℕ → Turn
+      turn n = cond (ltb n (length (s .entries))) (recalling prompt (inMode s Typing) n) (redrawing prompt (atPlace (withLine (inMode s Typing) [] 0) n))
+
+      by : (t u : Bool) → ltb (s .place) (length (s .entries)) ≡ t → ltb (s .place + 1) (length (s .entries)) ≡ u
+          → Same prompt (made (cond t (record { after = original (s .entries) (s .place + 1); text = cond u (some (getD (s .entries) (s .place + 1) [])) none }) (record { after = original (s .entries) (s .place); text = none })))
+          (turn (cond t (s .place + 1) (s .place)))
+      by true true p q = rw q (recalled-same (s .place + 1))
+      by true false p q = rw q (cleared-same (s .place + 1))
+      by false u p q = rw p (cleared-same (s .place))
+
+  same-c : Same prompt (keyC (shellOf s)) (right (inMode s Typing))
+  unfolding keyC right
+  same-c = both prompt (ltb (s .cursor) (length (s .line))) _ _ _ _ (λ q. record { loop = refl; tidy = refl }) (λ q. quiet (inMode s Typing))
+
+  same-d : Same prompt (keyD (shellOf s)) (left (inMode s Typing))
+  unfolding keyD left
+  same-d = none-or prompt (s .cursor) _ _ _ _ (λ e. quiet (inMode s Typing)) (λ n. record { loop = refl; tidy = refl })
+
+  same-sequence : (c : ℕ) → Same prompt (escapeSeq prompt (shellOf s) c) (sequenced prompt (inMode s Typing) c)
+  unfolding escapeSeq sequenced
+  same-sequence c =
+      both prompt (eqb c 0x41) _ _ _ _ (λ q. same-a)
+      (λ q. both prompt (eqb c 0x42) _ _ _ _ (λ q. same-b)
+      (λ q. both prompt (eqb c 0x43) _ _ _ _ (λ q. same-c)
+      (λ q. both prompt (eqb c 0x44) _ _ _ _ (λ q. same-d)
+      (λ q. quiet (inMode s Typing)))))
+
+  same-escape : (c : ℕ) → Same prompt (escape (shellOf s) c) (escaped s c)
+  unfolding escape escaped
+  same-escape c = by (eqb c 0x5B)
+    where
+      by : (t : Bool) → Same prompt (turned (record { buf = s .line; cursor = s .cursor; input = cond t EscapeSeq Normal; history = original (s .entries) (s .place) }) [])
+          (showing (inMode s (cond t Sequence Typing)) [])
+      by true = quiet (inMode s Sequence)
+      by false = quiet (inMode s Typing)
+
+  in-mode : (c : ℕ) (m : Mode) → s .mode ≡ m → Same prompt (rustIn (inputOf m) prompt (shellOf s) c) (turnIn m prompt s c)
+  unfolding rustIn turnIn
+  in-mode c Typing e = same-normal e c
+  in-mode c Escape e = same-escape c
+  in-mode c Sequence e = same-sequence c
+
+  -- the Rust's loop and ours, in every state within the rules and for every byte
+  pub same-key : (c : ℕ) → Same prompt (rustKey prompt (shellOf s) c) (turnOf prompt s c)
+  unfolding rustKey turnOf
+  same-key c = in-mode c (s .mode) refl
+
+-- what the events of a turn say: the bytes that are written first are those shown, and the line that is run is that submitted
+first-written : (bytes : List ℕ) → firstBytes (written bytes) ≡ bytes
+first-written [] = refl
+first-written (b ∷ bytes) = refl
+
+none-run : (bytes : List ℕ) → lineRun (written bytes) ≡ []
+none-run [] = refl
+none-run (b ∷ bytes) = refl
+
+line-run : (prompt line : List ℕ) → lineRun (entered line ++ (writes prompt ∷ [])) ≡ line
+line-run prompt [] = refl
+line-run prompt (b ∷ line) = refl
+
+module _ (prompt : List ℕ) (t : Turn) where
+  first-shown : (q : Kind) → Tidy t q → firstBytes (eventsBy prompt t q) ≡ t .screen
+  first-shown shows e = first-written (t .screen)
+  first-shown enters e = refl
+  first-shown drops e = sym (e .0)
+
+  run-submitted : (q : Kind) → Tidy t q → lineRun (eventsBy prompt t q) ≡ t .submitted
+  run-submitted shows e = none-run (t .screen) ∙ sym e
+  run-submitted enters e = line-run prompt (t .submitted)
+  run-submitted drops e = sym (e .1)
+
+  -- an answer by the kind
+  told-as : (q : Kind) → Tidy t q → ToldAs prompt (eventsBy prompt t q) (taken t q)
+  told-as shows e = (sym (ap length (first-shown shows e)), ap written (sym (first-shown shows e)))
+  told-as enters e = (sym (ap length (run-submitted enters e)), ap (atEnter prompt (t .screen)) (sym (run-submitted enters e)))
+  told-as drops e = refl
+
+-- a key that is taken in a good state does what one turn of the Rust's loop does
+module _ (e : Editor) (h : History) (slots prompt : List ℕ) (byte : ℕ) (line screen : List ℕ) (k : Key) (slots′ line′ screen′ : List ℕ)
+    (p : Pressing e h slots prompt byte line screen k slots′ line′ screen′) (is : refused (k .answer) ≡ false) (g : goodState e h slots ≡ true) where
+  turn : Turn
+  turn = turnOf prompt (stateOf e h slots) byte
+
+  answered : k .answer ≡ taken turn (turn .kind)
+  unfolding turn
+  answered = key-taken e h slots prompt byte line screen k slots′ line′ screen′ p is
+
+  pub presses-as : PressesAs prompt (rustKey prompt (shellOf (stateOf e h slots)) byte) line screen (shellOf (stateOf (k .editor) (k .history) slots′)) (k .answer) line′ screen′
+  unfolding turn
+  presses-as =
+      let same = same-key prompt (stateOf e h slots) (fine-of e h slots g) byte in
+      rw (same .loop, answered)
+      (record {
+        state = ap shellOf (state-after e h slots prompt byte line screen k slots′ line′ screen′ p is g);
+        answer = told-as prompt turn (turn .kind) (same .tidy);
+        given = p .given ∙ else-is _ _ _ is ∙ ap (λ (l : List ℕ). over l line) (sym (run-submitted prompt turn (turn .kind) (same .tidy)));
+        shown = p .shown ∙ else-is _ _ _ is ∙ ap (λ (l : List ℕ). over l screen) (sym (first-shown prompt turn (turn .kind) (same .tidy)));
+      })
