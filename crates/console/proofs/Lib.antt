@@ -1,2 +1,2 @@
--- Laws of the program `console`.
-mod Stepping
+-- The laws of the program `console` that belong to no one function.
+pub mod Turning

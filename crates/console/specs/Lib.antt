@@ -1,2 +1,2 @@
--- Definitions of the program `console`: where it is after its steps. Reading and writing themselves have no definition here.
-pub mod Steps
+-- Definitions of the program `console`: what a turn of its loop leaves. Reading and writing themselves have no definition here.
+pub mod Turns

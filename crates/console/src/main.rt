@@ -1,8 +1,7 @@
-// The console: reads house lines from standard input, and writes what its session prints to standard output.
-mod feeding;
-mod output;
-mod reading;
+// The console: reads house lines from standard input, and writes what their session prints to standard output. All that needs no system call is in `stream`.
+mod channels;
+mod turns;
 
 fn main() {
-    reading::all();
+    turns::run();
 }

@@ -198,6 +198,7 @@ step-whole s piece out line image slots q slots′ out′ m r line″ image″ s
       bytes = made .bytes ∙ overAt-front (linesOf (w .move .prints)) out;
       took = p .took;
       left = p .left ∙ on .1;
+      outs = p .outs ∙ m .outs;
       sound = p .sound;
     }
 

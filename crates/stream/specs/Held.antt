@@ -145,6 +145,7 @@ pub record Stepped (went : Went) (piece out : List ℕ) (r : Step) (line′ imag
   pub bytes : out′ ≡ over (linesOf (went .move .prints)) out
   pub took : r .took ≤ length piece
   pub left : drop (r .took) piece ≡ went .left
+  pub outs : length out′ ≡ length out
   pub sound : Sound (r .stream) line′ image′ slots′
 
 -- at the input's end

@@ -1,0 +1,167 @@
+// Read, step, write: the loop of the console.
+use crate::channels::Got;
+use crate::channels::read_piece;
+use crate::channels::write_out;
+use image::part;
+use image::rest;
+use stream::Stream;
+use stream::finish;
+use stream::step;
+ghost use mathlib.Core.Path.{_≡_};
+ghost use mathlib.Core.Bool.{true, false};
+ghost use mathlib.Core.List.{[]};
+ghost use Prim.Native.Nat.{_≤_};
+ghost use lib.ListN.{length};
+ghost use Rattle.history.specs.Slots.{layout};
+ghost use Rattle.stream.specs.Bytes.{lineRoom};
+ghost use Rattle.stream.specs.Moves.{stepBy};
+ghost use Rattle.stream.specs.Held.{standOf};
+ghost use Rattle.console.specs.Turns.{starting, stopped, pieceOf, Ready, ReadOn, Turned};
+
+// The stream, where what is left of the piece that was read lies in its buffer, and whether the console is at its end.
+pub struct Console {
+    pub stream: Stream,
+    pub at: usize,
+    pub end: usize,
+    pub over: bool,
+}
+
+impl Console {
+    // With nothing read yet.
+    fn start() -> Console
+        ensures { λ r. ⌜ r ≡ starting ⌝ }
+    {
+        Console {
+            stream: Stream::start(),
+            at: 0,
+            end: 0,
+            over: false,
+        }
+    }
+
+    // At its end: nothing is read or written any more.
+    fn stopped(stream: Stream) -> Console
+        ensures { λ r. ⌜ r ≡ stopped stream ⌝ }
+    {
+        Console {
+            stream,
+            at: 0,
+            end: 0,
+            over: true,
+        }
+    }
+}
+
+// Reads the next piece. At the input's end a line that is not at its end is told; a read that failed is not the input's end.
+fn read_on(stream: Stream, input: &mut [u8], out: &mut [u8]) -> Console
+    requires { ⌜ (stream .session .lines ≤ 65535) × (7 ≤ length (now out)) ⌝ }
+    ensures { λ r. ⌜ ReadOn stream (now (input .entry)) (now (out .entry)) r (now (input .exit)) (now (out .exit)) ⌝ }
+{
+    match read_piece(input) {
+        Got::Bytes(n) => Console {
+            stream,
+            at: 0,
+            end: n,
+            over: false,
+        },
+        Got::End => {
+            let n = finish(stream, out);
+            write_out(part(out, 0, n));
+            Console::stopped(stream)
+        }
+        Got::Failed => Console::stopped(stream),
+    }
+}
+
+// A step over what is left of the piece; what it prints is written before anything more is read, and after a write that failed nothing is.
+fn turn(
+    console: Console,
+    input: &mut [u8],
+    line: &mut [u8],
+    image: &mut [u8],
+    slots: &mut [u8],
+    out: &mut [u8],
+) -> Console
+    requires { ⌜ Ready console (now input) (now line) (now image) (now slots) (now out) ⌝ }
+    ensures { λ r. ⌜ Turned console (stepBy (length (now (out .entry))) (standOf (console .stream) (now (line .entry)) (now (image .entry)) (now (slots .entry))) (pieceOf console (now (input .entry)))) (now (input .entry)) r (now (input .exit)) (now (line .exit)) (now (image .exit)) (now (slots .exit)) (now (out .exit)) ⌝ }
+{
+    let at = console.at;
+    let end = console.end;
+    let piece = rest(part(input, 0, end), at);
+    let made = step(console.stream, piece, line, image, slots, out);
+    let stream = made.stream;
+    let next = at + made.took;
+    if !write_out(part(out, 0, made.printed)) {
+        return Console::stopped(stream);
+    }
+    if stream.over {
+        return Console::stopped(stream);
+    }
+    if next < end {
+        return Console {
+            stream,
+            at: next,
+            end,
+            over: false,
+        };
+    }
+    if stream.is_busy() {
+        return Console {
+            stream,
+            at: next,
+            end,
+            over: false,
+        };
+    }
+    read_on(stream, input, out)
+}
+
+// Turns up to the end. A proved loop has to end and an input need not, so turns are counted down from a number that no run uses up.
+fn turns(input: &mut [u8], line: &mut [u8], image: &mut [u8], slots: &mut [u8], out: &mut [u8])
+    requires { ⌜ (length (now input) ≡ 65536) × (length (now line) ≡ lineRoom) × (length (now image) ≡ 32768) × (now slots ≡ layout []) × (length (now out) ≡ 262202) ⌝ }
+{
+    let mut console = Console::start();
+    let mut left = u64::MAX;
+    while left > 0 {
+        if console.over {
+            return;
+        }
+        console = turn(console, input, line, image, slots, out);
+        left -= 1;
+    }
+}
+
+// No entry.
+fn blank_slots() -> [u8; 25600]
+    ensures { λ r. ⌜ r ≡ layout [] ⌝ }
+{
+    [0; 25600]
+}
+
+fn blank_image() -> [u8; 32768]
+    ensures { λ r. ⌜ length r ≡ 32768 ⌝ }
+{
+    [0; 32768]
+}
+
+fn blank_line() -> [u8; 1026]
+    ensures { λ r. ⌜ length r ≡ lineRoom ⌝ }
+{
+    [0; 1026]
+}
+
+// Room for what two keys may print.
+fn blank_out() -> [u8; 262202]
+    ensures { λ r. ⌜ length r ≡ 262202 ⌝ }
+{
+    [0; 262202]
+}
+
+pub fn run() {
+    let mut input = io::large_buffer();
+    let mut line = blank_line();
+    let mut image = blank_image();
+    let mut slots = blank_slots();
+    let mut out = blank_out();
+    turns(&mut input, &mut line, &mut image, &mut slots, &mut out);
+}
