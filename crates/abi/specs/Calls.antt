@@ -15,9 +15,7 @@ use Rattle.editor.specs.declared.drawing.Pressed.the-variants.{Shown, Entered, 
 use Rattle.editor.specs.Line.{freshEditor}
 use Rattle.editor.specs.Answer.{slotsOf, refused, number as keyNumber, value as keyValue}
 use Rattle.saved.specs.State.{savedOf, historyIn}
-use Rattle.saved.specs.Calls.{beginAnswer, isReady, turnIn, pressAnswer, savedAfter, savedAnswer, stateBy}
-use Rattle.saved.specs.declared.calls.Begun.{Begun}
-use Rattle.saved.specs.declared.calls.Begun.the-variants.{Ready, NoRoom as NoSpace}
+use Rattle.saved.specs.Calls.{beginAnswer, isReady, turnIn, pressAnswer, savedAfter, savedAnswer, stateBy, number as beginNumber, value as beginValue}
 use Rattle.tree.specs.Rules.{checkTree}
 use Rattle.tree.specs.Answer.{number as treeNumber, value as treeValue}
 use Rattle.parse.specs.Answer.{parseAnswer, parseLeaves, number as parseNumber, value as parseValue}
@@ -34,17 +32,8 @@ pub record QuoteCall (words out : List ℕ) (r : ℕ) (left : List ℕ) : Type 0
   pub answer : r ≡ plain (quoteNumber (quoteAnswer words (length out))) (quoteValue (quoteAnswer words (length out)))
   pub bytes : left ≡ quoteLeaves words out
 
--- a fresh session: the refusal's number (0: none), and the value that goes with it
-abbrev pub freshNumber : Begun → ℕ
-freshNumber Ready = 0
-freshNumber (NoSpace n) = 9
-
-abbrev pub freshValue : Begun → ℕ
-freshValue Ready = 0
-freshValue (NoSpace n) = n
-
 pub record FreshCall (state slots : List ℕ) (r : ℕ) (state′ slots′ : List ℕ) : Type 0 where
-  pub answer : r ≡ plain (freshNumber (beginAnswer (length state) (length slots))) (freshValue (beginAnswer (length state) (length slots)))
+  pub answer : r ≡ plain (beginNumber (beginAnswer (length state) (length slots))) (beginValue (beginAnswer (length state) (length slots)))
   pub kept : state′ ≡ cond (isReady (beginAnswer (length state) (length slots))) (savedOf freshEditor (atEnd 0)) state
   pub held : slots′ ≡ cond (isReady (beginAnswer (length state) (length slots))) (layout []) slots
 

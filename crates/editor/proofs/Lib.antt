@@ -11,3 +11,4 @@ pub mod Always
 pub mod Fine
 pub mod Original
 pub mod Called
+pub mod Lasting

@@ -19,7 +19,7 @@ use history::recall;
 
 impl Editor {
     // Up: a step back through history.
-    pub fn up(self, history: History, slots: &[u8], prompt: &[u8], screen: &mut [u8]) -> Key
+    pub(crate) fn up(self, history: History, slots: &[u8], prompt: &[u8], screen: &mut [u8]) -> Key
         requires { ⌜ (goodState self history (now slots) ≡ true) × (length (now prompt) ≤ 128) ⌝ }
         ensures { λ r. ⌜ Acts self history (up (now (prompt .entry)) (inMode (stateOf self history (now (slots .entry))) Mode.Typing)) (now (screen .entry)) r (now (screen .exit)) ⌝ }
     {
@@ -44,7 +44,13 @@ impl Editor {
     }
 
     // Down: a step on through history, and to an empty line behind the newest entry.
-    pub fn down(self, history: History, slots: &[u8], prompt: &[u8], screen: &mut [u8]) -> Key
+    pub(crate) fn down(
+        self,
+        history: History,
+        slots: &[u8],
+        prompt: &[u8],
+        screen: &mut [u8],
+    ) -> Key
         requires { ⌜ (goodState self history (now slots) ≡ true) × (length (now prompt) ≤ 128) ⌝ }
         ensures { λ r. ⌜ Acts self history (down (now (prompt .entry)) (inMode (stateOf self history (now (slots .entry))) Mode.Typing)) (now (screen .entry)) r (now (screen .exit)) ⌝ }
     {
@@ -65,7 +71,7 @@ impl Editor {
     }
 
     // Right: the cursor goes on by a byte, unless it stands at the end.
-    pub fn right(self, history: History, screen: &mut [u8]) -> Key
+    pub(crate) fn right(self, history: History, screen: &mut [u8]) -> Key
         requires { ⌜ goodLine self ≡ true ⌝ }
         ensures { λ r. ⌜ ActsFor (λ slots. right (inMode (stateOf self history slots) Mode.Typing)) self history (now (screen .entry)) r (now (screen .exit)) ⌝ }
     {
@@ -82,7 +88,7 @@ impl Editor {
     }
 
     // Left: the cursor goes back by a byte, unless it stands at the beginning.
-    pub fn left(self, history: History, screen: &mut [u8]) -> Key
+    pub(crate) fn left(self, history: History, screen: &mut [u8]) -> Key
         requires { ⌜ goodLine self ≡ true ⌝ }
         ensures { λ r. ⌜ ActsFor (λ slots. left (inMode (stateOf self history slots) Mode.Typing)) self history (now (screen .entry)) r (now (screen .exit)) ⌝ }
     {

@@ -20,7 +20,7 @@ use history::offer;
 
 impl Editor {
     // The line is offered to history and submitted; an empty one touches nothing.
-    pub fn enter(
+    pub(crate) fn enter(
         self,
         history: History,
         slots: &mut [u8],
@@ -58,7 +58,7 @@ impl Editor {
     }
 
     // The byte before the cursor goes.
-    pub fn erase_key(self, history: History, prompt: &[u8], screen: &mut [u8]) -> Key
+    pub(crate) fn erase_key(self, history: History, prompt: &[u8], screen: &mut [u8]) -> Key
         requires { ⌜ (goodLine self ≡ true) × (self .mode ≡ Mode.Typing) × (length (now prompt) ≤ 128) ⌝ }
         ensures { λ r. ⌜ ActsFor (λ slots. erase (now (prompt .entry)) (stateOf self history slots)) self history (now (screen .entry)) r (now (screen .exit)) ⌝ }
     {
@@ -73,7 +73,13 @@ impl Editor {
     }
 
     // A byte comes; a full line drops it.
-    pub fn insert_key(self, history: History, prompt: &[u8], byte: u8, screen: &mut [u8]) -> Key
+    pub(crate) fn insert_key(
+        self,
+        history: History,
+        prompt: &[u8],
+        byte: u8,
+        screen: &mut [u8],
+    ) -> Key
         requires { ⌜ (goodLine self ≡ true) × (self .mode ≡ Mode.Typing) × (length (now prompt) ≤ 128) ⌝ }
         ensures { λ r. ⌜ ActsFor (λ slots. insert (now (prompt .entry)) (stateOf self history slots) byte) self history (now (screen .entry)) r (now (screen .exit)) ⌝ }
     {

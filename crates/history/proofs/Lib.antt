@@ -8,3 +8,4 @@ pub mod Answers
 pub mod Kept
 pub mod Original
 pub mod Called
+pub mod Lasting

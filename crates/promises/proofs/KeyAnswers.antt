@@ -3,7 +3,7 @@ use Prim.Native.Nat.{ℕ, min}
 use mathlib.Core.Path.{_≡_, refl, ap, _∙_}
 use mathlib.Core.Bool.{Bool, true, false, cond, not}
 use mathlib.Core.List.{List, [], _∷_}
-use lib.Dec.{ltb, eqb}
+use lib.Dec.{ltb}
 use lib.ListN.{length}
 use Rattle.buffer.specs.Write.{over}
 use Rattle.text.specs.Decoding.{wellFormedLength}
@@ -24,10 +24,8 @@ use Rattle.editor.specs.Keys.{Kind, shows, enters, drops, Turn, turnOf}
 use Rattle.editor.specs.Answer.{stateOf, editorOf, historyOf, slotsOf, goodState, goodPrompt, taken, turnAnswer, keyAnswer, refused, Pressing, number as pressedNumber, value as pressedValue}
 use Rattle.editor.proofs.Called.{shown-counted}
 use Rattle.saved.specs.State.{savedOf, isState, editorIn, historyIn, goodSaved}
-use Rattle.saved.specs.Calls.{beginAnswer, isReady, Beginning, turnIn, pressAnswer, savedAfter, SavedKey, savedAnswer, stateBy, SavedAdd}
+use Rattle.saved.specs.Calls.{beginAnswer, isReady, Beginning, turnIn, pressAnswer, savedAfter, SavedKey, savedAnswer, stateBy, SavedAdd, number as begunNumber, value as begunValue}
 use Rattle.saved.specs.declared.calls.Begun.{Begun}
-use Rattle.saved.specs.declared.calls.Begun.the-variants.{Ready, NoRoom as NoSpace}
-use Rattle.abi.specs.Calls.{freshNumber, freshValue}
 use Rattle.promises.proofs.Tables.{Told, told, Row, row, first, lacks, either, telling, pair}
 
 -- ADD_COMMAND: 12, 13, 3. A refusal keeps the record and the slots.
@@ -212,25 +210,25 @@ saved-add-tells state slots text r state′ slots′ p =
     by true false h l w = refl
     by false g h l w = refl
 
--- BEGIN: 9, the state's buffer first; each has exactly one right length
+-- BEGIN: 9 for a buffer that is too short, the state's first; then 12 for one that is too long, since another length is no state's
 unfoldable pub beginTable : List ℕ → List ℕ → Told (List ℕ × List ℕ)
 beginTable state slots =
     first
-    (row 9 (not (eqb (length state) 260)) 260 (state, slots)
-    ∷ row 9 (not (eqb (length slots) 25600)) 25600 (state, slots)
+    (row 9 (ltb (length state) 260) 260 (state, slots)
+    ∷ row 9 (ltb (length slots) 25600) 25600 (state, slots)
+    ∷ row 12 (ltb 260 (length state)) 0 (state, slots)
+    ∷ row 12 (ltb 25600 (length slots)) 0 (state, slots)
     ∷ [])
     (told 0 0 (savedOf freshEditor (atEnd 0), layout []))
 
 pub begin-tells : (state slots : List ℕ) (r : Begun) (state′ slots′ : List ℕ) → Beginning state slots r state′ slots′
-    → told (freshNumber r) (freshValue r) (state′, slots′) ≡ beginTable state slots
+    → told (begunNumber r) (begunValue r) (state′, slots′) ≡ beginTable state slots
 unfolding beginTable first beginAnswer
 begin-tells state slots r state′ slots′ p =
-    ap (told (freshNumber r) (freshValue r)) (pair (p .kept) (p .held)) ∙ ap tells (p .answer) ∙ by (eqb (length state) 260) (eqb (length slots) 25600)
+    ap (told (begunNumber r) (begunValue r)) (pair (p .kept) (p .held))
+    ∙ ap tells (p .answer)
+    ∙ either tells (ltb (length state) 260) _ _ _ _ refl
+    (either tells (ltb (length slots) 25600) _ _ _ _ refl (either tells (ltb 260 (length state)) _ _ _ _ refl (either tells (ltb 25600 (length slots)) _ _ _ _ refl refl)))
   where
     tells : Begun → Told (List ℕ × List ℕ)
-    tells x = told (freshNumber x) (freshValue x) (cond (isReady x) (savedOf freshEditor (atEnd 0)) state, cond (isReady x) (layout []) slots)
-
-    by : (a b : Bool) → tells (cond a (cond b Ready (NoSpace 25600)) (NoSpace 260)) ≡ cond (not a) (told 9 260 (state, slots)) (cond (not b) (told 9 25600 (state, slots)) (tells Ready))
-    by true true = refl
-    by true false = refl
-    by false b = refl
+    tells x = told (begunNumber x) (begunValue x) (cond (isReady x) (savedOf freshEditor (atEnd 0)) state, cond (isReady x) (layout []) slots)

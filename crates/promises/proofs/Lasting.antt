@@ -13,12 +13,17 @@ use Rattle.editor.specs.Line.{limit}
 use Rattle.editor.specs.Answer.{goodState, goodPrompt, refused, Pressing}
 use Rattle.editor.proofs.Fine.{stays-good}
 use Rattle.editor.proofs.Called.{dropped, typing-back}
+use Rattle.editor.proofs.Lasting.{Reached as ReachedByValue, never-reached-bad as never-reached-bad-by-value}
 use Rattle.saved.specs.State.{goodSaved}
 use Rattle.saved.proofs.Lasting.{Reached, never-reached-bad}
 
--- NO BAD STATE: what keys and adds reach from a fresh session (`Reached`: in any order, each with its own buffers, refused or not) is good
+-- NO BAD STATE: what the public calls reach (`Reached`: in any order, each with its own buffers, refused or not) is good. As saved states: `begin`, `press`, `add`.
 pub never-bad : (state slots : List ℕ) → Reached state slots → goodSaved state slots ≡ true
 never-bad = never-reached-bad
+
+-- By value: `Editor::fresh`, `recalled` and `key`, `History::fresh`, `fresh_in`, `previous` and `next`, `offer`, `add_command`.
+pub never-bad-by-value : (e : Editor) (h : History) (slots : List ℕ) → ReachedByValue e h slots → goodState e h slots ≡ true
+never-bad-by-value = never-reached-bad-by-value
 
 module _ (e : Editor) (h : History) (slots prompt : List ℕ) (byte : ℕ) (line screen : List ℕ) (k : Key) (slots₁ line₁ screen₁ : List ℕ)
     (first : Pressing e h slots prompt byte line screen k slots₁ line₁ screen₁) where

@@ -14,7 +14,7 @@ use Rattle.buffer.proofs.Writing.{pushed-both}
 use Rattle.buffer.specs.Write.{over, Pushed}
 use Rattle.history.specs.declared.past.History.{History}
 use Rattle.history.specs.Answer.{atEnd}
-use Rattle.history.specs.Slots.{zeros, run, layout}
+use Rattle.history.specs.Slots.{zeros}
 use Rattle.history.proofs.States.{holds, good-has}
 use Rattle.editor.specs.declared.line.Mode.{Mode}
 use Rattle.editor.specs.declared.line.Mode.the-variants.{Typing, Escape, Sequence}
@@ -113,10 +113,6 @@ saved-restored s h =
 pub fresh-zeros : savedOf freshEditor (atEnd 0) ≡ zeros 260
 unfolding savedOf modeNumber freshEditor holding padded limit zeros
 fresh-zeros = refl
-
-pub no-entries : layout [] ≡ zeros 25600
-unfolding layout run
-no-entries = refl
 
 -- the numbers of a good state are bytes
 abbrev pub Fits : Editor → History → Type 0

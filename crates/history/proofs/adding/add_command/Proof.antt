@@ -1,6 +1,6 @@
 -- `history::adding::add_command` meets its contract.
 use borrow.Author.Needs.{needs}
-use Rattle.history.proofs.Answers.{answer-bad, answer-long, answer-ill, answer-done, addition}
+use Rattle.history.proofs.Answers.{formed-whole, answer-bad, answer-long, answer-ill, answer-done, addition}
 use Rattle.history.specs.declared.adding.Added.the-variants.{Done, BadState, TooLong, IllFormed}
 use borrow.Author.Tests.{not-true, not-false}
 use mathlib.Core.Path.{refl, sym, ap, _∙_}
@@ -33,7 +33,7 @@ returns-3 : tie.Need-returns-3
 returns-3 c = addition (c .before .before .before .before .before .before .before .before .args .history) (c .before .before .before .before .before .before .before .before .args .slots .now) (c .before .before .before .before .before .before .before .before .args .text .now) (IllFormed (c .before .well-formed-prefix .result)) _ _ (answer-ill _ _ _ (sym (c .before .before .before .before .is-good .ensures) ∙ not-false (c .before .before .before .before .is-good .result) (c .before .before .before .if1 .left)) (c .before .before .if2 .left) (λ e. c .if3 .taken (c .before .well-formed-prefix .ensures ∙ e)) ∙ ap IllFormed (sym (c .before .well-formed-prefix .ensures))) refl refl
 
 offer-requires : tie.Need-offer-requires
-offer-requires c κs = (sym (c .before .before .before .before .before .is-good .ensures) ∙ not-false (c .before .before .before .before .before .is-good .result) (c .before .before .before .before .if1 .left), c .before .before .before .if2 .left)
+offer-requires c κs = (sym (c .before .before .before .before .before .is-good .ensures) ∙ not-false (c .before .before .before .before .before .is-good .result) (c .before .before .before .before .if1 .left), (c .before .before .before .if2 .left, formed-whole _ _ (c .before .before .well-formed-prefix .ensures) (c .before .if3 .left)))
 
 same-length-4 : tie.Need-same-length-4
 same-length-4 c = search needs
