@@ -34,9 +34,9 @@ pub fresh-good : goodSaved (savedOf freshEditor (atEnd 0)) (layout []) ≡ true
 unfolding editorOf historyOf slotsOf afterKeys freshEditor
 fresh-good = saved-good freshEditor (atEnd 0) (layout []) (never-bad [] [])
 
-parts : (state slots : List ℕ) → goodSaved state slots ≡ true → (isState state ≡ true) × (goodState (editorIn state) (historyIn state) slots ≡ true)
+pub good-saved-parts : (state slots : List ℕ) → goodSaved state slots ≡ true → (isState state ≡ true) × (goodState (editorIn state) (historyIn state) slots ≡ true)
 unfolding goodSaved
-parts state slots g = holds (isState state) _ g
+good-saved-parts state slots g = holds (isState state) _ g
 
 either-good : (t : Bool) (a b s r : List ℕ) → goodSaved a s ≡ true → goodSaved b r ≡ true → goodSaved (cond t a b) (cond t s r) ≡ true
 either-good true a b s r p q = p
@@ -47,7 +47,7 @@ pub key-stays : (state slots prompt : List ℕ) (byte : ℕ) (line screen : List
 unfolding savedAfter turnIn
 key-stays state slots prompt byte line screen told state′ slots′ line′ screen′ g k =
     let a : State = turnOf prompt (stateOf (editorIn state) (historyIn state) slots) byte .after in
-    let fine = turn-fine prompt (stateOf (editorIn state) (historyIn state) slots) byte (fine-of (editorIn state) (historyIn state) slots (parts state slots g .1)) in
+    let fine = turn-fine prompt (stateOf (editorIn state) (historyIn state) slots) byte (fine-of (editorIn state) (historyIn state) slots (good-saved-parts state slots g .1)) in
     ap (λ (x : List ℕ). goodSaved x slots′) (k .kept)
     ∙ ap (goodSaved (cond (refused told) state (savedOf (editorOf a) (historyOf a)))) (k .held)
     ∙ either-good (refused told) state (savedOf (editorOf a) (historyOf a)) slots (slotsOf a) g (saved-good (editorOf a) (historyOf a) (slotsOf a) (fine-good a fine))
@@ -56,7 +56,7 @@ key-stays state slots prompt byte line screen told state′ slots′ line′ scr
 done-so : (state slots text : List ℕ) → goodSaved state slots ≡ true → savedAnswer state slots text ≡ Done → addAnswer (historyIn state) slots text ≡ Done
 unfolding savedAnswer
 done-so state slots text g d =
-    let p = parts state slots g in
+    let p = good-saved-parts state slots g in
     sym (then-is _ _ _ (p .0) ∙ then-is _ _ _ (good-parts (editorIn state) (historyIn state) slots (p .1) .0)) ∙ d
 
 added-good : (state slots text : List ℕ) → goodSaved state slots ≡ true → savedAnswer state slots text ≡ Done
@@ -65,7 +65,7 @@ unfolding goodState
 added-good state slots text g d =
     let es : List (List ℕ) = entriesAfter (historyIn state) slots text in
     saved-good (editorIn state) (atEnd (length es)) (layout es)
-    (then-is _ _ _ (good-parts (editorIn state) (historyIn state) slots (parts state slots g .1) .0)
+    (then-is _ _ _ (good-parts (editorIn state) (historyIn state) slots (good-saved-parts state slots g .1) .0)
     ∙ offered-good (historyIn state) slots text (atEnd (length es)) (layout es) (done-has (historyIn state) slots text (done-so state slots text g d)) (record { state = refl; bytes = refl }))
 
 pub add-stays : (state slots text : List ℕ) (told : Added) (state′ slots′ : List ℕ) → goodSaved state slots ≡ true → SavedAdd state slots text told state′ slots′
