@@ -45,7 +45,7 @@ unfolding goodState
 whole e h slots p q = then-is _ _ _ p ∙ q
 
 fresh-line : goodLine freshEditor ≡ true
-unfolding freshEditor
+unfolding holding
 fresh-line = held-good [] 0 Typing (omega arith) (omega arith)
 
 recalled-line : (text : List ℕ) → length text ≤ limit → goodLine (holding text (length text) Typing) ≡ true

@@ -122,15 +122,18 @@ impl Editor {
     }
 
     // The same line, in another mode.
-    pub(crate) fn in_mode(self, mode: Mode) -> Editor
+    pub(crate) fn in_mode(mut self, mode: Mode) -> Editor
         ensures { λ r. ⌜ r ≡ record { line = self .line; length = self .length; cursor = self .cursor; mode = mode } ⌝ }
     {
         let line = self.line;
-        Editor {
+        let length = self.length;
+        let cursor = self.cursor;
+        self = Editor {
             line,
-            length: self.length,
-            cursor: self.cursor,
+            length,
+            cursor,
             mode,
-        }
+        };
+        self
     }
 }

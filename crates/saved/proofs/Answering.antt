@@ -21,7 +21,7 @@ use Rattle.editor.proofs.Fine.{stays-good}
 use Rattle.editor.specs.declared.line.Editor.{Editor}
 use Rattle.editor.specs.declared.drawing.Key.{Key}
 use Rattle.editor.specs.declared.drawing.Pressed.the-variants.{BadState}
-use Rattle.editor.specs.Line.{holding, freshEditor, goodLine}
+use Rattle.editor.specs.Line.{freshEditor, goodLine}
 use Rattle.editor.specs.Keys.{turnOf}
 use Rattle.editor.specs.Answer.{stateOf, editorOf, historyOf, goodState, keyAnswer, refused, Pressing}
 use Rattle.saved.specs.State.{savedOf, isState, editorIn, historyIn, goodSaved}
@@ -63,7 +63,6 @@ module _ (state slots : List ℕ) where
             }
 
 fresh-small : Fits freshEditor (atEnd 0)
-unfolding freshEditor holding
 fresh-small = (omega arith, omega arith, omega arith, omega arith)
 
 pub fresh-bytes : (e : Editor) (h : History) → e ≡ freshEditor → h ≡ atEnd 0 → Fits e h

@@ -15,7 +15,7 @@ use Rattle.history.proofs.Called.{done-has}
 use Rattle.history.proofs.Lasting.{offered-good}
 use Rattle.editor.specs.declared.line.Editor.{Editor}
 use Rattle.editor.specs.declared.drawing.Pressed.{Pressed}
-use Rattle.editor.specs.Line.{freshEditor}
+use Rattle.editor.specs.Line.{holding, freshEditor}
 use Rattle.editor.specs.Keys.{State, turnOf, afterKeys}
 use Rattle.editor.specs.Answer.{stateOf, editorOf, historyOf, slotsOf, goodState, refused}
 use Rattle.editor.proofs.Lines.{good-line, length-of}
@@ -31,7 +31,7 @@ pub saved-good : (e : Editor) (h : History) (slots : List ℕ) → goodState e h
 saved-good e h slots g = good-saved e h slots (length-of e (good-line e (good-parts e h slots g .0)) .0) ∙ g
 
 pub fresh-good : goodSaved (savedOf freshEditor (atEnd 0)) (layout []) ≡ true
-unfolding editorOf historyOf slotsOf afterKeys freshEditor
+unfolding editorOf historyOf slotsOf afterKeys holding
 fresh-good = saved-good freshEditor (atEnd 0) (layout []) (never-bad [] [])
 
 pub good-saved-parts : (state slots : List ℕ) → goodSaved state slots ≡ true → (isState state ≡ true) × (goodState (editorIn state) (historyIn state) slots ≡ true)

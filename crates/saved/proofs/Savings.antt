@@ -113,7 +113,7 @@ saved-restored s h =
 
 -- a fresh session is all zeros
 pub fresh-zeros : savedOf freshEditor (atEnd 0) ≡ zeros 260
-unfolding savedOf modeNumber freshEditor holding padded limit zeros
+unfolding savedOf modeNumber padded limit zeros
 fresh-zeros = refl
 
 -- the numbers of a good state are bytes
