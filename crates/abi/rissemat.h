@@ -30,7 +30,8 @@ uint64_t rissemat_quote(const uint8_t *words, size_t words_len, uint8_t *out, si
  * slots: the entries of history in slots of 256 bytes, a length byte then the text, oldest first, all unused bytes zero. */
 
 /* A fresh session: no line, no history. Both buffers are then zeros.
- * Refusal: 9 (a buffer of another length, the state's first: 260, 25,600). */
+ * Refusals, in this order: 9 (a buffer too short, the state's first: the length needed, 260 or 25,600), 12 (a buffer too long: another length is
+ * no state's). */
 uint64_t rissemat_fresh(uint8_t *state, size_t state_len, uint8_t *slots, size_t slots_len);
 
 /* One key. The value is the length of the bytes to show, at the front of screen. Kind 1 is Enter: the second value is the length of

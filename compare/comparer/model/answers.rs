@@ -50,8 +50,9 @@ pub fn add(text: &[u8]) -> Result<&str, u64> {
 /// What `fresh` answers for buffers of these lengths.
 pub fn fresh(state: usize, slots: usize) -> u64 {
     match (state, slots) {
+        (..STATE, _) => refusal(TOO_SHORT, STATE),
+        (_, ..SLOTS) => refusal(TOO_SHORT, SLOTS),
         (STATE, SLOTS) => 0,
-        (STATE, _) => refusal(TOO_SHORT, SLOTS),
-        _ => refusal(TOO_SHORT, STATE),
+        _ => BAD_STATE,
     }
 }

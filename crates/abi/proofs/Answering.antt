@@ -16,7 +16,7 @@ use Rattle.editor.specs.declared.drawing.Pressed.{Pressed}
 use Rattle.editor.specs.Line.{freshEditor}
 use Rattle.editor.specs.Answer.{slotsOf, refused}
 use Rattle.saved.specs.State.{savedOf, historyIn}
-use Rattle.saved.specs.Calls.{Beginning, isReady, turnIn, savedAfter, SavedKey, stateBy, SavedAdd}
+use Rattle.saved.specs.Calls.{Beginning, isReady, turnIn, savedAfter, SavedKey, stateBy, SavedAdd, number as beginNumber, value as beginValue}
 use Rattle.saved.specs.declared.calls.Begun.{Begun}
 use Rattle.tree.specs.declared.check.Checked.{Checked}
 use Rattle.tree.specs.Rules.{checkTree}
@@ -28,7 +28,7 @@ use Rattle.help.specs.Answer.{Helping, number as helpNumber, value as helpValue
 use Rattle.shell.specs.Answer.{Running}
 use Rattle.shell.specs.declared.answer.Ran.{Ran}
 use Rattle.abi.specs.Packed.{plain}
-use Rattle.abi.specs.Calls.{WordsCall, QuoteCall, FreshCall, freshNumber, freshValue, KeyCall, keyTold, AddCall, TreeCall, ParseCall, HelpCall, RunCall, runTold}
+use Rattle.abi.specs.Calls.{WordsCall, QuoteCall, FreshCall, KeyCall, keyTold, AddCall, TreeCall, ParseCall, HelpCall, RunCall, runTold}
 
 pub words-call : (line out left : List ℕ) (r q : Tokens) (p : ℕ) → Tokenized line out r left → r ≡ q → p ≡ plain (number q) (value q) → WordsCall line out p left
 words-call line out left r q p h e f =
@@ -38,11 +38,11 @@ pub quote-call : (words out left : List ℕ) (r q : Quoted) (p : ℕ) → Quotat
 quote-call words out left r q p h e f =
     record { answer = f ∙ ap (λ (x : Quoted). plain (quoteNumber x) (quoteValue x)) (sym e ∙ h .answer); bytes = h .bytes }
 
-pub fresh-call : (state slots state′ slots′ : List ℕ) (r q : Begun) (p : ℕ) → Beginning state slots r state′ slots′ → r ≡ q → p ≡ plain (freshNumber q) (freshValue q)
+pub fresh-call : (state slots state′ slots′ : List ℕ) (r q : Begun) (p : ℕ) → Beginning state slots r state′ slots′ → r ≡ q → p ≡ plain (beginNumber q) (beginValue q)
     → FreshCall state slots p state′ slots′
 fresh-call state slots state′ slots′ r q p h e f =
     record {
-      answer = f ∙ ap (λ (x : Begun). plain (freshNumber x) (freshValue x)) (sym e ∙ h .answer);
+      answer = f ∙ ap (λ (x : Begun). plain (beginNumber x) (beginValue x)) (sym e ∙ h .answer);
       kept = h .kept ∙ ap (λ (x : Begun). cond (isReady x) (savedOf freshEditor (atEnd 0)) state) (h .answer);
       held = h .held ∙ ap (λ (x : Begun). cond (isReady x) (layout []) slots) (h .answer);
     }

@@ -1,3 +1,4 @@
 -- The laws of the crate `abi` that belong to no one function.
 pub mod Answering
 pub mod Packing
+pub mod Behind

@@ -11,13 +11,10 @@ use Rattle.quote.specs.Answer.{quoteAnswer, quoteLeaves, number as quoteNumber,
 use Rattle.history.specs.Slots.{layout}
 use Rattle.history.specs.Answer.{atEnd, entriesAfter, slotsBy, number as addNumber, value as addValue}
 use Rattle.editor.specs.declared.drawing.Pressed.{Pressed}
-use Rattle.editor.specs.declared.drawing.Pressed.the-variants.{Shown, Entered, Dropped, BadState, BadPrompt, NoRoom}
 use Rattle.editor.specs.Line.{freshEditor}
-use Rattle.editor.specs.Answer.{slotsOf, refused, number as keyNumber, value as keyValue}
+use Rattle.editor.specs.Answer.{slotsOf, refused, number as keyNumber, value as keyValue, kind as keyKind, beside as keyBeside}
 use Rattle.saved.specs.State.{savedOf, historyIn}
-use Rattle.saved.specs.Calls.{beginAnswer, isReady, turnIn, pressAnswer, savedAfter, savedAnswer, stateBy}
-use Rattle.saved.specs.declared.calls.Begun.{Begun}
-use Rattle.saved.specs.declared.calls.Begun.the-variants.{Ready, NoRoom as NoSpace}
+use Rattle.saved.specs.Calls.{beginAnswer, isReady, turnIn, pressAnswer, savedAfter, savedAnswer, stateBy, number as beginNumber, value as beginValue}
 use Rattle.tree.specs.Rules.{checkTree}
 use Rattle.tree.specs.Answer.{number as treeNumber, value as treeValue}
 use Rattle.parse.specs.Answer.{parseAnswer, parseLeaves, number as parseNumber, value as parseValue}
@@ -34,39 +31,14 @@ pub record QuoteCall (words out : List ℕ) (r : ℕ) (left : List ℕ) : Type 0
   pub answer : r ≡ plain (quoteNumber (quoteAnswer words (length out))) (quoteValue (quoteAnswer words (length out)))
   pub bytes : left ≡ quoteLeaves words out
 
--- a fresh session: the refusal's number (0: none), and the value that goes with it
-abbrev pub freshNumber : Begun → ℕ
-freshNumber Ready = 0
-freshNumber (NoSpace n) = 9
-
-abbrev pub freshValue : Begun → ℕ
-freshValue Ready = 0
-freshValue (NoSpace n) = n
-
 pub record FreshCall (state slots : List ℕ) (r : ℕ) (state′ slots′ : List ℕ) : Type 0 where
-  pub answer : r ≡ plain (freshNumber (beginAnswer (length state) (length slots))) (freshValue (beginAnswer (length state) (length slots)))
+  pub answer : r ≡ plain (beginNumber (beginAnswer (length state) (length slots))) (beginValue (beginAnswer (length state) (length slots)))
   pub kept : state′ ≡ cond (isReady (beginAnswer (length state) (length slots))) (savedOf freshEditor (atEnd 0)) state
   pub held : slots′ ≡ cond (isReady (beginAnswer (length state) (length slots))) (layout []) slots
 
--- a key has three kinds of answer: 1 at Enter, with the length of the line that is submitted beside it; 2 when the byte was dropped; 0 otherwise
-abbrev pub kind : Pressed → ℕ
-kind (Shown n) = 0
-kind (Entered n) = 1
-kind Dropped = 2
-kind BadState = 0
-kind (BadPrompt n) = 0
-kind (NoRoom n) = 0
-
-abbrev pub second : Pressed → ℕ
-second (Shown n) = 0
-second (Entered n) = n
-second Dropped = 0
-second BadState = 0
-second (BadPrompt n) = 0
-second (NoRoom n) = 0
-
+-- a key has three kinds of answer: 1 at Enter, with the length of the line that is submitted as second value; 2 when the byte was dropped; 0 otherwise
 unfoldable pub keyTold : Pressed → ℕ
-keyTold told = answered (keyNumber told) (keyValue told) (kind told) (second told)
+keyTold told = answered (keyNumber told) (keyValue told) (keyKind told) (keyBeside told)
 
 -- a refusal keeps the state and every byte
 pub record KeyCall (state slots prompt : List ℕ) (byte : ℕ) (line screen : List ℕ) (r : ℕ) (state′ slots′ line′ screen′ : List ℕ) : Type 0 where

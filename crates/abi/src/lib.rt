@@ -60,6 +60,7 @@ pub extern "C" fn rissemat_fresh(state: &mut [u8], slots: &mut [u8]) -> u64
     match begin(state, slots) {
         Begun::Ready => packed(0, 0, 0, 0),
         Begun::NoRoom(n) => packed(9, n, 0, 0),
+        Begun::BadState => packed(12, 0, 0, 0),
     }
 }
 

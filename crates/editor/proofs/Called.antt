@@ -1,4 +1,4 @@
--- What holds of keys as they are called: two bring typing back, a full line drops a byte, the value counts the bytes shown, and what is held after a key is the turn's state.
+-- What holds of keys as they are called: two bring typing back, a full line drops a byte, the values count the bytes shown and submitted, and what is held after a key is the turn's state.
 use Prim.Native.Nat.{ℕ, _≤_}
 use mathlib.Core.Path.{_≡_, refl, sym, ap, _∙_}
 use mathlib.Core.Bool.{Bool, true, false, cond}
@@ -21,7 +21,7 @@ use Rattle.editor.specs.declared.drawing.Pressed.{Pressed}
 use Rattle.editor.specs.declared.drawing.Pressed.the-variants.{Dropped, BadState, BadPrompt, NoRoom}
 use Rattle.editor.specs.Line.{limit, holding}
 use Rattle.editor.specs.Keys.{State, Turn, drops, inMode, enter, erase, insert, typed, escaped, up, onPlace, down, right, left, sequenced, turnIn, turnOf}
-use Rattle.editor.specs.Answer.{stateOf, editorOf, historyOf, slotsOf, goodState, goodPrompt, taken, turnAnswer, keyAnswer, refused, Pressing, value}
+use Rattle.editor.specs.Answer.{stateOf, editorOf, historyOf, slotsOf, goodState, goodPrompt, taken, turnAnswer, keyAnswer, refused, Pressing, value, beside}
 use Rattle.editor.proofs.Lines.{line-held, good-line, length-of}
 use Rattle.editor.proofs.Seats.{good-parts, holds-history, holds-editor, holds-slots, over-nothing}
 use Rattle.editor.proofs.Always.{then-typing, after-one, full-drops}
@@ -100,9 +100,9 @@ module _ (e : Editor) (h : History) (slots prompt : List ℕ) (byte : ℕ) (line
         stays true x y q = refl
         stays false x y q = q
 
--- the value of a key that is taken is the number of bytes that it shows
+-- the value of a key that is taken is the number of bytes that it shows, and the second value the length of the line that it submits
 Counts : Turn → Type 0
-Counts t = value (taken t (t .kind)) ≡ length (t .screen)
+Counts t = (value (taken t (t .kind)) ≡ length (t .screen)) × (beside (taken t (t .kind)) ≡ length (t .submitted))
 
 either : (b : Bool) (t u : Turn) → Counts t → Counts u → Counts (cond b t u)
 either true t u p q = p
@@ -116,32 +116,32 @@ module _ (prompt : List ℕ) where
       (either (eqb b 0x0A) _ _ entered
       (either (eqb b 0x08) _ _ erased
       (either (eqb b 0x7F) _ _ erased
-      (either (eqb b 0x1B) _ _ refl (either (ltb b 0x20) _ _ refl (either (ltb (length (s .line)) limit) _ _ refl refl))))))
+      (either (eqb b 0x1B) _ _ (refl, refl) (either (ltb b 0x20) _ _ (refl, refl) (either (ltb (length (s .line)) limit) _ _ (refl, refl) (refl, refl)))))))
     where
       entered : Counts (enter s)
-      entered = either (eqb (length (s .line)) 0) _ _ refl refl
+      entered = either (eqb (length (s .line)) 0) _ _ (refl, refl) (refl, refl)
 
       erased : Counts (erase prompt s)
-      erased = either (eqb (s .cursor) 0) _ _ refl refl
+      erased = either (eqb (s .cursor) 0) _ _ (refl, refl) (refl, refl)
 
   sequenced-counts : (s : State) (b : ℕ) → Counts (sequenced prompt s b)
   unfolding sequenced up down right left Counts
   sequenced-counts s b =
-      either (eqb b 0x41) _ _ (either (eqb (s .place) 0) _ _ refl refl)
-      (either (eqb b 0x42) _ _ (either (ltb (onPlace s) (length (s .entries))) _ _ refl refl)
-      (either (eqb b 0x43) _ _ (either (ltb (s .cursor) (length (s .line))) _ _ refl refl)
-      (either (eqb b 0x44) _ _ (either (eqb (s .cursor) 0) _ _ refl refl)
-      refl)))
+      either (eqb b 0x41) _ _ (either (eqb (s .place) 0) _ _ (refl, refl) (refl, refl))
+      (either (eqb b 0x42) _ _ (either (ltb (onPlace s) (length (s .entries))) _ _ (refl, refl) (refl, refl))
+      (either (eqb b 0x43) _ _ (either (ltb (s .cursor) (length (s .line))) _ _ (refl, refl) (refl, refl))
+      (either (eqb b 0x44) _ _ (either (eqb (s .cursor) 0) _ _ (refl, refl) (refl, refl))
+      (refl, refl))))
 
   mode-counts : (m : Mode) (s : State) (b : ℕ) → Counts (turnIn m prompt s b)
   unfolding turnIn escaped Counts
   mode-counts Typing s b = typed-counts s b
-  mode-counts Escape s b = refl
+  mode-counts Escape s b = (refl, refl)
   mode-counts Sequence s b = sequenced-counts (inMode s Typing) b
 
-  pub shown-counted : (s : State) (b : ℕ) → value (taken (turnOf prompt s b) (turnOf prompt s b .kind)) ≡ length (turnOf prompt s b .screen)
+  pub counted : (s : State) (b : ℕ) → let t : Turn = turnOf prompt s b in (value (taken t (t .kind)) ≡ length (t .screen)) × (beside (taken t (t .kind)) ≡ length (t .submitted))
   unfolding turnOf Counts
-  shown-counted s b = mode-counts (s .mode) s b
+  counted s b = mode-counts (s .mode) s b
 
 -- two keys in a row that are taken, neither of them ESC, bring typing back
 carried : (m n : Mode) → n ≡ m → (m ≡ Typing) ⊎ (m ≡ Sequence) → (n ≡ Typing) ⊎ (n ≡ Sequence)

@@ -14,7 +14,7 @@ use Rattle.history.specs.declared.past.History.{History}
 use Rattle.editor.specs.declared.line.Editor.{Editor}
 use Rattle.editor.specs.declared.drawing.Key.{Key}
 use Rattle.editor.specs.declared.drawing.Pressed.the-variants.{Entered, NoRoom}
-use Rattle.editor.specs.Line.{limit, freshEditor, lineOf, goodLine, content}
+use Rattle.editor.specs.Line.{limit, holding, freshEditor, lineOf, goodLine, content}
 use Rattle.editor.specs.Keys.{State, Turn, enters, afterEnter, lineFeed, enter}
 use Rattle.editor.specs.Answer.{stateOf, editorOf, historyOf, slotsOf, goodState, taken}
 use Rattle.editor.specs.Steps.{attempt, keyOf, madeBy, Acts, Does}
@@ -115,7 +115,7 @@ module _ (e : Editor) (h : History) (slots line screen : List ℕ) (g : goodStat
   pub enter-line : (h′ : History) (e′ : Editor) (slots′ line′ screen′ : List ℕ) → 0 < length screen → (e .length ≡ 0 → ⊥)
       → e′ ≡ freshEditor → Offered h slots (content (lineOf e)) h′ slots′ → line′ ≡ over (lineOf e) line → screen′ ≡ over lineFeed screen
       → Does e h (enter (stateOf e h slots)) slots line screen (keyOf e′ h′ (Entered (e .length))) slots′ line′ screen′
-  unfolding enter s stateOf editorOf historyOf slotsOf entriesAfter freshEditor
+  unfolding enter s stateOf editorOf historyOf slotsOf entriesAfter holding
   enter-line h′ e′ slots′ line′ screen′ l n p o b d =
       let size = length-of e (good-line e line-good) .1 in
       let t : Turn = record { kind = enters; after = afterEnter s; screen = lineFeed; submitted = lineOf e } in

@@ -64,7 +64,7 @@ held-bytes : (line : List ℕ) (cursor : ℕ) (mode : Mode) → padded line ≡ 
 unfolding holding
 held-bytes line cursor mode = refl
 
-held-good : (line : List ℕ) (cursor : ℕ) (mode : Mode) → length line ≤ 255 → cursor ≤ length line → goodLine (holding line cursor mode) ≡ true
+pub held-good : (line : List ℕ) (cursor : ℕ) (mode : Mode) → length line ≤ 255 → cursor ≤ length line → goodLine (holding line cursor mode) ≡ true
 unfolding goodLine limit
 held-good line cursor mode h k =
     then-is _ _ _ (le-leb _ _ (held-size line cursor mode h))
@@ -88,7 +88,7 @@ pub formed-nothing : wellFormed [] ≡ true
 unfolding wellFormed
 formed-nothing = eq-eqb _ 0 (prefix-none [] codes-none)
 
-content-formed : (l : List ℕ) → wellFormed (content l) ≡ true
+pub content-formed : (l : List ℕ) → wellFormed (content l) ≡ true
 unfolding content
 content-formed l = by (wellFormed l) refl
   where

@@ -10,3 +10,4 @@ pub mod Pressings
 pub mod Always
 pub mod Fine
 pub mod Called
+pub mod Lasting

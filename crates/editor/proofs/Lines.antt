@@ -349,7 +349,7 @@ erase-end e now i g h q s =
 
 -- no line is zeros
 pub fresh-line : freshEditor .line ≡ zeros 255
-unfolding freshEditor holding padded limit
+unfolding padded limit
 fresh-line = refl
 
 pub recall-end : (text line : List ℕ) (i : ℕ) (mode : Mode) → length text ≤ 255 → i ≡ length text → line ≡ take i text ++ drop i (zeros 255)

@@ -1,5 +1,5 @@
 -- Laws of states: who holds a good state holds just what the state says, and what a turn comes to.
-use Prim.Native.Nat.{ℕ, _-_, _<_, _≤_}
+use Prim.Native.Nat.{ℕ, _<_, _≤_}
 use mathlib.Core.Path.{_≡_, refl, sym, ap, _∙_}
 use mathlib.Core.Bool.{true}
 use mathlib.Core.List.{List, []}
@@ -52,7 +52,7 @@ unfolding holding limit
 held-fits g l cursor mode e h = (rw e h, ap (λ (x : Editor). length (x .line)) e ∙ length-padded l h)
 
 pub fresh-fits : (g : Editor) → g ≡ freshEditor → (g .length ≤ limit) × (length (g .line) ≡ limit)
-unfolding freshEditor
+unfolding holding
 fresh-fits g e = held-fits g [] 0 Typing e (omega arith)
 
 -- the limit as the code has it

@@ -304,7 +304,7 @@ module _ (e : Editor) (h : History) (slots screen : List ℕ) (good-state : good
     pub down-cleared : step .recalled ≡ Nothing → h′ ≡ step .history → goes ≡ freshEditor
         → Shows (redraw prompt (content (lineOf goes)) (goes .cursor)) e h goes h′ screen k shown
         → Acts e h (down prompt (inMode (stateOf e h slots) Typing)) screen k shown
-    unfolding down stateOf p freshEditor
+    unfolding down stateOf p holding editorOf
     down-cleared r j m a =
         let none = found-none (h .count) p (step .recalled) (ap (λ (y : Step). y .recalled) stepped) r in
         let s : State = inMode (stateOf e h slots) Typing in

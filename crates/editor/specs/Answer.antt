@@ -93,3 +93,26 @@ value Dropped = 0
 value BadState = 0
 value (BadPrompt n) = n
 value (NoRoom n) = n
+
+-- a key that is taken has one of three kinds, by number: it shows bytes 0, enters 1, drops its byte 2. The kind of an answer; a refusal has none, 0
+abbrev pub kindNumber : Kind → ℕ
+kindNumber shows = 0
+kindNumber enters = 1
+kindNumber drops = 2
+
+abbrev pub kind : Pressed → ℕ
+kind (Shown n) = 0
+kind (Entered n) = 1
+kind Dropped = 2
+kind BadState = 0
+kind (BadPrompt n) = 0
+kind (NoRoom n) = 0
+
+-- the second value: the length of the line that is submitted
+abbrev pub beside : Pressed → ℕ
+beside (Shown n) = 0
+beside (Entered n) = n
+beside Dropped = 0
+beside BadState = 0
+beside (BadPrompt n) = 0
+beside (NoRoom n) = 0

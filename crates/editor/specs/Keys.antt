@@ -3,12 +3,12 @@ use Prim.Native.Nat.{ℕ, _+_, _-_}
 use mathlib.Core.Bool.{cond}
 use mathlib.Core.List.{List, [], _∷_}
 use lib.Dec.{ltb, eqb}
-use lib.ListN.{length, getD}
+use lib.ListN.{length, take, getD}
 use Rattle.history.specs.Entries.{added}
 use Rattle.screen.specs.Redraw.{redraw}
 use Rattle.editor.specs.declared.line.Mode.{Mode}
 use Rattle.editor.specs.declared.line.Mode.the-variants.{Typing, Escape, Sequence}
-use Rattle.editor.specs.Line.{limit, inserted, erased, content}
+use Rattle.editor.specs.Line.{limit, freshEditor, inserted, erased, content}
 
 -- a state: the line, the cursor and what the keys before this one began; the entries of history, from oldest to newest, and the place among them
 pub record State : Type 0 where
@@ -51,10 +51,14 @@ redrawn prompt s = redraw prompt (content (s .line)) (s .cursor)
 abbrev pub redrawing : List ℕ → State → Turn
 redrawing prompt s = showing s (redrawn prompt s)
 
+-- the line, the cursor and the mode of the fresh editor, beside a history
+abbrev pub cleared : List (List ℕ) → ℕ → State
+cleared entries place =
+    record { line = take (freshEditor .length) (freshEditor .line); cursor = freshEditor .cursor; mode = freshEditor .mode; entries = entries; place = place }
+
 -- 0D, 0A: LF. A non-empty line is offered to history (as the empty text if ill-formed) and submitted, and line and cursor are cleared.
 abbrev pub afterEnter : State → State
-afterEnter s =
-    record { line = []; cursor = 0; mode = Typing; entries = added (content (s .line)) (s .entries); place = length (added (content (s .line)) (s .entries)) }
+afterEnter s = let entries : List (List ℕ) = added (content (s .line)) (s .entries) in cleared entries (length entries)
 
 abbrev pub lineFeed : List ℕ
 lineFeed = 0x0A ∷ []
@@ -105,7 +109,7 @@ onPlace s = cond (ltb (s .place) (length (s .entries))) (s .place + 1) (s .place
 
 unfoldable pub down : List ℕ → State → Turn
 down prompt s =
-    cond (ltb (onPlace s) (length (s .entries))) (recalling prompt s (onPlace s)) (redrawing prompt (atPlace (withLine s [] 0) (onPlace s)))
+    cond (ltb (onPlace s) (length (s .entries))) (recalling prompt s (onPlace s)) (redrawing prompt (cleared (s .entries) (onPlace s)))
 
 -- ESC `[C` and ESC `[D` are shown only if the cursor moved
 abbrev pub arrow : ℕ → List ℕ
@@ -137,7 +141,7 @@ turnOf prompt s byte = turnIn (s .mode) prompt s byte
 
 -- the fresh state, and the state after keys: a session is the fold of its keys
 abbrev pub freshState : State
-freshState = record { line = []; cursor = 0; mode = Typing; entries = []; place = 0 }
+freshState = cleared [] 0
 
 unfoldable pub afterKeys : List ℕ → State → List ℕ → State
 afterKeys prompt s [] = s

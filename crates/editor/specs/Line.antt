@@ -26,8 +26,8 @@ unfoldable pub lineOf : Editor → List ℕ
 lineOf e = take (e .length) (e .line)
 
 -- no line: `Editor::fresh`
-unfoldable pub freshEditor : Editor
-freshEditor = holding [] 0 Typing
+abbrev pub freshEditor : Editor
+freshEditor = record { line = padded []; length = 0; cursor = 0; mode = Typing }
 
 -- the rules of a line
 unfoldable pub goodLine : Editor → Bool

@@ -19,82 +19,91 @@ use history::recall;
 
 impl Editor {
     // Up: a step back through history.
-    pub fn up(self, history: History, slots: &[u8], prompt: &[u8], screen: &mut [u8]) -> Key
+    pub(crate) fn up(
+        mut self,
+        history: History,
+        slots: &[u8],
+        prompt: &[u8],
+        screen: &mut [u8],
+    ) -> Key
         requires { ⌜ (goodState self history (now slots) ≡ true) × (length (now prompt) ≤ 128) ⌝ }
         ensures { λ r. ⌜ Acts self history (up (now (prompt .entry)) (inMode (stateOf self history (now (slots .entry))) Mode.Typing)) (now (screen .entry)) r (now (screen .exit)) ⌝ }
     {
         let step = history.previous();
         let recalled = step.recalled;
         let Recalled::Entry(number) = recalled else {
+            self = self.in_mode(Mode::Typing);
             return Key {
-                editor: self.in_mode(Mode::Typing),
+                editor: self,
                 history,
                 answer: Pressed::Shown(0),
             };
         };
         let past = step.history;
-        redraw(
-            self,
-            history,
-            Editor::recalled(recall(slots, number)),
-            past,
-            prompt,
-            screen,
-        )
+        let before = self;
+        self = Editor::recalled(recall(slots, number));
+        redraw(before, history, self, past, prompt, screen)
     }
 
     // Down: a step on through history, and to an empty line behind the newest entry.
-    pub fn down(self, history: History, slots: &[u8], prompt: &[u8], screen: &mut [u8]) -> Key
+    pub(crate) fn down(
+        mut self,
+        history: History,
+        slots: &[u8],
+        prompt: &[u8],
+        screen: &mut [u8],
+    ) -> Key
         requires { ⌜ (goodState self history (now slots) ≡ true) × (length (now prompt) ≤ 128) ⌝ }
         ensures { λ r. ⌜ Acts self history (down (now (prompt .entry)) (inMode (stateOf self history (now (slots .entry))) Mode.Typing)) (now (screen .entry)) r (now (screen .exit)) ⌝ }
     {
         let step = history.next();
         let recalled = step.recalled;
         let past = step.history;
+        let before = self;
         let Recalled::Entry(number) = recalled else {
-            return redraw(self, history, Editor::fresh(), past, prompt, screen);
+            self = Editor::fresh();
+            return redraw(before, history, self, past, prompt, screen);
         };
-        redraw(
-            self,
-            history,
-            Editor::recalled(recall(slots, number)),
-            past,
-            prompt,
-            screen,
-        )
+        self = Editor::recalled(recall(slots, number));
+        redraw(before, history, self, past, prompt, screen)
     }
 
     // Right: the cursor goes on by a byte, unless it stands at the end.
-    pub fn right(self, history: History, screen: &mut [u8]) -> Key
+    pub(crate) fn right(mut self, history: History, screen: &mut [u8]) -> Key
         requires { ⌜ goodLine self ≡ true ⌝ }
         ensures { λ r. ⌜ ActsFor (λ slots. right (inMode (stateOf self history slots) Mode.Typing)) self history (now (screen .entry)) r (now (screen .exit)) ⌝ }
     {
         let cursor = self.cursor;
-        if self.length <= cursor {
+        let length = self.length;
+        let before = self;
+        self = self.in_mode(Mode::Typing);
+        if length <= cursor {
             return Key {
-                editor: self.in_mode(Mode::Typing),
+                editor: self,
                 history,
                 answer: Pressed::Shown(0),
             };
         }
-        let typing = self.in_mode(Mode::Typing);
-        show_arrow(self, typing.moved(cursor + 1), history, 0x43, screen)
+        self = self.moved(cursor + 1);
+        show_arrow(before, self, history, 0x43, screen)
     }
 
     // Left: the cursor goes back by a byte, unless it stands at the beginning.
-    pub fn left(self, history: History, screen: &mut [u8]) -> Key
+    pub(crate) fn left(mut self, history: History, screen: &mut [u8]) -> Key
         requires { ⌜ goodLine self ≡ true ⌝ }
         ensures { λ r. ⌜ ActsFor (λ slots. left (inMode (stateOf self history slots) Mode.Typing)) self history (now (screen .entry)) r (now (screen .exit)) ⌝ }
     {
         let cursor = self.cursor;
+        let before = self;
+        self = self.in_mode(Mode::Typing);
         if cursor == 0 {
             return Key {
-                editor: self.in_mode(Mode::Typing),
+                editor: self,
                 history,
                 answer: Pressed::Shown(0),
             };
         }
-        let typing = self.in_mode(Mode::Typing);
-        show_arrow(self, typing.moved(cursor - 1), history, 0x44, screen)
+        self = self.moved(cursor - 1);
+        show_arrow(before, self, history, 0x44, screen)
     }
 }

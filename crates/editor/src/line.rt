@@ -74,7 +74,7 @@ impl Editor {
     }
 
     // A byte typed at the cursor: what stood there and behind it moves on by one.
-    pub fn insert(mut self, byte: u8) -> Editor
+    pub(crate) fn insert(mut self, byte: u8) -> Editor
         requires { ⌜ (goodLine self ≡ true) × (self .length < limit) ⌝ }
         ensures { λ r. ⌜ r ≡ holding (inserted (lineOf self) (self .cursor) byte) (self .cursor + 1) (self .mode) ⌝ }
     {
@@ -95,7 +95,7 @@ impl Editor {
     }
 
     // The byte before the cursor taken out: what stands behind it moves back by one.
-    pub fn erase(mut self) -> Editor
+    pub(crate) fn erase(mut self) -> Editor
         requires { ⌜ (goodLine self ≡ true) × (0 < self .cursor) ⌝ }
         ensures { λ r. ⌜ r ≡ holding (erased (lineOf self) (self .cursor)) (self .cursor - 1) (self .mode) ⌝ }
     {
@@ -114,7 +114,7 @@ impl Editor {
     }
 
     // The same line, with the cursor at another place.
-    pub fn moved(mut self, cursor: usize) -> Editor
+    pub(crate) fn moved(mut self, cursor: usize) -> Editor
         ensures { λ r. ⌜ r ≡ record { line = self .line; length = self .length; cursor = cursor; mode = self .mode } ⌝ }
     {
         self.cursor = cursor;
@@ -122,15 +122,18 @@ impl Editor {
     }
 
     // The same line, in another mode.
-    pub fn in_mode(self, mode: Mode) -> Editor
+    pub(crate) fn in_mode(mut self, mode: Mode) -> Editor
         ensures { λ r. ⌜ r ≡ record { line = self .line; length = self .length; cursor = self .cursor; mode = mode } ⌝ }
     {
         let line = self.line;
-        Editor {
+        let length = self.length;
+        let cursor = self.cursor;
+        self = Editor {
             line,
-            length: self.length,
-            cursor: self.cursor,
+            length,
+            cursor,
             mode,
-        }
+        };
+        self
     }
 }

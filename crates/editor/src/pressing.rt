@@ -37,19 +37,21 @@ impl Editor {
     }
 
     // The byte after ESC: `[` is waited for, and any other byte is swallowed.
-    fn escaped(self, history: History, byte: u8, screen: &mut [u8]) -> Key
+    fn escaped(mut self, history: History, byte: u8, screen: &mut [u8]) -> Key
         requires { ⌜ goodLine self ≡ true ⌝ }
         ensures { λ r. ⌜ ActsFor (λ slots. escaped (stateOf self history slots) byte) self history (now (screen .entry)) r (now (screen .exit)) ⌝ }
     {
         if byte == 0x5B {
+            self = self.in_mode(Mode::Sequence);
             return Key {
-                editor: self.in_mode(Mode::Sequence),
+                editor: self,
                 history,
                 answer: Pressed::Shown(0),
             };
         }
+        self = self.in_mode(Mode::Typing);
         Key {
-            editor: self.in_mode(Mode::Typing),
+            editor: self,
             history,
             answer: Pressed::Shown(0),
         }
@@ -57,7 +59,7 @@ impl Editor {
 
     // A byte that is typed: the ranges of 01.
     fn typed(
-        self,
+        mut self,
         history: History,
         slots: &mut [u8],
         prompt: &[u8],
@@ -72,11 +74,14 @@ impl Editor {
         match byte {
             0x0D | 0x0A => self.enter(history, slots, line, screen),
             0x08 | 0x7F => self.erase_key(history, prompt, screen),
-            0x1B => Key {
-                editor: self.in_mode(Mode::Escape),
-                history,
-                answer: Pressed::Shown(0),
-            },
+            0x1B => {
+                self = self.in_mode(Mode::Escape);
+                Key {
+                    editor: self,
+                    history,
+                    answer: Pressed::Shown(0),
+                }
+            }
             0x00..=0x1F => Key {
                 editor: self,
                 history,
@@ -88,7 +93,7 @@ impl Editor {
 
     // The byte after ESC `[`: an arrow, or swallowed.
     fn sequenced(
-        self,
+        mut self,
         history: History,
         slots: &[u8],
         prompt: &[u8],
@@ -103,17 +108,20 @@ impl Editor {
             0x42 => self.down(history, slots, prompt, screen),
             0x43 => self.right(history, screen),
             0x44 => self.left(history, screen),
-            _ => Key {
-                editor: self.in_mode(Mode::Typing),
-                history,
-                answer: Pressed::Shown(0),
-            },
+            _ => {
+                self = self.in_mode(Mode::Typing);
+                Key {
+                    editor: self,
+                    history,
+                    answer: Pressed::Shown(0),
+                }
+            }
         }
     }
 
     // One key, in a good state.
     fn press(
-        self,
+        mut self,
         history: History,
         slots: &mut [u8],
         prompt: &[u8],

@@ -20,8 +20,8 @@ use history::offer;
 
 impl Editor {
     // The line is offered to history and submitted; an empty one touches nothing.
-    pub fn enter(
-        self,
+    pub(crate) fn enter(
+        mut self,
         history: History,
         slots: &mut [u8],
         line: &mut [u8],
@@ -50,15 +50,16 @@ impl Editor {
         let typed = self.line;
         let past = offer(history, slots, shown_part(&typed[..n]));
         push(&typed[..n], line, 0);
+        self = Editor::fresh();
         Key {
-            editor: Editor::fresh(),
+            editor: self,
             history: past,
             answer: Pressed::Entered(n),
         }
     }
 
     // The byte before the cursor goes.
-    pub fn erase_key(self, history: History, prompt: &[u8], screen: &mut [u8]) -> Key
+    pub(crate) fn erase_key(mut self, history: History, prompt: &[u8], screen: &mut [u8]) -> Key
         requires { ⌜ (goodLine self ≡ true) × (self .mode ≡ Mode.Typing) × (length (now prompt) ≤ 128) ⌝ }
         ensures { λ r. ⌜ ActsFor (λ slots. erase (now (prompt .entry)) (stateOf self history slots)) self history (now (screen .entry)) r (now (screen .exit)) ⌝ }
     {
@@ -69,11 +70,19 @@ impl Editor {
                 answer: Pressed::Shown(0),
             };
         }
-        redraw(self, history, self.erase(), history, prompt, screen)
+        let before = self;
+        self = self.erase();
+        redraw(before, history, self, history, prompt, screen)
     }
 
     // A byte comes; a full line drops it.
-    pub fn insert_key(self, history: History, prompt: &[u8], byte: u8, screen: &mut [u8]) -> Key
+    pub(crate) fn insert_key(
+        mut self,
+        history: History,
+        prompt: &[u8],
+        byte: u8,
+        screen: &mut [u8],
+    ) -> Key
         requires { ⌜ (goodLine self ≡ true) × (self .mode ≡ Mode.Typing) × (length (now prompt) ≤ 128) ⌝ }
         ensures { λ r. ⌜ ActsFor (λ slots. insert (now (prompt .entry)) (stateOf self history slots) byte) self history (now (screen .entry)) r (now (screen .exit)) ⌝ }
     {
@@ -84,6 +93,8 @@ impl Editor {
                 answer: Pressed::Dropped,
             };
         }
-        redraw(self, history, self.insert(byte), history, prompt, screen)
+        let before = self;
+        self = self.insert(byte);
+        redraw(before, history, self, history, prompt, screen)
     }
 }

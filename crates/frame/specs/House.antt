@@ -70,3 +70,32 @@ lineLeaves bytes out = cond (ltb (length out) (length (houseLine bytes))) out (o
 pub record HouseWritten (frame out : List ℕ) (r : Lined) (left : List ℕ) : Type 0 where
   pub answer : r ≡ writeHouse frame (length out)
   pub bytes : left ≡ lineLeaves frame out
+
+-- The refusal's number in 01 (0: none), and the value that goes with it. A buffer that is too short is 9, with the length needed. The faults of a line have no number in the
+-- table of 01: a line of no such form is the console's to answer, by a frame 2F with the line's number, which only the console knows. So 2F stands for each.
+abbrev pub number : House → ℕ
+number (Frame n) = 0
+number Unended = 0x2F
+number Empty = 0x2F
+number TooLong = 0x2F
+number Odd = 0x2F
+number (NoDigit place) = 0x2F
+number (Short needed) = 9
+
+-- a frame's length; where the first byte that is no digit stands
+abbrev pub value : House → ℕ
+value (Frame n) = n
+value Unended = 0
+value Empty = 0
+value TooLong = 0
+value Odd = 0
+value (NoDigit place) = place
+value (Short needed) = needed
+
+abbrev pub lineNumber : Lined → ℕ
+lineNumber (Written n) = 0
+lineNumber (NoRoom needed) = 9
+
+abbrev pub lineValue : Lined → ℕ
+lineValue (Written n) = n
+lineValue (NoRoom needed) = needed

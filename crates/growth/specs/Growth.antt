@@ -51,7 +51,8 @@ passedBy walk (read f n) = passed walk f n
 passedBy walk broken = walk
 passedBy walk ended = walk
 
--- one frame more, or all as it was
+-- One frame more, or all as it was. The answer says no more than whether it was taken: a frame that comes by itself has no number in the table of 01. In a session the line that
+-- held it is the console's to answer, by a frame 2F with the line's number; an image that is lent whole is refused by 1 with the frame's number.
 pub record Grows (walk : Walk) (frame buffer : List ℕ) (r : Step) (left : List ℕ) : Type 0 where
   pub answer : r ≡ stepIf (admits walk frame buffer) walk (passedBy walk (readFirst frame))
   pub bytes : left ≡ cond (admits walk frame buffer) (overAt frame buffer (walk .at)) buffer

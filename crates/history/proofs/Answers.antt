@@ -14,6 +14,11 @@ use Rattle.history.specs.declared.past.History.{History}
 use Rattle.history.specs.declared.adding.Added.{Added}
 use Rattle.history.specs.declared.adding.Added.the-variants.{Done, BadState, TooLong, IllFormed}
 
+-- a text whose well-formed prefix is all of it
+pub formed-whole : (text : List ℕ) (n : ℕ) → n ≡ wellFormedLength text → n ≡ length text → wellFormed text ≡ true
+unfolding wellFormed
+formed-whole text n p q = eq-eqb _ _ (sym p ∙ q)
+
 module _ (h : History) (slots text : List ℕ) where
   -- the tests in their order
   pub answer-bad : good (h .count) (h .place) slots ≡ false → addAnswer h slots text ≡ BadState

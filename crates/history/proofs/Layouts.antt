@@ -6,7 +6,7 @@ use native.Mathlib.Omega.{arith}
 use lib.ListN.{length, take, drop, set, getD, replicate, length-append, length-replicate, replicate-append-replicate, length-drop}
 use lib.Seq.{take-at, drop-at, take-append-seam, length-take-le, getD-append-add, getD-drop}
 use Rattle.buffer.proofs.Lists.{drop-end}
-use Rattle.buffer.proofs.Lending.{copy-step, copy-end, length-overAt, overAt-nothing, overAt-byte, overAt-both}
+use Rattle.buffer.proofs.Lending.{copy-step, copy-end, length-overAt, overAt-front, overAt-nothing, overAt-byte, overAt-both}
 use Rattle.buffer.proofs.Writing.{pushed-both}
 use Rattle.buffer.specs.Write.{over, overAt, Pushed}
 use Rattle.history.specs.Slots.{zeros, slot, run, layout, entry, entriesOf}
@@ -183,6 +183,19 @@ clear-turn d t at i h k e =
     ∙ ap (overAt (0 ∷ []) (overAt (zeros (i - at)) d at)) place
     ∙ overAt-both (zeros (i - at)) (0 ∷ []) d at (omega arith)
     ∙ ap (λ (l : List ℕ). overAt l d at) (zeros-more (i - at) ∙ ap zeros more)
+
+-- slots that are all zeros hold no entry
+pub no-entries : layout [] ≡ zeros 25600
+unfolding layout run
+no-entries = refl
+
+pub all-cleared : (slots : List ℕ) → length slots ≡ 25600 → overAt (zeros (25600 - 0)) slots 0 ≡ layout []
+unfolding over
+all-cleared slots k =
+    overAt-front (zeros 25600) slots
+    ∙ ap (λ (x : List ℕ). zeros 25600 ++ x) (drop-end slots (length (zeros 25600)) (let z = length-zeros 25600 in omega arith))
+    ∙ append-nil (zeros 25600)
+    ∙ sym no-entries
 
 -- a slot written in three steps
 pub slot-stored : (t d d₁ d₂ : List ℕ) (at a b : ℕ) → length t ≤ 255 → at + 256 ≤ length d → Pushed (length t ∷ []) d at a d₁ → Pushed t d₁ a b d₂

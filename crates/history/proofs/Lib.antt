@@ -7,3 +7,4 @@ pub mod States
 pub mod Answers
 pub mod Kept
 pub mod Called
+pub mod Lasting

@@ -2,7 +2,7 @@
 use Prim.Native.Nat.{ℕ}
 use mathlib.Core.Path.{_≡_}
 use mathlib.Core.Bool.{cond}
-use mathlib.Core.List.{List}
+use mathlib.Core.List.{List, []}
 use lib.Dec.{ltb}
 use lib.ListN.{length}
 use Rattle.text.specs.Decoding.{wellFormedLength}
@@ -22,6 +22,11 @@ entriesIn h slots = entriesOf (h .count) slots
 
 unfoldable pub entriesAfter : History → List ℕ → List ℕ → List (List ℕ)
 entriesAfter h slots text = added text (entriesIn h slots)
+
+-- a fresh history, with slots that hold no entry
+pub record Emptied (r : History) (left : List ℕ) : Type 0 where
+  pub state : r ≡ atEnd 0
+  pub bytes : left ≡ layout []
 
 -- a text that a good state takes
 pub record Offered (h : History) (slots text : List ℕ) (r : History) (left : List ℕ) : Type 0 where

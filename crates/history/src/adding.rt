@@ -3,7 +3,7 @@ ghost use Prim.Native.Nat.{_+_, _*_, _≤_};
 ghost use mathlib.Core.Path.{_≡_};
 ghost use mathlib.Core.Bool.{true};
 ghost use lib.ListN.{length};
-ghost use Rattle.history.specs.Entries.{isNew};
+ghost use Rattle.history.specs.Entries.{isNew, wellFormed};
 ghost use Rattle.history.specs.Slots.{good};
 ghost use Rattle.history.specs.Answer.{entriesIn, Offered, Addition};
 use super::past::History;
@@ -46,10 +46,11 @@ fn is_new(history: History, slots: &[u8], text: &[u8]) -> bool
     !same(recall(slots, history.count - 1), text)
 }
 
-// Offers a text of at most 255 bytes to a good state.
+// Offers a well-formed text of at most 255 bytes to a good state.
 pub fn offer(history: History, slots: &mut [u8], text: &[u8]) -> History
     requires { ⌜ good (history .count) (history .place) (now slots) ≡ true ⌝ }
     requires { ⌜ length (now text) ≤ 255 ⌝ }
+    requires { ⌜ wellFormed (now text) ≡ true ⌝ }
     ensures { λ r. ⌜ Offered history (now (slots .entry)) (now (text .entry)) r (now (slots .exit)) ⌝ }
 {
     let count = history.count;

@@ -11,6 +11,5 @@ pub use adding::offer;
 pub use past::History;
 pub use past::Recalled;
 pub use past::Step;
-pub use slots::clear;
 pub use slots::recall;
 pub use testing::is_good;

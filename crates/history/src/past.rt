@@ -1,7 +1,9 @@
 // A history by value: how many entries it has and the place among them, with the steps that the arrow keys take.
+ghost use lib.ListN.{length};
 ghost use mathlib.Core.Path.{_≡_};
 ghost use Rattle.history.specs.Steps.{back, onward};
-ghost use Rattle.history.specs.Answer.{atEnd};
+ghost use Rattle.history.specs.Answer.{atEnd, Emptied};
+use super::slots::clear;
 
 pub struct History {
     pub count: usize,
@@ -27,6 +29,15 @@ impl History {
         ensures { λ r. ⌜ r ≡ atEnd 0 ⌝ }
     {
         History { count: 0, place: 0 }
+    }
+
+    // No entry, and slots that hold none, whatever they held.
+    pub fn fresh_in(slots: &mut [u8]) -> History
+        requires { ⌜ length (now slots) ≡ 25600 ⌝ }
+        ensures { λ r. ⌜ Emptied r (now (slots .exit)) ⌝ }
+    {
+        clear(slots, 0, 25600);
+        History::fresh()
     }
 
     // Up: a step back to an older entry.

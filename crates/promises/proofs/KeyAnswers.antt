@@ -3,7 +3,7 @@ use Prim.Native.Nat.{ℕ, min}
 use mathlib.Core.Path.{_≡_, refl, ap, _∙_}
 use mathlib.Core.Bool.{Bool, true, false, cond, not}
 use mathlib.Core.List.{List, [], _∷_}
-use lib.Dec.{ltb, eqb}
+use lib.Dec.{ltb}
 use lib.ListN.{length}
 use Rattle.buffer.specs.Write.{over}
 use Rattle.text.specs.Decoding.{wellFormedLength}
@@ -21,13 +21,11 @@ use Rattle.editor.specs.declared.drawing.Pressed.{Pressed}
 use Rattle.editor.specs.declared.drawing.Pressed.the-variants.{BadState, BadPrompt, NoRoom}
 use Rattle.editor.specs.Line.{limit, freshEditor, goodLine}
 use Rattle.editor.specs.Keys.{Kind, shows, enters, drops, Turn, turnOf}
-use Rattle.editor.specs.Answer.{stateOf, editorOf, historyOf, slotsOf, goodState, goodPrompt, taken, turnAnswer, keyAnswer, refused, Pressing, number as pressedNumber, value as pressedValue}
-use Rattle.editor.proofs.Called.{shown-counted}
+use Rattle.editor.specs.Answer.{stateOf, editorOf, historyOf, slotsOf, goodState, goodPrompt, taken, turnAnswer, keyAnswer, refused, Pressing, number as pressedNumber, value as pressedValue, kindNumber, kind as pressedKind, beside as pressedBeside}
+use Rattle.editor.proofs.Called.{counted}
 use Rattle.saved.specs.State.{savedOf, isState, editorIn, historyIn, goodSaved}
-use Rattle.saved.specs.Calls.{beginAnswer, isReady, Beginning, turnIn, pressAnswer, savedAfter, SavedKey, savedAnswer, stateBy, SavedAdd}
+use Rattle.saved.specs.Calls.{beginAnswer, isReady, Beginning, turnIn, pressAnswer, savedAfter, SavedKey, savedAnswer, stateBy, SavedAdd, number as begunNumber, value as begunValue}
 use Rattle.saved.specs.declared.calls.Begun.{Begun}
-use Rattle.saved.specs.declared.calls.Begun.the-variants.{Ready, NoRoom as NoSpace}
-use Rattle.abi.specs.Calls.{freshNumber, freshValue}
 use Rattle.promises.proofs.Tables.{Told, told, Row, row, first, lacks, either, telling, pair}
 
 -- ADD_COMMAND: 12, 13, 3. A refusal keeps the record and the slots.
@@ -89,37 +87,50 @@ seatAfter t line screen =
       screen = over (t .screen) screen;
     }
 
-abbrev pub keyRefusals : {L : Type 0} → Bool → List ℕ → Turn → List ℕ → List ℕ → L → List (Row L)
+-- Beside number and value a key tells its kind (it shows bytes 0, enters 1, drops its byte 2; of a refusal 0), and the length of the line that it submits.
+pub record Keyed (L : Type 0) : Type 0 where
+  pub kind : ℕ
+  pub submitted : ℕ
+  pub held : L
+
+abbrev pub keyed : {L : Type 0} → ℕ → ℕ → L → Keyed L
+keyed kind submitted held = record { kind = kind; submitted = submitted; held = held }
+
+abbrev pub keyRefusals : {L : Type 0} → Bool → List ℕ → Turn → List ℕ → List ℕ → L → List (Row (Keyed L))
 keyRefusals is prompt t line screen kept =
-    row 12 (not is) 0 kept
-    ∷ row 11 (not (goodPrompt prompt)) (length prompt) kept
-    ∷ row 9 (ltb (length line) limit) limit kept
-    ∷ row 9 (lacks (t .screen) screen) (length (t .screen)) kept
+    row 12 (not is) 0 (keyed 0 0 kept)
+    ∷ row 11 (not (goodPrompt prompt)) (length prompt) (keyed 0 0 kept)
+    ∷ row 9 (ltb (length line) limit) limit (keyed 0 0 kept)
+    ∷ row 9 (lacks (t .screen) screen) (length (t .screen)) (keyed 0 0 kept)
     ∷ []
 
 -- the value of a key that is taken is the number of bytes that it shows
-abbrev pub keyRows : {L : Type 0} → Bool → List ℕ → Turn → List ℕ → List ℕ → L → L → Told L
-keyRows is prompt t line screen kept after = first (keyRefusals is prompt t line screen kept) (told 0 (length (t .screen)) after)
+abbrev pub keyRows : {L : Type 0} → Bool → List ℕ → Turn → List ℕ → List ℕ → L → L → Told (Keyed L)
+keyRows is prompt t line screen kept after =
+    first (keyRefusals is prompt t line screen kept) (told 0 (length (t .screen)) (keyed (kindNumber (t .kind)) (length (t .submitted)) after))
 
-unfoldable pub keyTable : Seat → List ℕ → ℕ → Told Seat
+unfoldable pub keyTable : Seat → List ℕ → ℕ → Told (Keyed Seat)
 keyTable s prompt byte =
     let t : Turn = turnOf prompt (stateOf (s .editor) (s .history) (s .slots)) byte in
     keyRows (goodState (s .editor) (s .history) (s .slots)) prompt t (s .line) (s .screen) s (seatAfter t (s .line) (s .screen))
 
 -- a key's answer tells what its rows tell: a refusal keeps all
-abbrev keyTells : {L : Type 0} → L → L → Pressed → Told L
-keyTells kept after x = told (pressedNumber x) (pressedValue x) (cond (refused x) kept after)
+abbrev keyTells : {L : Type 0} → L → L → Pressed → Told (Keyed L)
+keyTells kept after x = told (pressedNumber x) (pressedValue x) (keyed (pressedKind x) (pressedBeside x) (cond (refused x) kept after))
 
-key-rows : {L : Type 0} (is : Bool) (prompt : List ℕ) (t : Turn) (line screen : List ℕ) (kept after : L) → pressedValue (taken t (t .kind)) ≡ length (t .screen)
+key-rows : {L : Type 0} (is : Bool) (prompt : List ℕ) (t : Turn) (line screen : List ℕ) (kept after : L)
+    → (pressedValue (taken t (t .kind)) ≡ length (t .screen)) × (pressedBeside (taken t (t .kind)) ≡ length (t .submitted))
     → keyTells kept after (keyAnswer is prompt t (length line) (length screen)) ≡ keyRows is prompt t line screen kept after
 unfolding first keyAnswer turnAnswer
 key-rows is prompt t line screen kept after counts =
     by is (goodPrompt prompt) (ltb (length line) limit) (lacks (t .screen) screen) (t .kind)
-    ∙ ap (λ (n : ℕ). first (keyRefusals is prompt t line screen kept) (told 0 n after)) counts
+    ∙ ap (λ (n : ℕ). first (keyRefusals is prompt t line screen kept) (told 0 n (keyed (kindNumber (t .kind)) (pressedBeside (taken t (t .kind))) after))) (counts .0)
+    ∙ ap (λ (n : ℕ). first (keyRefusals is prompt t line screen kept) (told 0 (length (t .screen)) (keyed (kindNumber (t .kind)) n after))) (counts .1)
   where
     by : (g p l s : Bool) (k : Kind)
         → keyTells kept after (cond g (cond p (cond l (NoRoom limit) (cond s (NoRoom (length (t .screen))) (taken t k))) (BadPrompt (length prompt))) BadState)
-        ≡ cond (not g) (told 12 0 kept) (cond (not p) (told 11 (length prompt) kept) (cond l (told 9 limit kept) (cond s (told 9 (length (t .screen)) kept) (told 0 (pressedValue (taken t k)) after))))
+        ≡ cond (not g) (told 12 0 (keyed 0 0 kept)) (cond (not p) (told 11 (length prompt) (keyed 0 0 kept)) (cond l (told 9 limit (keyed 0 0 kept))
+        (cond s (told 9 (length (t .screen)) (keyed 0 0 kept)) (told 0 (pressedValue (taken t k)) (keyed (kindNumber k) (pressedBeside (taken t k)) after)))))
     by true true true s k = refl
     by true true false true k = refl
     by true true false false shows = refl
@@ -130,14 +141,17 @@ key-rows is prompt t line screen kept after counts =
 
 pub key-tells : (s : Seat) (prompt : List ℕ) (byte : ℕ) (k : Key) (slots line screen : List ℕ)
     → Pressing (s .editor) (s .history) (s .slots) prompt byte (s .line) (s .screen) k slots line screen
-    → told (pressedNumber (k .answer)) (pressedValue (k .answer)) (record { editor = k .editor; history = k .history; slots = slots; line = line; screen = screen }) ≡ keyTable s prompt byte
+    → told (pressedNumber (k .answer)) (pressedValue (k .answer))
+    (keyed (pressedKind (k .answer)) (pressedBeside (k .answer)) (record { editor = k .editor; history = k .history; slots = slots; line = line; screen = screen }))
+    ≡ keyTable s prompt byte
 unfolding keyTable
 key-tells s prompt byte k slots line screen p =
     let t : Turn = turnOf prompt (stateOf (s .editor) (s .history) (s .slots)) byte in
-    ap (told (pressedNumber (k .answer)) (pressedValue (k .answer))) (chosen (refused (k .answer)) s (seatAfter t (s .line) (s .screen)) (p .editor) (p .history) (p .held) (p .given) (p .shown))
+    ap (λ (x : Seat). told (pressedNumber (k .answer)) (pressedValue (k .answer)) (keyed (pressedKind (k .answer)) (pressedBeside (k .answer)) x))
+    (chosen (refused (k .answer)) s (seatAfter t (s .line) (s .screen)) (p .editor) (p .history) (p .held) (p .given) (p .shown))
     ∙ ap (keyTells s (seatAfter t (s .line) (s .screen))) (p .answer)
     ∙ key-rows (goodState (s .editor) (s .history) (s .slots)) prompt t (s .line) (s .screen) s (seatAfter t (s .line) (s .screen))
-    (shown-counted prompt (stateOf (s .editor) (s .history) (s .slots)) byte)
+    (counted prompt (stateOf (s .editor) (s .history) (s .slots)) byte)
   where
     parts : {e e′ : Editor} {h h′ : History} {x y z x′ y′ z′ : List ℕ} → e ≡ e′ → h ≡ h′ → x ≡ x′ → y ≡ y′ → z ≡ z′
         → _≡_ {A = Seat} (record { editor = e; history = h; slots = x; line = y; screen = z }) (record { editor = e′; history = h′; slots = x′; line = y′; screen = z′ })
@@ -156,20 +170,20 @@ Lent = List ℕ × List ℕ × List ℕ × List ℕ
 abbrev pub lentAfter : Turn → List ℕ → List ℕ → Lent
 lentAfter t line screen = (savedAfter (t .after), slotsOf (t .after), over (t .submitted) line, over (t .screen) screen)
 
-unfoldable pub pressTable : List ℕ → List ℕ → List ℕ → ℕ → List ℕ → List ℕ → Told Lent
+unfoldable pub pressTable : List ℕ → List ℕ → List ℕ → ℕ → List ℕ → List ℕ → Told (Keyed Lent)
 pressTable state slots prompt byte line screen =
     let t : Turn = turnIn state slots prompt byte in keyRows (goodSaved state slots) prompt t line screen (state, slots, line, screen) (lentAfter t line screen)
 
 pub press-tells : (state slots prompt : List ℕ) (byte : ℕ) (line screen : List ℕ) (r : Pressed) (state′ slots′ line′ screen′ : List ℕ)
     → SavedKey state slots prompt byte line screen r state′ slots′ line′ screen′
-    → told (pressedNumber r) (pressedValue r) (state′, slots′, line′, screen′) ≡ pressTable state slots prompt byte line screen
+    → told (pressedNumber r) (pressedValue r) (keyed (pressedKind r) (pressedBeside r) (state′, slots′, line′, screen′)) ≡ pressTable state slots prompt byte line screen
 unfolding pressTable pressAnswer turnIn
 press-tells state slots prompt byte line screen r state′ slots′ line′ screen′ p =
     let t : Turn = turnIn state slots prompt byte in
     let kept : Lent = (state, slots, line, screen) in
-    ap (told (pressedNumber r) (pressedValue r)) (chosen (refused r) kept (lentAfter t line screen) (p .kept) (p .held) (p .given) (p .shown))
+    ap (λ (x : Lent). told (pressedNumber r) (pressedValue r) (keyed (pressedKind r) (pressedBeside r) x)) (chosen (refused r) kept (lentAfter t line screen) (p .kept) (p .held) (p .given) (p .shown))
     ∙ ap (keyTells kept (lentAfter t line screen)) (p .answer)
-    ∙ key-rows (goodSaved state slots) prompt t line screen kept (lentAfter t line screen) (shown-counted prompt (stateOf (editorIn state) (historyIn state) slots) byte)
+    ∙ key-rows (goodSaved state slots) prompt t line screen kept (lentAfter t line screen) (counted prompt (stateOf (editorIn state) (historyIn state) slots) byte)
   where
     parts : {a b c d a′ b′ c′ d′ : List ℕ} → a ≡ a′ → b ≡ b′ → c ≡ c′ → d ≡ d′ → _≡_ {A = Lent} (a, b, c, d) (a′, b′, c′, d′)
     parts p q u v = cc
@@ -212,25 +226,25 @@ saved-add-tells state slots text r state′ slots′ p =
     by true false h l w = refl
     by false g h l w = refl
 
--- BEGIN: 9, the state's buffer first; each has exactly one right length
+-- BEGIN: 9 for a buffer that is too short, the state's first; then 12 for one that is too long, since another length is no state's
 unfoldable pub beginTable : List ℕ → List ℕ → Told (List ℕ × List ℕ)
 beginTable state slots =
     first
-    (row 9 (not (eqb (length state) 260)) 260 (state, slots)
-    ∷ row 9 (not (eqb (length slots) 25600)) 25600 (state, slots)
+    (row 9 (ltb (length state) 260) 260 (state, slots)
+    ∷ row 9 (ltb (length slots) 25600) 25600 (state, slots)
+    ∷ row 12 (ltb 260 (length state)) 0 (state, slots)
+    ∷ row 12 (ltb 25600 (length slots)) 0 (state, slots)
     ∷ [])
     (told 0 0 (savedOf freshEditor (atEnd 0), layout []))
 
 pub begin-tells : (state slots : List ℕ) (r : Begun) (state′ slots′ : List ℕ) → Beginning state slots r state′ slots′
-    → told (freshNumber r) (freshValue r) (state′, slots′) ≡ beginTable state slots
+    → told (begunNumber r) (begunValue r) (state′, slots′) ≡ beginTable state slots
 unfolding beginTable first beginAnswer
 begin-tells state slots r state′ slots′ p =
-    ap (told (freshNumber r) (freshValue r)) (pair (p .kept) (p .held)) ∙ ap tells (p .answer) ∙ by (eqb (length state) 260) (eqb (length slots) 25600)
+    ap (told (begunNumber r) (begunValue r)) (pair (p .kept) (p .held))
+    ∙ ap tells (p .answer)
+    ∙ either tells (ltb (length state) 260) _ _ _ _ refl
+    (either tells (ltb (length slots) 25600) _ _ _ _ refl (either tells (ltb 260 (length state)) _ _ _ _ refl (either tells (ltb 25600 (length slots)) _ _ _ _ refl refl)))
   where
     tells : Begun → Told (List ℕ × List ℕ)
-    tells x = told (freshNumber x) (freshValue x) (cond (isReady x) (savedOf freshEditor (atEnd 0)) state, cond (isReady x) (layout []) slots)
-
-    by : (a b : Bool) → tells (cond a (cond b Ready (NoSpace 25600)) (NoSpace 260)) ≡ cond (not a) (told 9 260 (state, slots)) (cond (not b) (told 9 25600 (state, slots)) (tells Ready))
-    by true true = refl
-    by true false = refl
-    by false b = refl
+    tells x = told (begunNumber x) (begunValue x) (cond (isReady x) (savedOf freshEditor (atEnd 0)) state, cond (isReady x) (layout []) slots)

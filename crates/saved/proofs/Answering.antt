@@ -1,69 +1,68 @@
 -- Laws of the calls on a saved state: what each way through the code answers and leaves.
-use Prim.Native.Nat.{ℕ, _-_, _≤_}
+use Prim.Native.Nat.{ℕ, _<_, _≤_}
 use mathlib.Core.Path.{_≡_, refl, sym, ap, _∙_}
-use mathlib.Core.Bool.{Bool, true, false}
-use mathlib.Core.List.{List, [], _∷_, _++_, append-nil}
+use mathlib.Core.Bool.{Bool, true, false, cond}
+use mathlib.Core.List.{List, [], _∷_}
 use native.Mathlib.Omega.{arith}
 use types.Run.{OneOf, miss}
 use denote.Enum.Declared.{tagOf}
+use lib.Dec.{ltb}
 use lib.ListN.{length}
-use borrow.Author.Tests.{eq-eqb, ne-eqb}
+use borrow.Author.Tests.{lt-ltb, le-ltb}
 use Rattle.buffer.proofs.Choices.{then-is, else-is, true-is-not-false}
-use Rattle.buffer.proofs.Lists.{drop-end}
-use Rattle.buffer.proofs.Lending.{overAt-front}
-use Rattle.buffer.specs.Write.{over, overAt}
-use Rattle.history.specs.Slots.{zeros, layout, good}
-use Rattle.history.specs.Answer.{atEnd, entriesAfter, addAnswer, historyBy, slotsBy, Addition}
+use Rattle.history.specs.Answer.{atEnd, Emptied, entriesAfter, addAnswer, historyBy, slotsBy, Addition}
 use Rattle.history.specs.declared.past.History.{History}
 use Rattle.history.specs.declared.adding.Added.{Added}
 use Rattle.history.specs.declared.adding.Added.the-variants.{Done, BadState as BadHistory, TooLong, IllFormed}
 use Rattle.history.proofs.adding.Added.{the-type}
-use Rattle.history.proofs.Layouts.{length-zeros}
-use Rattle.history.proofs.Kept.{Entries, entries-good}
-use Rattle.history.proofs.Called.{done-has, entries-after}
+use Rattle.history.proofs.Called.{done-has}
+use Rattle.history.proofs.Lasting.{added-good}
 use Rattle.editor.proofs.Fine.{stays-good}
 use Rattle.editor.specs.declared.line.Editor.{Editor}
 use Rattle.editor.specs.declared.drawing.Key.{Key}
 use Rattle.editor.specs.declared.drawing.Pressed.the-variants.{BadState}
-use Rattle.editor.specs.Line.{holding, freshEditor, goodLine}
+use Rattle.editor.specs.Line.{freshEditor, goodLine}
 use Rattle.editor.specs.Keys.{turnOf}
 use Rattle.editor.specs.Answer.{stateOf, editorOf, historyOf, goodState, keyAnswer, refused, Pressing}
 use Rattle.saved.specs.State.{savedOf, isState, editorIn, historyIn, goodSaved}
 use Rattle.saved.specs.Calls.{beginAnswer, Beginning, turnIn, pressAnswer, savedAfter, SavedKey, savedAnswer, stateBy, SavedAdd}
 use Rattle.saved.specs.declared.state.Restored.{Restored}
-use Rattle.saved.specs.declared.calls.Begun.the-variants.{Ready, NoRoom}
-use Rattle.saved.proofs.Savings.{Fits, Back, no-entries, good-fits}
+use Rattle.saved.specs.declared.calls.Begun.the-variants.{Ready, NoRoom, BadState as NoState}
+use Rattle.saved.proofs.Savings.{Fits, Back, good-fits}
 
 -- a fresh session
 module _ (state slots : List ℕ) where
-  pub begin-state : (length state ≡ 260 → ⊥) → Beginning state slots (NoRoom 260) state slots
+  pub short-state : length state < 260 → Beginning state slots (NoRoom 260) state slots
   unfolding beginAnswer
-  begin-state h = record { answer = sym (else-is _ _ _ (ne-eqb _ _ h)); kept = refl; held = refl }
+  short-state a = record { answer = sym (then-is _ _ _ (lt-ltb _ 260 a)); kept = refl; held = refl }
 
-  pub begin-slots : length state ≡ 260 → (length slots ≡ 25600 → ⊥) → Beginning state slots (NoRoom 25600) state slots
-  unfolding beginAnswer
-  begin-slots h k = record { answer = sym (then-is _ _ _ (eq-eqb _ _ h) ∙ else-is _ _ _ (ne-eqb _ _ k)); kept = refl; held = refl }
+  module _ (a : 260 ≤ length state) where
+    pub short-slots : length slots < 25600 → Beginning state slots (NoRoom 25600) state slots
+    unfolding beginAnswer
+    short-slots b = record { answer = sym (else-is _ _ _ (le-ltb _ 260 a) ∙ then-is _ _ _ (lt-ltb _ 25600 b)); kept = refl; held = refl }
 
-  cleared : length slots ≡ 25600 → overAt (zeros (25600 - 0)) slots 0 ≡ layout []
-  unfolding over
-  cleared k =
-      overAt-front (zeros 25600) slots
-      ∙ ap (λ (x : List ℕ). zeros 25600 ++ x) (drop-end slots (length (zeros 25600)) (let z = length-zeros 25600 in omega arith))
-      ∙ append-nil (zeros 25600)
-      ∙ sym no-entries
+    module _ (b : 25600 ≤ length slots) where
+      roomy : beginAnswer (length state) (length slots) ≡ cond (ltb 260 (length state)) NoState (cond (ltb 25600 (length slots)) NoState Ready)
+      unfolding beginAnswer
+      roomy = else-is _ _ _ (le-ltb _ 260 a) ∙ else-is _ _ _ (le-ltb _ 25600 b)
 
-  pub begin-ready : (e : Editor) (h : History) (state′ slots′ : List ℕ) → length state ≡ 260 → length slots ≡ 25600 → e ≡ freshEditor → h ≡ atEnd 0
-      → state′ ≡ savedOf e h → slots′ ≡ overAt (zeros (25600 - 0)) slots 0 → Beginning state slots Ready state′ slots′
-  unfolding beginAnswer
-  begin-ready e h state′ slots′ n k p q a b =
-      record {
-        answer = sym (then-is _ _ _ (eq-eqb _ _ n) ∙ then-is _ _ _ (eq-eqb _ _ k));
-        kept = a ∙ ap (λ (x : Editor). savedOf x h) p ∙ ap (savedOf freshEditor) q;
-        held = b ∙ cleared k;
-      }
+      pub long-state : 260 < length state → Beginning state slots NoState state slots
+      long-state m = record { answer = sym (roomy ∙ then-is _ _ _ (lt-ltb 260 _ m)); kept = refl; held = refl }
+
+      module _ (m : length state ≤ 260) where
+        pub long-slots : 25600 < length slots → Beginning state slots NoState state slots
+        long-slots n = record { answer = sym (roomy ∙ else-is _ _ _ (le-ltb 260 _ m) ∙ then-is _ _ _ (lt-ltb 25600 _ n)); kept = refl; held = refl }
+
+        pub begin-ready : (e : Editor) (h : History) (state′ slots′ : List ℕ) → length slots ≤ 25600 → e ≡ freshEditor → Emptied h slots′ → state′ ≡ savedOf e h
+            → Beginning state slots Ready state′ slots′
+        begin-ready e h state′ slots′ n p q w =
+            record {
+              answer = sym (roomy ∙ else-is _ _ _ (le-ltb 260 _ m) ∙ else-is _ _ _ (le-ltb 25600 _ n));
+              kept = w ∙ ap (λ (x : Editor). savedOf x h) p ∙ ap (savedOf freshEditor) (q .state);
+              held = q .bytes;
+            }
 
 fresh-small : Fits freshEditor (atEnd 0)
-unfolding freshEditor holding
 fresh-small = (omega arith, omega arith, omega arith, omega arith)
 
 pub fresh-bytes : (e : Editor) (h : History) → e ≡ freshEditor → h ≡ atEnd 0 → Fits e h
@@ -111,16 +110,8 @@ module _ (state slots text : List ℕ) where
       pub add-good : told ≡ Done → goodState (s .editor) r left ≡ true
       unfolding goodState
       add-good d =
-          let es : List (List ℕ) = entriesAfter (historyIn state) slots text in
           let known : addAnswer (historyIn state) slots text ≡ Done = sym (a .answer) ∙ d in
-          let all : r ≡ atEnd (length es) = a .state ∙ ap (λ (x : Added). historyBy x (historyIn state) es) known in
-          let laid : left ≡ layout es = a .bytes ∙ ap (λ (x : Added). slotsBy x slots es) known in
-          let entries : Entries es = entries-after (historyIn state) slots text (done-has (historyIn state) slots text known) in
-          let here : length es ≤ length es = omega arith in
-          ap (λ (x : History). goodState (s .editor) x left) all
-          ∙ ap (λ (x : List ℕ). goodState (s .editor) (atEnd (length es)) x) laid
-          ∙ then-is _ _ _ good-editor
-          ∙ entries-good es (length es) entries here
+          then-is _ _ _ good-editor ∙ added-good (historyIn state) slots text r told left (done-has (historyIn state) slots text known .is-good) a
 
       pub add-fits : told ≡ Done → Fits (s .editor) r
       add-fits d = good-fits (s .editor) r left (add-good d)

@@ -8,7 +8,7 @@ use Rattle.editor.specs.declared.line.Mode.the-variants.{Sequence}
 use Rattle.editor.specs.Line.{limit, padded, holding, lineOf}
 use Rattle.saved.specs.State.{modeNumber, savedOf, isState, editorIn}
 use Rattle.saved.specs.Calls.{beginAnswer}
-use Rattle.saved.specs.declared.calls.Begun.the-variants.{Ready, NoRoom}
+use Rattle.saved.specs.declared.calls.Begun.the-variants.{Ready, NoRoom, BadState}
 
 -- `ab` with the cursor at 1, after ESC `[`, and the second of three entries recalled
 bytes : take 8 (savedOf (holding (0x61 ∷ 0x62 ∷ []) 1 Sequence) (record { count = 3; place = 1 })) ≡ 2 ∷ 2 ∷ 1 ∷ 3 ∷ 1 ∷ 0x61 ∷ 0x62 ∷ 0 ∷ []
@@ -35,14 +35,22 @@ mode-three : isState (3 ∷ zeros 259) ≡ false
 unfolding isState zeros
 mode-three = refl
 
--- the state's length is asked for first
-both-wrong : beginAnswer 0 0 ≡ NoRoom 260
+-- too short comes before too long, and the state before the slots
+both-short : beginAnswer 0 0 ≡ NoRoom 260
 unfolding beginAnswer
-both-wrong = refl
+both-short = refl
 
-slots-wrong : beginAnswer 260 25601 ≡ NoRoom 25600
+short-slots : beginAnswer 261 25599 ≡ NoRoom 25600
 unfolding beginAnswer
-slots-wrong = refl
+short-slots = refl
+
+long-state : beginAnswer 261 25600 ≡ BadState
+unfolding beginAnswer
+long-state = refl
+
+long-slots : beginAnswer 260 25601 ≡ BadState
+unfolding beginAnswer
+long-slots = refl
 
 ready : beginAnswer 260 25600 ≡ Ready
 unfolding beginAnswer

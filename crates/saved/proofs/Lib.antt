@@ -2,4 +2,5 @@
 pub mod Savings
 pub mod Answering
 pub mod Lasting
+pub mod ByValue
 pub mod Examples

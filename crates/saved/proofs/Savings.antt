@@ -14,13 +14,13 @@ use Rattle.buffer.proofs.Writing.{pushed-both}
 use Rattle.buffer.specs.Write.{over, Pushed}
 use Rattle.history.specs.declared.past.History.{History}
 use Rattle.history.specs.Answer.{atEnd}
-use Rattle.history.specs.Slots.{zeros, run, layout}
+use Rattle.history.specs.Slots.{zeros}
 use Rattle.history.proofs.States.{holds, good-has}
 use Rattle.editor.specs.declared.line.Mode.{Mode}
 use Rattle.editor.specs.declared.line.Mode.the-variants.{Typing, Escape, Sequence}
 use Rattle.editor.specs.declared.line.Editor.{Editor}
 use Rattle.editor.specs.Line.{limit, padded, holding, freshEditor}
-use Rattle.editor.specs.Keys.{turnOf}
+use Rattle.editor.specs.Keys.{State, turnOf}
 use Rattle.editor.specs.Answer.{stateOf, goodState}
 use Rattle.editor.proofs.Lines.{good-line}
 use Rattle.editor.proofs.Seats.{good-parts}
@@ -59,7 +59,7 @@ editor-saved : (e : Editor) (h : History) → editorIn (savedOf e h) ≡ e
 unfolding editorIn savedOf
 editor-saved e h = ap (λ (m : Mode). record { line = e .line; length = e .length; cursor = e .cursor; mode = m }) (mode-back (e .mode))
 
-history-saved : (e : Editor) (h : History) → historyIn (savedOf e h) ≡ h
+pub history-saved : (e : Editor) (h : History) → historyIn (savedOf e h) ≡ h
 unfolding historyIn savedOf
 history-saved e h = refl
 
@@ -78,11 +78,13 @@ good-saved e h slots l =
     ∙ ap (λ (x : Editor). goodState x (historyIn (savedOf e h)) slots) (editor-saved e h)
     ∙ ap (λ (x : History). goodState e x slots) (history-saved e h)
 
+pub held-saved : (e : Editor) (h : History) (slots : List ℕ) → stateOf (editorIn (savedOf e h)) (historyIn (savedOf e h)) slots ≡ stateOf e h slots
+held-saved e h slots =
+    ap (λ (x : Editor). stateOf x (historyIn (savedOf e h)) slots) (editor-saved e h) ∙ ap (λ (x : History). stateOf e x slots) (history-saved e h)
+
 pub turn-saved : (e : Editor) (h : History) (slots prompt : List ℕ) (byte : ℕ) → turnIn (savedOf e h) slots prompt byte ≡ turnOf prompt (stateOf e h slots) byte
 unfolding turnIn
-turn-saved e h slots prompt byte =
-    ap (λ (x : Editor). turnOf prompt (stateOf x (historyIn (savedOf e h)) slots) byte) (editor-saved e h)
-    ∙ ap (λ (x : History). turnOf prompt (stateOf e x slots) byte) (history-saved e h)
+turn-saved e h slots prompt byte = ap (λ (s : State). turnOf prompt s byte) (held-saved e h slots)
 
 -- what restores is the saving of what was restored
 first-five : (s : List ℕ) → 5 ≤ length s → getD s 0 0 ∷ getD s 1 0 ∷ getD s 2 0 ∷ getD s 3 0 ∷ getD s 4 0 ∷ drop 5 s ≡ s
@@ -111,12 +113,8 @@ saved-restored s h =
 
 -- a fresh session is all zeros
 pub fresh-zeros : savedOf freshEditor (atEnd 0) ≡ zeros 260
-unfolding savedOf modeNumber freshEditor holding padded limit zeros
+unfolding savedOf modeNumber padded limit zeros
 fresh-zeros = refl
-
-pub no-entries : layout [] ≡ zeros 25600
-unfolding layout run
-no-entries = refl
 
 -- the numbers of a good state are bytes
 abbrev pub Fits : Editor → History → Type 0

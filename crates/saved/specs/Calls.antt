@@ -3,7 +3,7 @@ use Prim.Native.Nat.{ℕ}
 use mathlib.Core.Path.{_≡_}
 use mathlib.Core.Bool.{Bool, true, false, cond}
 use mathlib.Core.List.{List, []}
-use lib.Dec.{eqb}
+use lib.Dec.{ltb}
 use lib.ListN.{length}
 use Rattle.buffer.specs.Write.{over}
 use Rattle.history.specs.Slots.{layout}
@@ -16,15 +16,33 @@ use Rattle.editor.specs.Keys.{State, Turn, turnOf}
 use Rattle.editor.specs.Answer.{stateOf, editorOf, historyOf, slotsOf, keyAnswer, refused}
 use Rattle.saved.specs.State.{savedOf, isState, editorIn, historyIn, goodSaved}
 use Rattle.saved.specs.declared.calls.Begun.{Begun}
-use Rattle.saved.specs.declared.calls.Begun.the-variants.{Ready, NoRoom}
+use Rattle.saved.specs.declared.calls.Begun.the-variants.{Ready, NoRoom, BadState}
 
--- a fresh session: a buffer of another length is refused with the length it needs, the state's first
+-- a fresh session: a buffer that is too short is refused with the length needed, the state's first; one of another length, which is then too long,
+-- is a bad state's
 unfoldable pub beginAnswer : ℕ → ℕ → Begun
-beginAnswer state slots = cond (eqb state 260) (cond (eqb slots 25600) Ready (NoRoom 25600)) (NoRoom 260)
+beginAnswer state slots =
+    cond (ltb state 260) (NoRoom 260)
+    (cond (ltb slots 25600) (NoRoom 25600)
+    (cond (ltb 260 state) BadState
+    (cond (ltb 25600 slots) BadState
+    Ready)))
 
 abbrev pub isReady : Begun → Bool
 isReady Ready = true
 isReady (NoRoom n) = false
+isReady BadState = false
+
+-- the refusal's number in 01 (0: none), and the value that goes with it
+abbrev pub number : Begun → ℕ
+number Ready = 0
+number (NoRoom n) = 9
+number BadState = 12
+
+abbrev pub value : Begun → ℕ
+value Ready = 0
+value (NoRoom n) = n
+value BadState = 0
 
 pub record Beginning (state slots : List ℕ) (told : Begun) (state′ slots′ : List ℕ) : Type 0 where
   pub answer : told ≡ beginAnswer (length state) (length slots)

@@ -9,27 +9,34 @@ use editor::Pressed;
 use history::Added;
 use history::History;
 use history::add_command;
-use history::clear;
 
 // What beginning a session answers.
 pub enum Begun {
     Ready,
-    // A buffer has another length: the one it needs.
+    // A buffer is too short: the length needed.
     NoRoom(usize),
+    // A buffer is longer than a state's, or than the slots.
+    BadState,
 }
 
 // A fresh session: no line, no history.
 pub fn begin(state: &mut [u8], slots: &mut [u8]) -> Begun
     ensures { λ r. ⌜ Beginning (now (state .entry)) (now (slots .entry)) r (now (state .exit)) (now (slots .exit)) ⌝ }
 {
-    if state.len() != 260 {
+    if state.len() < 260 {
         return Begun::NoRoom(260);
     }
-    if slots.len() != 25600 {
+    if slots.len() < 25600 {
         return Begun::NoRoom(25600);
     }
-    save(Editor::fresh(), History::fresh(), state);
-    clear(slots, 0, 25600);
+    if 260 < state.len() {
+        return Begun::BadState;
+    }
+    if 25600 < slots.len() {
+        return Begun::BadState;
+    }
+    let history = History::fresh_in(slots);
+    save(Editor::fresh(), history, state);
     Begun::Ready
 }
 

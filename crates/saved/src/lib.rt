@@ -6,6 +6,3 @@ pub use calls::Begun;
 pub use calls::add;
 pub use calls::begin;
 pub use calls::press;
-pub use state::Restored;
-pub use state::restore;
-pub use state::save;

@@ -12,7 +12,7 @@ use Rattle.history.specs.Slots.{layout, entriesOf}
 use Rattle.history.specs.Answer.{entriesIn}
 use Rattle.history.specs.declared.past.History.{History}
 use Rattle.editor.specs.declared.line.Editor.{Editor}
-use Rattle.editor.specs.Line.{holding, lineOf, freshEditor}
+use Rattle.editor.specs.Line.{holding, lineOf}
 use Rattle.editor.specs.Keys.{State, Turn, freshState, turnOf, afterKeys}
 use Rattle.editor.specs.Answer.{stateOf, editorOf, historyOf, slotsOf, goodState}
 use Rattle.editor.proofs.Fine.{Fine, fine-of, turn-fine, fine-good, never-bad}
@@ -45,7 +45,7 @@ unfolding afterKeys
 fresh-fine = subst Fine fresh-state (fine-of (editorOf freshState) (historyOf freshState) (slotsOf freshState) (never-bad [] []))
 
 pub holds-fresh : (image : List ℕ) → Holds beginning fresh image (layout [])
-unfolding editorOf historyOf slotsOf freshEditor
+unfolding editorOf historyOf slotsOf holding
 holds-fresh image =
     record { editor = refl; history = refl; entries = refl; fine = fresh-fine; stands = start-stands image; tree = refl; keyed = refl; lines = refl }
 

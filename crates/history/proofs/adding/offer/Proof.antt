@@ -23,7 +23,7 @@ store-requires : tie.Need-store-requires
 store-requires c κs =
     let g = good-has (c .before .before .before .before .before .before .before .args .history .count) (c .before .before .before .before .before .before .before .args .history .place) (c .before .before .before .before .before .before .before .args .slots .now) (c .before .before .before .before .before .before .before .pre .0) in
     let a = g .size in
-    (c .before .before .before .before .before .before .before .pre .1, omega arith)
+    (c .before .before .before .before .before .before .before .pre .1 .0, omega arith)
 
 add-more : tie.Need-add-more
 add-more c = search needs
@@ -33,7 +33,7 @@ same-length-2 c = search needs
 
 returns-2 : tie.Need-returns-2
 returns-2 c =
-    rw (c .before .before .store .ensures) (offered-more (c .before .before .before .before .before .before .before .before .before .before .args .history) (c .before .before .before .before .before .before .before .before .before .before .args .slots .now) (c .before .before .before .before .before .before .before .before .before .before .args .text .now) (c .before .before .before .before .before .before .before .before .before .before .pre .0) (sym (c .before .before .before .before .before .before .is-new .ensures) ∙ not-false (c .before .before .before .before .before .before .is-new .result) (c .before .before .before .before .before .if1 .left)) (c .before .before .before .before .if2 .taken) (c .before .before .before .before .before .before .before .before .before .before .pre .1))
+    rw (c .before .before .store .ensures) (offered-more (c .before .before .before .before .before .before .before .before .before .before .args .history) (c .before .before .before .before .before .before .before .before .before .before .args .slots .now) (c .before .before .before .before .before .before .before .before .before .before .args .text .now) (c .before .before .before .before .before .before .before .before .before .before .pre .0) (sym (c .before .before .before .before .before .before .is-new .ensures) ∙ not-false (c .before .before .before .before .before .before .is-new .result) (c .before .before .before .before .before .if1 .left)) (c .before .before .before .before .if2 .taken) (c .before .before .before .before .before .before .before .before .before .before .pre .1 .0))
 
 drop-oldest-requires : tie.Need-drop-oldest-requires
 drop-oldest-requires c κs =
@@ -45,14 +45,14 @@ store-requires-2 : tie.Need-store-requires-2
 store-requires-2 c κs =
     let g = good-has (c .before .before .before .before .before .before .before .before .before .before .before .args .history .count) (c .before .before .before .before .before .before .before .before .before .before .before .args .history .place) (c .before .before .before .before .before .before .before .before .before .before .before .args .slots .now) (c .before .before .before .before .before .before .before .before .before .before .before .pre .0) in
     let a = g .size in
-    (c .before .before .before .before .before .before .before .before .before .before .before .pre .1, omega arith)
+    (c .before .before .before .before .before .before .before .before .before .before .before .pre .1 .0, omega arith)
 
 same-length-3 : tie.Need-same-length-3
 same-length-3 c = search needs
 
 returns-3 : tie.Need-returns-3
 returns-3 c =
-    rw (c .before .before .store2 .ensures, c .before .before .before .before .before .before .drop-oldest .ensures) (offered-full (c .before .before .before .before .before .before .before .before .before .before .before .before .before .before .args .history) (c .before .before .before .before .before .before .before .before .before .before .before .before .before .before .args .slots .now) (c .before .before .before .before .before .before .before .before .before .before .before .before .before .before .args .text .now) (c .before .before .before .before .before .before .before .before .before .before .before .before .before .before .pre .0) (sym (c .before .before .before .before .before .before .before .before .before .before .is-new .ensures) ∙ not-false (c .before .before .before .before .before .before .before .before .before .before .is-new .result) (c .before .before .before .before .before .before .before .before .before .if1 .left)) (c .before .before .before .before .before .before .before .before .if2 .left) (c .before .before .before .before .before .before .before .before .before .before .before .before .before .before .pre .1))
+    rw (c .before .before .store2 .ensures, c .before .before .before .before .before .before .drop-oldest .ensures) (offered-full (c .before .before .before .before .before .before .before .before .before .before .before .before .before .before .args .history) (c .before .before .before .before .before .before .before .before .before .before .before .before .before .before .args .slots .now) (c .before .before .before .before .before .before .before .before .before .before .before .before .before .before .args .text .now) (c .before .before .before .before .before .before .before .before .before .before .before .before .before .before .pre .0) (sym (c .before .before .before .before .before .before .before .before .before .before .is-new .ensures) ∙ not-false (c .before .before .before .before .before .before .before .before .before .before .is-new .result) (c .before .before .before .before .before .before .before .before .before .if1 .left)) (c .before .before .before .before .before .before .before .before .if2 .left) (c .before .before .before .before .before .before .before .before .before .before .before .before .before .before .pre .1 .0))
 
 pub offer-spec : {M : Type 1} → statement M
 offer-spec =

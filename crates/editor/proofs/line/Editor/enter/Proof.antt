@@ -3,6 +3,7 @@ use borrow.Author.Needs.{needs}
 use Rattle.editor.specs.Line.{lineOf}
 use Rattle.editor.proofs.Lines.{good-line, length-of, line-short}
 use Rattle.editor.proofs.Seats.{good-parts}
+use Rattle.editor.proofs.Fine.{content-formed}
 use Rattle.editor.proofs.Enters.{enter-refused, enter-empty, enter-line, limit-above}
 use Rattle.buffer.proofs.Lending.{overAt-front}
 use native.Mathlib.Omega.{arith}
@@ -37,7 +38,7 @@ offer-requires : tie.Need-offer-requires
 unfolding lineOf
 offer-requires c κs =
     let g = good-line (c .before .before .before .before .before .before .before .before .before .before .before .before .before .args .self) (good-parts (c .before .before .before .before .before .before .before .before .before .before .before .before .before .args .self) (c .before .before .before .before .before .before .before .before .before .before .before .before .before .args .history) (c .before .before .before .before .before .before .before .before .before .before .before .before .before .args .slots .now) (c .before .before .before .before .before .before .before .before .before .before .before .before .before .pre .0) .0) in let l = length-of (c .before .before .before .before .before .before .before .before .before .before .before .before .before .args .self) g .0 in let t = g .short in
-    (good-parts (c .before .before .before .before .before .before .before .before .before .before .before .before .before .args .self) (c .before .before .before .before .before .before .before .before .before .before .before .before .before .args .history) (c .before .before .before .before .before .before .before .before .before .before .before .before .before .args .slots .now) (c .before .before .before .before .before .before .before .before .before .before .before .before .before .pre .0) .1, rw (c .shown-part .ensures) (line-short (c .before .before .before .before .before .before .before .before .before .before .before .before .before .args .self) 255 t))
+    (good-parts (c .before .before .before .before .before .before .before .before .before .before .before .before .before .args .self) (c .before .before .before .before .before .before .before .before .before .before .before .before .before .args .history) (c .before .before .before .before .before .before .before .before .before .before .before .before .before .args .slots .now) (c .before .before .before .before .before .before .before .before .before .before .before .before .before .pre .0) .1, (rw (c .shown-part .ensures) (line-short (c .before .before .before .before .before .before .before .before .before .before .before .before .before .args .self) 255 t), rw (c .shown-part .ensures) (content-formed _)))
 
 array-share-prefix-typed-2 : tie.Need-array-share-prefix-typed-2
 array-share-prefix-typed-2 c = let g = good-line (c .before .before .before .before .before .before .before .before .before .before .before .before .before .before .before .before .args .self) (good-parts (c .before .before .before .before .before .before .before .before .before .before .before .before .before .before .before .before .args .self) (c .before .before .before .before .before .before .before .before .before .before .before .before .before .before .before .before .args .history) (c .before .before .before .before .before .before .before .before .before .before .before .before .before .before .before .before .args .slots .now) (c .before .before .before .before .before .before .before .before .before .before .before .before .before .before .before .before .pre .0) .0) in let l = length-of (c .before .before .before .before .before .before .before .before .before .before .before .before .before .before .before .before .args .self) g .0 in let t = g .short in omega arith

@@ -1,12 +1,12 @@
 -- `editor::line::Editor::fresh` meets its contract.
-use Rattle.editor.specs.Line.{freshEditor, holding, padded, limit}
+use Rattle.editor.specs.Line.{padded, limit}
 use Rattle.history.specs.Slots.{zeros}
 use mathlib.Core.Path.{refl}
 use Rattle.editor.proofs.line.Editor.fresh.Statement.{statement}
 use Rattle.editor.proofs.line.Editor.fresh.Tie as tie
 
 returns : tie.Need-returns
-unfolding freshEditor holding padded limit zeros
+unfolding padded limit zeros
 returns c = refl
 
 pub fresh-spec : {M : Type 1} → statement M

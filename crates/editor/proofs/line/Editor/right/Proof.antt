@@ -9,10 +9,7 @@ in-mode-requires : tie.Need-in-mode-requires
 in-mode-requires c κs = search needs
 
 returns : tie.Need-returns
-returns c = λ slots. right-quiet (c .before .before .before .before .args .self) (c .before .before .before .before .args .history) slots (c .before .before .before .before .args .screen .now) (c .before .before .before .before .pre) _ (c .before .if1 .taken) (c .in-mode .ensures)
-
-in-mode-requires-2 : tie.Need-in-mode-requires-2
-in-mode-requires-2 c κs = search needs
+returns c = λ slots. right-quiet (c .before .before .before .args .self) (c .before .before .before .args .history) slots (c .before .before .before .args .screen .now) (c .before .before .before .pre) _ (c .if1 .taken) (c .before .in-mode .ensures)
 
 add-moved : tie.Need-add-moved
 add-moved c = search needs
@@ -27,7 +24,7 @@ same-length : tie.Need-same-length
 same-length c = search needs
 
 returns-2 : tie.Need-returns-2
-returns-2 c = λ slots. right-shown (c .before .before .before .before .before .before .before .before .before .args .self) (c .before .before .before .before .before .before .before .before .before .args .history) slots (c .before .before .before .before .before .before .before .before .before .args .screen .now) (c .before .before .before .before .before .before .before .before .before .pre) _ _ _ (c .before .before .before .before .before .before .if1 .left) (c .before .before .before .before .moved .ensures ∙ rw (c .before .before .before .before .before .in-mode2 .ensures)) (c .before .before .show-arrow .ensures)
+returns-2 c = λ slots. right-shown (c .before .before .before .before .before .before .before .before .args .self) (c .before .before .before .before .before .before .before .before .args .history) slots (c .before .before .before .before .before .before .before .before .args .screen .now) (c .before .before .before .before .before .before .before .before .pre) _ _ _ (c .before .before .before .before .before .if1 .left) (c .before .before .before .before .moved .ensures ∙ rw (c .before .before .before .before .before .before .in-mode .ensures)) (c .before .before .show-arrow .ensures)
 
 pub right-spec : {M : Type 1} → statement M
 right-spec =
@@ -35,7 +32,6 @@ right-spec =
     (tie.spec
     in-mode-requires
     returns
-    in-mode-requires-2
     add-moved
     moved-requires
     show-arrow-requires

@@ -1,0 +1,328 @@
+-- The calls for Rust and C, `rissemat_*`: the tables of demand 1, what lasts, demand 2 and demand 3, each reached through the packing of an answer into 64 bits.
+use Prim.Native.Nat.{ℕ, _/_, _%_, _<_, _≤_, min}
+use mathlib.Core.Path.{_≡_, refl, sym, ap, _∙_, subst}
+use mathlib.Core.Bool.{Bool, true, false, cond}
+use mathlib.Core.List.{List}
+use mathlib.Core.Option.{Option, none, some}
+use native.Mathlib.Omega.{arith}
+use lib.Dec.{eqb}
+use lib.ListN.{length}
+use Rattle.buffer.specs.Write.{over}
+use Rattle.text.specs.Decoding.{codesIn}
+use Rattle.text.specs.Apart.{trimmed, wordsBetween}
+use Rattle.words.specs.Tokens.{wordsOf, framesOf as wordFrames}
+use Rattle.words.specs.declared.tokenizer.Tokens.{Tokens}
+use Rattle.words.specs.Answer.{number as wordsNumber, value as wordsValue}
+use Rattle.history.specs.Answer.{entriesIn, entriesAfter, historyBy, Addition, number as addNumber, value as addValue}
+use Rattle.history.specs.Rust.{CommandHistory, addCommand}
+use Rattle.history.specs.declared.past.History.{History}
+use Rattle.history.specs.declared.adding.Added.{Added}
+use Rattle.history.specs.declared.adding.Added.the-variants.{Done, BadState as BadHistory, TooLong, IllFormed}
+use Rattle.history.proofs.Original.{original}
+use Rattle.editor.specs.declared.line.Mode.the-variants.{Typing}
+use Rattle.editor.specs.declared.drawing.Key.{Key}
+use Rattle.editor.specs.declared.drawing.Pressed.{Pressed}
+use Rattle.editor.specs.declared.drawing.Pressed.the-variants.{Shown, Entered, Dropped, BadState, BadPrompt, NoRoom}
+use Rattle.editor.specs.Line.{limit}
+use Rattle.editor.specs.Answer.{stateOf, goodPrompt, refused, number as keyNumber, value as keyValue, kind as keyKind, beside as keyBeside}
+use Rattle.editor.specs.Rust.{Shell, rustKey}
+use Rattle.editor.proofs.Original.{shellOf}
+use Rattle.editor.proofs.Seats.{good-parts}
+use Rattle.saved.specs.State.{savedOf, editorIn, historyIn, goodSaved}
+use Rattle.saved.specs.Calls.{Beginning, turnIn, number as begunNumber, value as begunValue}
+use Rattle.saved.specs.declared.calls.Begun.{Begun}
+use Rattle.saved.specs.declared.calls.Begun.the-variants.{Ready, NoRoom as NoSpace, BadState as NoState}
+use Rattle.saved.proofs.Savings.{held-saved, history-saved}
+use Rattle.saved.proofs.ByValue.{keyFor, key-by-value, key-saved, add-by-value, add-saved}
+use Rattle.saved.proofs.Lasting.{good-saved-parts, Reached, begun, by-key as key-reached, by-add as add-reached}
+use Rattle.tree.specs.Rules.{checkTree}
+use Rattle.tree.specs.declared.check.Checked.the-variants.{Good}
+use Rattle.parse.specs.Answer.{number as parseNumber, value as parseValue}
+use Rattle.parse.specs.declared.answer.Parsed.{Parsed}
+use Rattle.help.specs.Answer.{number as helpNumber, value as helpValue}
+use Rattle.help.specs.declared.call.Helped.{Helped}
+use Rattle.shell.specs.Lines.{builtinOf, beginsHelp}
+use Rattle.shell.specs.Answer.{number as runNumber, value as runValue, kind as runKind, beside as runBeside}
+use Rattle.shell.specs.declared.answer.Ran.{Ran}
+use Rattle.shell.specs.declared.answer.Ran.the-variants.{NoRoom as RunNoRoom}
+use Rattle.shell.specs.declared.builtin.Builtin.the-variants.{Help}
+use Rattle.shell.proofs.Answers.{naming}
+use Rattle.abi.specs.Packed.{answered, plain}
+use Rattle.abi.specs.Calls.{WordsCall, QuoteCall, FreshCall, KeyCall, keyTold, AddCall, TreeCall, ParseCall, HelpCall, RunCall, runTold}
+use Rattle.abi.proofs.Packing.{value-back, number-back, kind-back, second-back}
+use Rattle.abi.proofs.Behind.{words-behind, quote-behind, fresh-behind, key-behind, add-behind, tree-behind, parse-behind, help-behind, run-behind}
+use Rattle.rust.specs.Tree.{Commands}
+use Rattle.rust.specs.Parser.{tokenize, Result, parse}
+use Rattle.rust.specs.Help.{showHelp}
+use Rattle.rust.specs.Shell.{enter}
+use Rattle.rust.specs.Same.{Seen, quiet, output, handed, ended, crashed, seenOf, allPrinted}
+use Rattle.rust.specs.Calls.{Writes, resultNumber, parseBytes, helpBytes, HelpsAs, seenBytes, Says, Fair, SameAsRust}
+use Rattle.promises.proofs.Tables.{Told, told}
+use Rattle.promises.proofs.Answers.{tooLong, illFormed, tokenizeTable, tokenize-tells, quoteTable, quote-tells, checkTable, check-tells, parseTable, parse-tells, helpTable, help-tells, Ended, runTable, run-tells}
+use Rattle.promises.proofs.KeyAnswers.{Keyed, keyed, pressTable, press-tells, savedAddTable, saved-add-tells, beginTable, begin-tells}
+use Rattle.promises.proofs.Lasting.{never-bad, full-line-saved}
+use Rattle.promises.proofs.SameAsRust.{words, key, add-command}
+use Rattle.promises.proofs.OtherCommands.{named, Agree, parse-alone, help-alone, run-alone}
+
+-- THE PACKING: value, number, kind and second value are read back from an answer's bits; a value stops at 32 bits, a second value at 16
+module _ (number value kind second : ℕ) (n : number < 256) (k : kind < 256) where
+  pub read-back : let p : ℕ = answered number value kind second in
+      (p % 0x1_0000_0000 ≡ min value 0xFFFF_FFFF) × (p / 0x1_0000_0000 % 256 ≡ number) × (p / 0x100_0000_0000 % 256 ≡ kind) × (p / 0x1_0000_0000_0000 ≡ min second 0xFFFF)
+  read-back = (value-back number value kind second n k, number-back number value kind second n k, kind-back number value kind second n k, second-back number value kind second n k)
+
+-- DEMAND 1, the tables: what a table tells, as 64 bits and in the buffers. Most calls have one kind of answer and no second value.
+pub record Packs {L : Type 0} (t : Told L) (p : ℕ) (left : L) : Type 0 where
+  pub answer : p ≡ plain (t .number) (t .value)
+  pub bytes : left ≡ t .left
+
+-- a key has its kind, and the length of the line that it submits as second value
+pub record PacksKey {L : Type 0} (t : Told (Keyed L)) (p : ℕ) (left : L) : Type 0 where
+  pub answer : p ≡ answered (t .number) (t .value) (t .left .kind) (t .left .submitted)
+  pub bytes : left ≡ t .left .held
+
+-- running a line has its kind; the number beside a text stands where a refusal's does, and a handler is the second value
+pub record PacksRun (t : Told Ended) (p : ℕ) (left : List ℕ) : Type 0 where
+  pub answer : p ≡ answered (cond (eqb (t .left .kind) 1) (t .left .beside) (t .number)) (t .value) (t .left .kind) (cond (eqb (t .left .kind) 3) (t .left .beside) 0)
+  pub bytes : left ≡ t .left .buffer
+
+packs : {L : Type 0} (n v : ℕ) (left : L) (t : Told L) (p : ℕ) → told n v left ≡ t → p ≡ plain n v → Packs t p left
+packs n v left t p e f = record { answer = f ∙ ap (λ (x : Told _). plain (x .number) (x .value)) e; bytes = ap (λ (x : Told _). x .left) e }
+
+-- each call tells its table
+pub record TellTables : Type 0 where
+  pub words : (line out : List ℕ) (p : ℕ) (left : List ℕ) → WordsCall line out p left → Packs (tokenizeTable line out) p left
+  pub quote : (words out : List ℕ) (p : ℕ) (left : List ℕ) → QuoteCall words out p left → Packs (quoteTable words out) p left
+  pub fresh : (state slots : List ℕ) (p : ℕ) (state′ slots′ : List ℕ) → FreshCall state slots p state′ slots′ → Packs (beginTable state slots) p (state′, slots′)
+  pub key : (state slots prompt : List ℕ) (byte : ℕ) (line screen : List ℕ) (p : ℕ) (state′ slots′ line′ screen′ : List ℕ)
+      → KeyCall state slots prompt byte line screen p state′ slots′ line′ screen′ → PacksKey (pressTable state slots prompt byte line screen) p (state′, slots′, line′, screen′)
+  pub history-add : (state slots text : List ℕ) (p : ℕ) (state′ slots′ : List ℕ) → AddCall state slots text p state′ slots′ → Packs (savedAddTable state slots text) p (state′, slots′)
+  pub tree : (image : List ℕ) (p : ℕ) → TreeCall image p → Packs (checkTable image) p tt
+  pub parse : (image line out : List ℕ) (p : ℕ) (left : List ℕ) → ParseCall image line out p left → Packs (parseTable image line out) p left
+  pub help : (image line out : List ℕ) (p : ℕ) (left : List ℕ) → HelpCall image line out p left → Packs (helpTable image line out) p left
+  pub run : (image line out : List ℕ) (p : ℕ) (left : List ℕ) → RunCall image line out p left → PacksRun (runTable image line out) p left
+
+packs-key : {L : Type 0} (r : Pressed) (left : L) (t : Told (Keyed L)) (p : ℕ) → told (keyNumber r) (keyValue r) (keyed (keyKind r) (keyBeside r) left) ≡ t → p ≡ keyTold r → PacksKey t p left
+unfolding keyTold
+packs-key r left t p e f =
+    record { answer = f ∙ ap (λ (x : Told (Keyed _)). answered (x .number) (x .value) (x .left .kind) (x .left .submitted)) e; bytes = ap (λ (x : Told (Keyed _)). x .left .held) e }
+
+packs-run : (r : Ran) (left : List ℕ) (t : Told Ended) (p : ℕ) → told (runNumber r) (runValue r) (record { kind = runKind r; beside = runBeside r; buffer = left }) ≡ t → p ≡ runTold r → PacksRun t p left
+unfolding runTold
+packs-run r left t p e f =
+    record {
+      answer =
+          f
+          ∙ ap (λ (x : Told Ended). answered (cond (eqb (x .left .kind) 1) (x .left .beside) (x .number)) (x .value) (x .left .kind) (cond (eqb (x .left .kind) 3) (x .left .beside) 0)) e;
+      bytes = ap (λ (x : Told Ended). x .left .buffer) e;
+    }
+
+pub tell-tables : TellTables
+tell-tables =
+    record {
+      words = λ line out p left c. let b = words-behind line out p left c in packs _ _ left _ p (tokenize-tells line out (b .0) left (b .1)) (b .2);
+      quote = λ words out p left c. let b = quote-behind words out p left c in packs _ _ left _ p (quote-tells words out (b .0) left (b .1)) (b .2);
+      fresh = λ state slots p state′ slots′ c.
+          let b = fresh-behind state slots p state′ slots′ c in
+          packs _ _ (state′, slots′) _ p (begin-tells state slots (b .0) state′ slots′ (b .1)) (b .2);
+      key = λ state slots prompt byte line screen p state′ slots′ line′ screen′ c.
+          let b = key-behind state slots prompt byte line screen p state′ slots′ line′ screen′ c in
+          packs-key (b .0) (state′, slots′, line′, screen′) _ p (press-tells state slots prompt byte line screen (b .0) state′ slots′ line′ screen′ (b .1)) (b .2);
+      history-add = λ state slots text p state′ slots′ c.
+          let b = add-behind state slots text p state′ slots′ c in
+          packs _ _ (state′, slots′) _ p (saved-add-tells state slots text (b .0) state′ slots′ (b .1)) (b .2);
+      tree = λ image p c. let b = tree-behind image p c in packs _ _ tt _ p (check-tells image (b .0) (b .1)) (b .2);
+      parse = λ image line out p left c. let b = parse-behind image line out p left c in packs _ _ left _ p (parse-tells image line out (b .0) left (b .1)) (b .2);
+      help = λ image line out p left c. let b = help-behind image line out p left c in packs _ _ left _ p (help-tells image line out (b .0) left (b .1)) (b .2);
+      run = λ image line out p left c. let b = run-behind image line out p left c in packs-run (b .0) left _ p (run-tells image line out (b .0) left (b .1)) (b .2);
+    }
+
+-- DEMAND 1, what lasts: no sequence of these calls reaches a bad state; a byte typed into a full line is answered kind 2, and nothing changes
+pub data ReachedByCalls : List ℕ → List ℕ → Type 0 where
+  by-fresh : {state slots state′ slots′ : List ℕ} → FreshCall state slots 0 state′ slots′ → ReachedByCalls state′ slots′
+  by-key : {state slots prompt line screen state′ slots′ line′ screen′ : List ℕ} {byte p : ℕ} → ReachedByCalls state slots
+      → KeyCall state slots prompt byte line screen p state′ slots′ line′ screen′ → ReachedByCalls state′ slots′
+  by-history-add : {state slots text state′ slots′ : List ℕ} {p : ℕ} → ReachedByCalls state slots → AddCall state slots text p state′ slots′ → ReachedByCalls state′ slots′
+
+-- bits 32 to 39: the refusal's number
+abbrev pub numberIn : ℕ → ℕ
+numberIn p = p / 0x1_0000_0000 % 256
+
+ready-of : (r : Begun) → 0 ≡ plain (begunNumber r) (begunValue r) → r ≡ Ready
+unfolding answered
+ready-of Ready e = refl
+ready-of (NoSpace n) e = absurd (omega arith)
+ready-of NoState e = absurd (omega arith)
+
+reached : {state slots : List ℕ} → ReachedByCalls state slots → Reached state slots
+reached (by-fresh {state} {slots} {state′} {slots′} c) =
+    let b = fresh-behind state slots 0 state′ slots′ c in begun (subst (λ (r : Begun). Beginning state slots r state′ slots′) (ready-of (b .0) (b .2)) (b .1))
+reached (by-key {state} {slots} {prompt} {line} {screen} {state′} {slots′} {line′} {screen′} {byte} {p} r c) =
+    key-reached (reached r) (key-behind state slots prompt byte line screen p state′ slots′ line′ screen′ c .1)
+reached (by-history-add {state} {slots} {text} {state′} {slots′} {p} r c) = add-reached (reached r) (add-behind state slots text p state′ slots′ c .1)
+
+pub never-bad-by-calls : (state slots : List ℕ) → ReachedByCalls state slots → goodSaved state slots ≡ true
+never-bad-by-calls state slots r = never-bad state slots (reached r)
+
+pub full-line : (state slots prompt : List ℕ) (byte : ℕ) (line screen : List ℕ) (p : ℕ) (state′ slots′ line′ screen′ : List ℕ)
+    → KeyCall state slots prompt byte line screen p state′ slots′ line′ screen′ → goodSaved state slots ≡ true → goodPrompt prompt ≡ true → limit ≤ length line
+    → editorIn state .mode ≡ Typing → limit ≤ editorIn state .length → 0x20 ≤ byte → (byte ≡ 0x7F → ⊥)
+    → (p ≡ answered 0 0 2 0) × (state′ ≡ state) × (slots′ ≡ slots) × (line′ ≡ line) × (screen′ ≡ screen)
+unfolding keyTold
+full-line state slots prompt byte line screen p state′ slots′ line′ screen′ c good fair room typing full shown not-del =
+    let b = key-behind state slots prompt byte line screen p state′ slots′ line′ screen′ c in
+    let d = full-line-saved state slots prompt byte line screen (b .0) state′ slots′ line′ screen′ (b .1) good fair room typing full shown not-del in
+    (b .2 ∙ ap keyTold (d .0), d .1, d .2, d .3, d .4)
+
+-- DEMAND 2: each call answers the packing of what the Rust does: bytes where they fit and the number of its error, else 9 with their length
+maps : {bytes out left : List ℕ} {A A′ B B′ : Type 0} → Writes bytes out left A B → (A → A′) → (B → B′) → Writes bytes out left A′ B′
+maps w f g = record { fitting = λ l. let a = w .fitting l in (f (a .0), a .1); lacking = λ l. let b = w .lacking l in (g (b .0), b .1) }
+
+same-plain : {n n′ v v′ : ℕ} → n ≡ n′ → v ≡ v′ → plain n v ≡ plain n′ v′
+same-plain p q = cc
+
+run-short : {n : ℕ} {r : Ran} → r ≡ RunNoRoom n → runTold r ≡ plain 9 n
+unfolding runTold
+run-short f = ap runTold f
+
+-- bytes that the Rust writes, with a number of 01
+abbrev pub PacksBytes : ℕ → List ℕ → List ℕ → ℕ → List ℕ → Type 0
+PacksBytes number bytes out p left = Writes bytes out left (p ≡ plain number (length bytes)) (p ≡ plain 9 (length bytes))
+
+-- help: 14 where the Rust panics
+abbrev pub PacksHelp : Option (Result (List ℕ)) → List ℕ → ℕ → List ℕ → Type 0
+PacksHelp (some result) out p left = PacksBytes (resultNumber result) (helpBytes result) out p left
+PacksHelp none out p left = (p ≡ plain 14 0) × (left ≡ out)
+
+-- run: nothing; what is printed, with its number; a handler with its report; or the end
+abbrev pub PacksSeen : Seen → ℕ → Type 0
+PacksSeen quiet p = p ≡ answered 0 0 0 0
+PacksSeen (output number bytes) p = p ≡ answered number (length bytes) 1 0
+PacksSeen (ended bytes) p = p ≡ answered 0 (length bytes) 2 0
+PacksSeen (handed handler report) p = p ≡ answered 0 (length report) 3 handler
+PacksSeen crashed p = ⊥
+
+-- what the Rust's loop, and its history, would hold where we hold these bytes
+abbrev pub shellIn : List ℕ → List ℕ → Shell
+shellIn state slots = shellOf (stateOf (editorIn state) (historyIn state) slots)
+
+abbrev pub commandsIn : List ℕ → List ℕ → CommandHistory
+commandsIn state slots = original (entriesIn (historyIn state) slots) (historyIn state .place)
+
+pub record PacksAsRust (image : List ℕ) (tree : Commands) : Type 0 where
+  pub splits : (line out : List ℕ) (p : ℕ) (left : List ℕ) → Fair line → WordsCall line out p left → PacksBytes 0 (wordFrames (tokenize line)) out p left
+  pub parses : (line out : List ℕ) (p : ℕ) (left : List ℕ) → Fair line → ParseCall image line out p left
+      → PacksBytes (resultNumber (parse tree line)) (parseBytes (parse tree line)) out p left
+  pub helps : (line out : List ℕ) (p : ℕ) (left : List ℕ) → Fair line → HelpCall image line out p left → PacksHelp (showHelp tree (wordsBetween line)) out p left
+  pub runs : (printable : ℕ → Bool) (line out : List ℕ) (p : ℕ) (left : List ℕ) → length line ≤ 1024
+      → (beginsHelp line ≡ true → allPrinted printable (codesIn line) ≡ true) → RunCall image line out p left
+      → let seen : Seen = seenOf (enter printable tree line) in Writes (seenBytes seen) out left (PacksSeen seen p) (p ≡ plain 9 (length (seenBytes seen)))
+  -- a key, and a text added, in a good state and not refused: what the Rust's loop, and its add_command, make of what the bytes hold
+  pub keys : (state slots prompt : List ℕ) (byte : ℕ) (line screen : List ℕ) (p : ℕ) (state′ slots′ line′ screen′ : List ℕ)
+      → KeyCall state slots prompt byte line screen p state′ slots′ line′ screen′ → goodSaved state slots ≡ true → numberIn p ≡ 0
+      → (shellIn state′ slots′ ≡ rustKey prompt (shellIn state slots) byte .after) × (screen′ ≡ over (rustKey prompt (shellIn state slots) byte .stdout) screen)
+  pub adds : (state slots text : List ℕ) (p : ℕ) (state′ slots′ : List ℕ) → AddCall state slots text p state′ slots′ → goodSaved state slots ≡ true → numberIn p ≡ 0
+      → addCommand (commandsIn state slots) text ≡ commandsIn state′ slots′
+
+says-packed : (s : Seen) (r : Ran) (p : ℕ) → p ≡ runTold r → Says s r → PacksSeen s p
+unfolding runTold
+says-packed quiet r p e f = e ∙ ap runTold f
+says-packed (output number bytes) r p e f = e ∙ ap runTold f
+says-packed (handed handler report) r p e f = e ∙ ap runTold f
+says-packed (ended bytes) r p e f = e ∙ ap runTold f
+says-packed crashed r p e f = f
+
+helps-packed : (o : Option (Result (List ℕ))) (out : List ℕ) (r : Helped) (p : ℕ) (left : List ℕ) → p ≡ plain (helpNumber r) (helpValue r) → HelpsAs o out r left → PacksHelp o out p left
+helps-packed (some result) out r p left e w =
+    maps w (λ f. e ∙ same-plain (f .0) (f .1)) (λ f. e ∙ ap (λ (x : Helped). plain (helpNumber x) (helpValue x)) f)
+helps-packed none out r p left e f = (e ∙ ap (λ (x : Helped). plain (helpNumber x) (helpValue x)) (f .0), f .1)
+
+-- a number of 0 is no refusal
+taken-key : (r : Pressed) (p : ℕ) → p ≡ keyTold r → numberIn p ≡ 0 → refused r ≡ false
+unfolding keyTold answered
+taken-key (Shown n) p e z = refl
+taken-key (Entered n) p e z = refl
+taken-key Dropped p e z = refl
+taken-key BadState p e z = absurd (omega arith)
+taken-key (BadPrompt n) p e z = absurd (omega arith)
+taken-key (NoRoom n) p e z = absurd (omega arith)
+
+done-add : (r : Added) (p : ℕ) → p ≡ plain (addNumber r) (addValue r) → numberIn p ≡ 0 → r ≡ Done
+unfolding answered
+done-add Done p e z = refl
+done-add BadHistory p e z = absurd (omega arith)
+done-add (TooLong n) p e z = absurd (omega arith)
+done-add (IllFormed n) p e z = absurd (omega arith)
+
+module _ (state slots prompt : List ℕ) (byte : ℕ) (line screen : List ℕ) (p : ℕ) (state′ slots′ line′ screen′ : List ℕ) where
+  key-as-rust : KeyCall state slots prompt byte line screen p state′ slots′ line′ screen′ → goodSaved state slots ≡ true → numberIn p ≡ 0
+      → (shellIn state′ slots′ ≡ rustKey prompt (shellIn state slots) byte .after) × (screen′ ≡ over (rustKey prompt (shellIn state slots) byte .stdout) screen)
+  key-as-rust c good zero =
+      let b = key-behind state slots prompt byte line screen p state′ slots′ line′ screen′ c in
+      let is = good-saved-parts state slots good in
+      let k : Key = keyFor state (turnIn state slots prompt byte) (b .0) in
+      let saved : state′ ≡ savedOf (k .editor) (k .history) = key-saved state slots prompt byte line screen (b .0) state′ slots′ line′ screen′ (b .1) (is .0) in
+      let d = key (editorIn state) (historyIn state) slots prompt byte line screen k slots′ line′ screen′
+      (key-by-value state slots prompt byte line screen (b .0) state′ slots′ line′ screen′ (b .1) (is .0)) (taken-key (b .0) p (b .2) zero) (is .1) in
+      (ap (λ (x : List ℕ). shellIn x slots′) saved ∙ ap shellOf (held-saved (k .editor) (k .history) slots′) ∙ d .0, d .1)
+
+module _ (state slots text : List ℕ) (p : ℕ) (state′ slots′ : List ℕ) where
+  add-as-rust : AddCall state slots text p state′ slots′ → goodSaved state slots ≡ true → numberIn p ≡ 0 → addCommand (commandsIn state slots) text ≡ commandsIn state′ slots′
+  add-as-rust c good zero =
+      let b = add-behind state slots text p state′ slots′ c in
+      let is = good-saved-parts state slots good in
+      let fair = good-parts (editorIn state) (historyIn state) slots (is .1) .0 in
+      let done = done-add (b .0) p (b .2) zero in
+      let after : Added → History = λ x. historyBy x (historyIn state) (entriesAfter (historyIn state) slots text) in
+      let held : historyIn state′ ≡ after Done =
+      ap historyIn (add-saved state slots text (b .0) state′ slots′ (b .1) (is .0) fair) ∙ history-saved (editorIn state) (after (b .0)) ∙ ap after done in
+      add-command (historyIn state) slots text (after Done) slots′
+      (subst (λ (x : Added). Addition (historyIn state) slots text (after x) x slots′) done (add-by-value state slots text (b .0) state′ slots′ (b .1) (is .0) fair))
+      ∙ ap (λ (h : History). original (entriesIn h slots′) (h .place)) (sym held)
+
+pub packs-as-rust : (image : List ℕ) (tree : Commands) → SameAsRust image tree → PacksAsRust image tree
+packs-as-rust image tree same =
+    record {
+      splits = λ line out p left fair c.
+          let b = words-behind line out p left c in
+          maps (words line fair out left (b .0) (b .1)) (λ f. b .2 ∙ ap (λ (x : Tokens). plain (wordsNumber x) (wordsValue x)) f) (λ f. b .2 ∙ ap (λ (x : Tokens). plain (wordsNumber x) (wordsValue x)) f);
+      parses = λ line out p left fair c.
+          let b = parse-behind image line out p left c in
+          maps (same .parses line out left (b .0) fair (b .1)) (λ f. b .2 ∙ same-plain (f .0) (f .1)) (λ f. b .2 ∙ ap (λ (x : Parsed). plain (parseNumber x) (parseValue x)) f);
+      helps = λ line out p left fair c.
+          let b = help-behind image line out p left c in
+          helps-packed (showHelp tree (wordsBetween line)) out (b .0) p left (b .2) (same .helps line out left (b .0) fair (b .1));
+      runs = λ printable line out p left short plain-help c.
+          let b = run-behind image line out p left c in
+          maps (same .runs printable line out left (b .0) short plain-help (b .1)) (says-packed (seenOf (enter printable tree line)) (b .0) p (b .2)) (λ f. b .2 ∙ run-short f);
+      keys = key-as-rust;
+      adds = add-as-rust;
+    }
+
+-- DEMAND 3: under two well-formed trees that agree on the command that a line names, each call answers the same 64 bits and writes the same bytes
+pub record PacksAlone (image other : List ℕ) : Type 0 where
+  pub parse : (line out : List ℕ) (p q : ℕ) (left left′ : List ℕ) → Agree image other (named wordsOf line)
+      → ParseCall image line out p left → ParseCall other line out q left′ → (p ≡ q) × (left ≡ left′)
+  pub help : (line out : List ℕ) (p q : ℕ) (left left′ : List ℕ) → Agree image other (named wordsBetween line)
+      → HelpCall image line out p left → HelpCall other line out q left′ → (p ≡ q) × (left ≡ left′)
+  pub run : (line out : List ℕ) (p q : ℕ) (left left′ : List ℕ) → (tooLong line ≡ false → illFormed line ≡ false → builtinOf (trimmed line) ≡ Help → ⊥)
+      → Agree image other (named naming line) → RunCall image line out p left → RunCall other line out q left′ → (p ≡ q) × (left ≡ left′)
+
+pub packs-alone : (image other : List ℕ) → checkTree image ≡ Good → checkTree other ≡ Good → PacksAlone image other
+packs-alone image other good good′ =
+    record {
+      parse = λ line out p q left left′ agree c d.
+          let a = parse-behind image line out p left c in
+          let b = parse-behind other line out q left′ d in
+          let s = parse-alone image other line good good′ out left left′ agree (a .0) (b .0) (a .1) (b .1) in
+          (a .2 ∙ ap (λ (x : Parsed). plain (parseNumber x) (parseValue x)) (s .0) ∙ sym (b .2), s .1);
+      help = λ line out p q left left′ agree c d.
+          let a = help-behind image line out p left c in
+          let b = help-behind other line out q left′ d in
+          let s = help-alone image other line good good′ out left left′ agree (a .0) (b .0) (a .1) (b .1) in
+          (a .2 ∙ ap (λ (x : Helped). plain (helpNumber x) (helpValue x)) (s .0) ∙ sym (b .2), s .1);
+      run = λ line out p q left left′ bare agree c d.
+          let a = run-behind image line out p left c in
+          let b = run-behind other line out q left′ d in
+          let s = run-alone image other line good good′ out left left′ bare agree (a .0) (b .0) (a .1) (b .1) in
+          (a .2 ∙ ap runTold (s .0) ∙ sym (b .2), s .1);
+    }
