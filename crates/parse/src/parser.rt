@@ -105,7 +105,7 @@ fn unless_bad(image: &[u8], refusal: Parsed) -> Parsed
     ensures { λ r. ⌜ r ≡ onChecked (checkTree (now (image .entry))) (λ n. BadTree n) refusal ⌝ }
 {
     match check_tree(image) {
-        Checked::BadFrame(n) => Parsed::BadTree(n),
+        Checked::BadFrame(frame) => Parsed::BadTree(frame),
         Checked::Good => refusal,
     }
 }
