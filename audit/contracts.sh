@@ -4,7 +4,7 @@
 set -eu
 LC_ALL=C
 export LC_ALL
-cd "$(dirname "$0")/.."
+cd "${0%/*}/.."
 
 # Names of crates and files have no white space in them.
 roots=$(find crates/*/src -name lib.rt | sort)

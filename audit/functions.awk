@@ -23,7 +23,7 @@ function pass_on(line,    parts) {
     } else if (line ~ /^pub mod [a-z_0-9]+$/) {
         passed_module[crate, substr(line, 9)] = 1
     } else {
-        sub(/^pub /, "", line)
+        gsub(/ /, "", line)
         print crate, line, "unread"
     }
 }
