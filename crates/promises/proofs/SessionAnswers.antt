@@ -18,6 +18,11 @@ use Rattle.session.specs.declared.standing.Session.{Session}
 use Rattle.session.specs.declared.taking.Taken.the-variants.{NoRoom}
 use Rattle.session.specs.declared.taking.Took.{Took}
 use Rattle.session.specs.declared.pressing.Pressing.{Pressing}
+use Rattle.stream.specs.Bytes.{lineRoom, console}
+use Rattle.stream.specs.Moves.{Stand, start, stepBy}
+use Rattle.stream.specs.Held.{starting, standOf, Sound}
+use Rattle.stream.proofs.Standings.{start-sound, start-stands}
+use Rattle.stream.proofs.Whole.{Fit, Comes, step-comes, Run, whole}
 use Rattle.session.proofs.Takings.{frame-narrow, image-narrow}
 use Rattle.session.proofs.Held.{Holds, holds-fresh, key-held}
 use Rattle.session.proofs.Followed.{Brings, line-held}
@@ -71,3 +76,16 @@ module _ (s : Standing) (h : Session) (image slots : List ℕ) (k : Holds s h im
   pub keys : (byte : ℕ) (out : List ℕ) (r : Pressing) (slots′ out′ : List ℕ) → most ≤ length out → PressingKey h image slots byte out r slots′ out′
       → Laid (pressKey s byte .prints) (pressKey s byte .ends) out (r .answer) out′ × Holds (pressKey s byte .after) (r .session) image slots′
   keys = key-held s h image slots k
+
+-- THE PROGRAM'S BYTES: `console bytes` is all that is written for all that is read, bytes cut into lines, the lines a session, a house line a frame. A stream that
+-- begins with slots of zeros stands at the start and is one that a step can be made of, and each step leaves one (`Stepped`).
+pub stream-begins : (line image : List ℕ) → length line ≡ lineRoom → length image ≡ 32768 → Sound starting line image (layout []) × (standOf starting line image (layout []) ≡ start)
+stream-begins line image l i = (start-sound line image l i, start-stands line image)
+
+-- a step prints what the definition prints next, whatever bytes may follow the piece, and what is still to be printed then is printed from where it leads
+pub step-next : (room : ℕ) (s : Stand) (piece more : List ℕ) → Fit s → Comes s (stepBy room s piece) piece more
+step-next = step-comes
+
+-- steps of any size over pieces of any size, up to the session's end or the input's, write the whole of it
+pub program : (bytes out : List ℕ) → Run start bytes out → out ≡ console bytes
+program = whole

@@ -306,3 +306,16 @@ module _ (s : Stream) (out : List ℕ) where
         let count : n ≡ size (badLine (s .session .lines + 1) ∷ []) = cc in
         rw (else-is (busyWith s) [] (cond (eqb (s .held) 0) [] (badLine (s .session .lines + 1) ∷ [])) e ∙ else-is _ _ _ (ne-eqb (s .held) 0 h))
         (record { printed = count; bytes = p .told room .bytes })
+
+-- no second answer: what a step took, printed and left of its buffer, and where the stream stands then
+pub one-step : (w : Went) (piece out : List ℕ) (r q : Step) (l i s o l′ i′ s′ o′ : List ℕ) → Stepped w piece out r l i s o → Stepped w piece out q l′ i′ s′ o′
+    → (r .took ≡ q .took) × (r .printed ≡ q .printed) × (o ≡ o′) × (standOf (r .stream) l i s ≡ standOf (q .stream) l′ i′ s′)
+one-step w piece out r q l i s o l′ i′ s′ o′ a b = (
+  (let m = sym (length-drop (r .took) piece) ∙ ap length (a .left ∙ sym (b .left)) ∙ length-drop (q .took) piece in let x = a .took in let y = b .took in omega arith),
+  a .printed ∙ sym (b .printed),
+  a .bytes ∙ sym (b .bytes),
+  a .after ∙ sym (b .after),
+)
+
+pub one-finish : (prints : List Printed) (out : List ℕ) (r q : ℕ) (o o′ : List ℕ) → Finished prints out r o → Finished prints out q o′ → (r ≡ q) × (o ≡ o′)
+one-finish prints out r q o o′ a b = (a .printed ∙ sym (b .printed), a .bytes ∙ sym (b .bytes))
