@@ -27,7 +27,7 @@ use Rattle.lookup.specs.declared.look.Sought.the-variants.{Node, Upper}
 use Rattle.lookup.proofs.Subtrees.{find-holds, spot-behind}
 
 -- frames of which none passes a test
-abbrev NoneOf : (Frame → Bool) → List Frame → Type 0
+abbrev pub NoneOf : (Frame → Bool) → List Frame → Type 0
 NoneOf test [] = Unit
 NoneOf test (f ∷ l) = (test f ≡ false) × NoneOf test l
 
@@ -35,12 +35,12 @@ none-append : (test : Frame → Bool) (a b : List Frame) → NoneOf test a → N
 none-append test [] b x y = y
 none-append test (f ∷ a) b x y = (x .0, none-append test a b (x .1) y)
 
-on-skip : (test : Frame → Bool) (a b : List Frame) → NoneOf test a → onFrom test (a ++ b) ≡ onFrom test b
+pub on-skip : (test : Frame → Bool) (a b : List Frame) → NoneOf test a → onFrom test (a ++ b) ≡ onFrom test b
 unfolding onFrom
 on-skip test [] b x = refl
 on-skip test (f ∷ a) b x = rw (x .0) (on-skip test a b (x .1))
 
-up-skip : (test : Frame → Bool) (a b : List Frame) → NoneOf test a → upTo test (a ++ b) ≡ a ++ upTo test b
+pub up-skip : (test : Frame → Bool) (a b : List Frame) → NoneOf test a → upTo test (a ++ b) ≡ a ++ upTo test b
 unfolding upTo
 up-skip test [] b x = refl
 up-skip test (f ∷ a) b x = rw (x .0) (ap (λ (m : List Frame). f ∷ m) (up-skip test a b (x .1)))

@@ -11,6 +11,7 @@ use Rattle.image.specs.Reading.{read, readFirst}
 use Rattle.image.proofs.Encoding.{frame-read}
 use Rattle.tree.specs.Images.{framesOf, flat}
 use Rattle.tree.proofs.Wholes.{AllFit, flat-append, frames-flat}
+use Rattle.tree.proofs.Reached.{on-first}
 use Rattle.tree.specs.Subtrees.{upTo, onFrom, rooted, subtree}
 use Rattle.lookup.specs.Spots.{later, placeOf, spot}
 use Rattle.lookup.specs.Searches.{wanted}
@@ -59,16 +60,6 @@ place-up test (f ∷ l) = by (test f) (place-up test l)
         → cond t (At 0) (later (length (encode f)) (placeOf test never l)) ≡ placed (cond t [] (f ∷ upTo test l)) (cond t (f ∷ l) (onFrom test l))
     by true e = refl
     by false e = rw e (placed-later f (upTo test l) (onFrom test l))
-
--- the first of those from a test on passes it
-on-first : (test : Frame → Bool) (fs : List Frame) (f : Frame) (l : List Frame) → onFrom test fs ≡ f ∷ l → test f ≡ true
-unfolding onFrom
-on-first test [] f l e = absurd (let z : _≡_ {A = ℕ} 0 1 = cc in omega arith)
-on-first test (g ∷ m) f l e = by (test g) refl e (on-first test m f l)
-  where
-    by : (t : Bool) → test g ≡ t → cond t (g ∷ m) (onFrom test m) ≡ f ∷ l → (onFrom test m ≡ f ∷ l → test f ≡ true) → test f ≡ true
-    by true q r more = let k : g ≡ f = cc in rw k at q
-    by false q r more = more r
 
 -- the frames of what stands behind frames
 module _ (a b : List Frame) (fit : AllFit (a ++ b)) where

@@ -22,6 +22,7 @@ use Rattle.image.proofs.Encoding.{read-within, read-ended}
 use Rattle.tree.specs.Images.{items, framesIn, framesOf}
 use Rattle.tree.proofs.Items.{items-broken, items-none, frames-read, frames-end}
 use Rattle.tree.specs.Subtrees.{upTo}
+use Rattle.tree.specs.Commands.{NodeFirst}
 use Rattle.lookup.specs.Searches.{isNode}
 use Rattle.scan.specs.Meanings.{definitionsOf, definitionsAt}
 use Rattle.parse.specs.Commands.{lacking, isMissing, missingRequired}
@@ -116,10 +117,11 @@ module _ (node : List ℕ) where
   unfolding definitionsAt definitionsOf nodeIn readFirst
   start-behind d h texts e = sym (ap definitionsOf (frames-read node _ _ (ap (readBy node) e)))
 
-  pub start-none : (head : Head) → headFirst node ≡ head → OneOf (1 ∷ 2 ∷ 3 ∷ 4 ∷ []) (tagOf the-type head) → definitionsAt node (length node) ≡ definitionsOf (framesOf node)
-  unfolding definitionsOf optionIn flagIn readFirst
-  start-none (HeadNode d h t) e k = absurd (miss (1 ∷ 2 ∷ 3 ∷ 4 ∷ []) 0 tt k)
-  start-none (HeadOption r c t) e k = definitions-end node (length node) (omega arith) ∙ sym (ap definitionsOf (frames-read node _ _ (ap (readBy node) e)))
-  start-none (HeadFlag c t) e k = definitions-end node (length node) (omega arith) ∙ sym (ap definitionsOf (frames-read node _ _ (ap (readBy node) e)))
-  start-none Bad e k = definitions-end node (length node) (omega arith) ∙ sym (ap definitionsOf (frames-none node Bad e (hit (3 ∷ 4 ∷ []) 3 tt)))
-  start-none End e k = definitions-end node (length node) (omega arith) ∙ sym (ap definitionsOf (frames-none node End e (hit (3 ∷ 4 ∷ []) 4 tt)))
+  -- bytes that do not begin with a node
+  pub no-node-first : (head : Head) → headFirst node ≡ head → OneOf (1 ∷ 2 ∷ 3 ∷ 4 ∷ []) (tagOf the-type head) → NodeFirst (framesOf node) → ⊥
+  unfolding optionIn flagIn readFirst
+  no-node-first (HeadNode d h t) e k n = absurd (miss (1 ∷ 2 ∷ 3 ∷ 4 ∷ []) 0 tt k)
+  no-node-first (HeadOption r c t) e k n = rw (frames-read node _ _ (ap (readBy node) e)) at n
+  no-node-first (HeadFlag c t) e k n = rw (frames-read node _ _ (ap (readBy node) e)) at n
+  no-node-first Bad e k n = rw (frames-none node Bad e (hit (3 ∷ 4 ∷ []) 3 tt)) at n
+  no-node-first End e k n = rw (frames-none node End e (hit (3 ∷ 4 ∷ []) 4 tt)) at n

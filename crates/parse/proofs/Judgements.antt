@@ -13,7 +13,7 @@ use Rattle.frame.specs.Text.{Bytes}
 use Rattle.frame.specs.Framed.{frameFirst}
 use Rattle.frame.specs.declared.framed.Framed.the-variants.{Frame as Framed}
 use Rattle.frame.specs.Series.{textsIn}
-use Rattle.frame.proofs.Series.{words-more, texts-none}
+use Rattle.frame.proofs.Series.{words-more}
 use Rattle.table.specs.Held.{partOf, mapOf}
 use Rattle.table.specs.Map.{put}
 use Rattle.image.specs.Frames.{Perhaps, Frame, node, option, flag}
@@ -22,13 +22,14 @@ use Rattle.image.proofs.Fields.{both-first, both-second}
 use Rattle.tree.specs.Images.{framesOf}
 use Rattle.tree.specs.Rules.{isLess, after, checkTree}
 use Rattle.tree.specs.Commands.{Reached, onSubtree, descend, reachedBy}
-use Rattle.tree.specs.Trails.{partAt, Within, Descended}
+use Rattle.tree.specs.Trails.{partAt, Within, Descended, Leads}
 use Rattle.tree.specs.Forest.{Forest, bare, grown, flatten, optionsIn, flagsIn, definitionsOnly, modest, orderly}
 use Rattle.tree.specs.declared.check.Checked.the-variants.{Good}
 use Rattle.tree.proofs.Wholes.{WellFormed, good-well-formed}
 use Rattle.tree.proofs.Planting.{obeys-forest}
 use Rattle.tree.specs.Subtrees.{upTo, subtree}
 use Rattle.tree.specs.declared.command.Place.{Place}
+use Rattle.tree.specs.declared.command.Found.{Found as Command}
 use Rattle.lookup.specs.Searches.{isNode}
 use Rattle.lookup.specs.Subtrees.{treeNamed}
 use Rattle.lookup.proofs.Lookups.{subtree-named, child-named, named-orderly}
@@ -214,7 +215,7 @@ path-begins (x ∷ l) d fs w p = by (subtree d x fs) (λ c. path-begins l (suc d
     by (f ∷ m) more = more (f ∷ m)
 
 -- THE FIRST WORD
-module _ (words image : List ℕ) (kind n : ℕ) (e : frameFirst words ≡ Framed kind n) (bi : Bytes image) (good : checkTree image ≡ Good) (place : Place) (to : Descended words image place (reachedBy image words)) where
+module _ (words image : List ℕ) (kind n : ℕ) (e : frameFirst words ≡ Framed kind n) (bi : Bytes image) (good : checkTree image ≡ Good) where
   abbrev first : List ℕ
   first = partOf words 3 n
 
@@ -235,14 +236,11 @@ module _ (words image : List ℕ) (kind n : ℕ) (e : frameFirst words ≡ Frame
   unfolding reachedBy descend
   from-top c q = ap (descend 0 (framesOf image) []) texts-first ∙ ap reached q
 
-  -- it names none: no word is passed
-  pub first-unknown : place .at ≡ 0 → fault 4 first ≡ parseWords (framesOf image) (textsIn words)
+  -- it names none: the path is empty
+  pub first-unknown : reachedBy image words .path ≡ [] → fault 4 first ≡ parseWords (framesOf image) (textsIn words)
   unfolding parseWords parseIn
-  first-unknown z = sym (ap (parseWords (framesOf image)) texts-first ∙ ap (λ (fs : List Frame). parseIn fs first later) (by command refl))
+  first-unknown no-path = sym (ap (parseWords (framesOf image)) texts-first ∙ ap (λ (fs : List Frame). parseIn fs first later) (by command refl))
     where
-      no-path : reachedBy image words .path ≡ []
-      no-path = sym (to .path) ∙ ap (λ (m : ℕ). textsIn (take m words)) z ∙ texts-none
-
       by : (c : List Frame) → command ≡ c → command ≡ []
       by [] q = q
       by (g ∷ m) q =
@@ -251,12 +249,12 @@ module _ (words image : List ℕ) (kind n : ℕ) (e : frameFirst words ≡ Frame
           absurd (let y : _≡_ {A = ℕ} 0 1 = cc in omega arith)
 
   -- it names a command, and the words lead into it
-  module _ (apart : place .at ≡ 0 → ⊥) where
+  module _ (named : reachedBy image words .path ≡ [] → ⊥) where
     there : (g : Frame) × ((m : List Frame) × (command ≡ g ∷ m))
     there = by command refl
       where
         by : (c : List Frame) → command ≡ c → (g : Frame) × ((m : List Frame) × (command ≡ g ∷ m))
-        by [] q = absurd (apart (to .none (ap (λ (r : Reached). r .path) (from-top [] q))))
+        by [] q = absurd (named (ap (λ (r : Reached). r .path) (from-top [] q)))
         by (g ∷ m) q = (g, (m, q))
 
     says : (g : Frame) (m : List Frame) → command ≡ g ∷ m → concluded put (descend 1 command (first ∷ []) later) ≡ parseIn command first later
@@ -273,6 +271,10 @@ module _ (words image : List ℕ) (kind n : ℕ) (e : frameFirst words ≡ Frame
         ∙ sym (concluded-same (descend 1 command (first ∷ []) later) m)
         ∙ says (there .0) (there .1 .0) (there .1 .1)
         ∙ sym (ap (parseWords (framesOf image)) texts-first)
+
+-- what was found, by what it is
+pub leads-as : (words image : List ℕ) (x y : Command) (r : Reached) → x ≡ y → Leads words image x r → Leads words image y r
+leads-as words image x y r e l = rw e at l
 
 -- a judgement told in other words
 pub judged-as : (words image rest left : List ℕ) (j : Judged) (a b : Outcome) (f g : List Frame) → a ≡ b → f ≡ g → Judging words image rest left j a f → Judging words image rest left j b g

@@ -10,6 +10,7 @@ use scan::Scan;
 use scan::Told;
 use scan::parse_args;
 use table::Part;
+use tree::Found;
 use tree::Place;
 ghost use mathlib.Core.Path.{_≡_};
 ghost use mathlib.Core.List.{List};
@@ -19,9 +20,9 @@ ghost use Rattle.frame.specs.Series.{textsIn};
 ghost use Rattle.tree.specs.Images.{framesOf};
 ghost use Rattle.tree.specs.Rules.{checkTree};
 ghost use Rattle.tree.specs.declared.check.Checked.the-variants.{Good};
-ghost use Rattle.tree.specs.Commands.{Reached, reachedBy};
-ghost use Rattle.tree.specs.Trails.{Within, Descended};
-ghost use Rattle.scan.specs.Meanings.{definitionsOf, definitionsAt};
+ghost use Rattle.tree.specs.Commands.{Reached, reachedBy, NodeFirst};
+ghost use Rattle.tree.specs.Trails.{partAt, Within, Descended, Leads};
+ghost use Rattle.scan.specs.Meanings.{definitionsAt};
 ghost use Rattle.scan.specs.Held.{stored, foundOf, standOf};
 ghost use Rattle.parse.specs.Commands.{outcomeOf, concluded, parseWords};
 ghost use Rattle.parse.specs.Held.{outcomeBy, Judging};
@@ -65,21 +66,6 @@ fn verdict_of<'a>(words: &'a [u8], node: &'a [u8], from: usize, scan: Scan) -> V
     }
 }
 
-// Where the definitions of a command begin: behind its node.
-fn definitions_start(node: &[u8]) -> usize
-    ensures { λ r. ⌜ definitionsAt (now (node .entry)) r ≡ definitionsOf (framesOf (now (node .entry))) ⌝ }
-{
-    let Head::Node {
-        depth: _,
-        handler: _,
-        texts,
-    } = head_of(node)
-    else {
-        return node.len();
-    };
-    texts.size
-}
-
 // A verdict where there is no command.
 fn without_command(verdict: Verdict) -> Judged
     ensures { λ r. ⌜ (r .verdict ≡ verdict) × (r .scan .kept ≡ 0) × ((words image : List ℕ) → Within words image (r .place)) ⌝ }
@@ -95,15 +81,29 @@ fn without_command(verdict: Verdict) -> Judged
     }
 }
 
-// The arguments of the command at a place.
-fn judge_arguments<'a>(words: &'a [u8], image: &'a [u8], place: Place, rest: &mut [u8]) -> Judged
-    requires { ⌜ (length (now words) ≤ 4096) × (length (now image) ≤ 32768) × (length (now words) ≤ length (now rest)) × Within (now words) (now image) place ⌝ }
+// The arguments of the command at a place, whose definitions begin behind its node; where no node stands the first word is unknown.
+fn judge_arguments<'a>(
+    words: &'a [u8],
+    image: &'a [u8],
+    place: Place,
+    first: Part,
+    rest: &mut [u8],
+) -> Judged
+    requires { ⌜ (length (now words) ≤ 4096) × (length (now image) ≤ 32768) × (length (now words) ≤ length (now rest)) × Within (now words) (now image) place × NodeFirst (framesOf (partAt (now image) place)) ⌝ }
     ensures { λ r. ⌜ ((to : Reached) → Descended (now (words .entry)) (now (image .entry)) place to → Judging (now (words .entry)) (now (image .entry)) (now (rest .entry)) (now (rest .exit)) r (concluded stored to) (to .frames)) ⌝ }
 {
     let start = place.start;
     let end = place.end;
     let node = &image[start..end];
-    let from = definitions_start(node);
+    let Head::Node {
+        depth: _,
+        handler: _,
+        texts,
+    } = head_of(node)
+    else {
+        return without_command(Verdict::UnknownCommand(first));
+    };
+    let from = texts.size;
     let scan = parse_args(words, node, from, place.at, rest);
     Judged {
         verdict: verdict_of(words, node, from, scan),
@@ -112,16 +112,17 @@ fn judge_arguments<'a>(words: &'a [u8], image: &'a [u8], place: Place, rest: &mu
     }
 }
 
-// What the words of a line say under a well-formed tree, in which they lead to a place; positional words are kept in `rest`.
-pub fn judge<'a>(words: &'a [u8], image: &'a [u8], place: Place, rest: &mut [u8]) -> Judged
-    requires { ⌜ (length (now words) ≤ 4096) × (length (now words) ≤ length (now rest)) × (checkTree (now image) ≡ Good) × Descended (now words) (now image) place (reachedBy (now image) (now words)) ⌝ }
+// What the words of a line say under a well-formed tree, in which they lead to what was found; positional words are kept in `rest`.
+pub fn judge<'a>(words: &'a [u8], image: &'a [u8], found: Found, rest: &mut [u8]) -> Judged
+    requires { ⌜ (length (now words) ≤ 4096) × (length (now words) ≤ length (now rest)) × (checkTree (now image) ≡ Good) × Leads (now words) (now image) found (reachedBy (now image) (now words)) ⌝ }
     ensures { λ r. ⌜ Judging (now (words .entry)) (now (image .entry)) (now (rest .entry)) (now (rest .exit)) r (parseWords (framesOf (now (image .entry))) (textsIn (now (words .entry)))) (reachedBy (now (image .entry)) (now (words .entry)) .frames) ⌝ }
 {
     let Framed::Frame { kind: _, length } = read_frame(words, 0) else {
         return without_command(Verdict::NoWords);
     };
-    if place.at == 0 {
-        return without_command(Verdict::UnknownCommand(Part { start: 3, length }));
-    }
-    judge_arguments(words, image, place, rest)
+    let first = Part { start: 3, length };
+    let Found::At(place) = found else {
+        return without_command(Verdict::UnknownCommand(first));
+    };
+    judge_arguments(words, image, place, first, rest)
 }

@@ -10,7 +10,7 @@ use super::judging::judge;
 use report::write_fault;
 use report::write_report;
 use tree::Checked;
-use tree::Place;
+use tree::Found;
 use tree::check_tree;
 use tree::find_command;
 use words::Tokens;
@@ -23,7 +23,7 @@ ghost use Rattle.tree.specs.Images.{framesOf};
 ghost use Rattle.tree.specs.Rules.{checkTree};
 ghost use Rattle.tree.specs.declared.check.Checked.the-variants.{Good};
 ghost use Rattle.tree.specs.Commands.{reachedBy};
-ghost use Rattle.tree.specs.Trails.{Within, Descended};
+ghost use Rattle.tree.specs.Trails.{Within, Leads};
 ghost use Rattle.parse.specs.Commands.{parseWords};
 ghost use Rattle.parse.specs.Answer.{Telling, onChecked, Worded, Parsing};
 ghost use Rattle.parse.specs.Held.{Enough, outcomeIn};
@@ -69,18 +69,18 @@ fn tell<'a>(words: &'a [u8], image: &'a [u8], judged: Judged, rest: &[u8], out: 
     )
 }
 
-// The words of a line under a well-formed tree, in which they lead to a place.
+// The words of a line under a well-formed tree, in which they lead to what was found.
 fn parse_command<'a>(
     words: &'a [u8],
     image: &'a [u8],
-    place: Place,
+    found: Found,
     rest: &mut [u8],
     out: &mut [u8],
 ) -> Parsed
-    requires { ⌜ (length (now words) ≤ length (now rest)) × (length (now rest) ≤ 4096) × (checkTree (now image) ≡ Good) × Descended (now words) (now image) place (reachedBy (now image) (now words)) ⌝ }
+    requires { ⌜ (length (now words) ≤ length (now rest)) × (length (now rest) ≤ 4096) × (checkTree (now image) ≡ Good) × Leads (now words) (now image) found (reachedBy (now image) (now words)) ⌝ }
     ensures { λ r. ⌜ Telling (parseWords (framesOf (now (image .entry))) (textsIn (now (words .entry)))) (now (out .entry)) r (now (out .exit)) ⌝ }
 {
-    let judged = judge(words, image, place, rest);
+    let judged = judge(words, image, found, rest);
     tell(words, image, judged, rest, out)
 }
 
@@ -89,13 +89,13 @@ fn parse_words<'a>(words: &'a [u8], image: &'a [u8], rest: &mut [u8], out: &mut 
     requires { ⌜ (length (now words) ≤ length (now rest)) × (length (now rest) ≤ 4096) ⌝ }
     ensures { λ r. ⌜ Worded (now (image .entry)) (now (words .entry)) (now (out .entry)) r (now (out .exit)) ⌝ }
 {
-    let found = find_command(words, image);
-    let checked = found.checked;
+    let tested = find_command(words, image);
+    let checked = tested.checked;
     match checked {
         Checked::BadFrame(n) => Parsed::BadTree(n),
         Checked::Good => {
-            let place = found.place;
-            parse_command(words, image, place, rest, out)
+            let found = tested.found;
+            parse_command(words, image, found, rest, out)
         }
     }
 }
@@ -105,7 +105,7 @@ fn unless_bad(image: &[u8], refusal: Parsed) -> Parsed
     ensures { λ r. ⌜ r ≡ onChecked (checkTree (now (image .entry))) (λ n. BadTree n) refusal ⌝ }
 {
     match check_tree(image) {
-        Checked::BadFrame(n) => Parsed::BadTree(n),
+        Checked::BadFrame(frame) => Parsed::BadTree(frame),
         Checked::Good => refusal,
     }
 }

@@ -7,26 +7,20 @@ use mathlib.Core.Option.{Option, none, some}
 use native.Mathlib.Omega.{arith}
 use lib.Dec.{eqb}
 use lib.ListN.{length}
-use Rattle.buffer.specs.Write.{over}
-use Rattle.text.specs.Decoding.{codesIn}
 use Rattle.text.specs.Apart.{trimmed, wordsBetween}
 use Rattle.words.specs.Tokens.{wordsOf, framesOf as wordFrames}
 use Rattle.words.specs.declared.tokenizer.Tokens.{Tokens}
 use Rattle.words.specs.Answer.{number as wordsNumber, value as wordsValue}
 use Rattle.history.specs.Answer.{entriesIn, entriesAfter, historyBy, Addition, number as addNumber, value as addValue}
-use Rattle.history.specs.Rust.{CommandHistory, addCommand}
 use Rattle.history.specs.declared.past.History.{History}
 use Rattle.history.specs.declared.adding.Added.{Added}
 use Rattle.history.specs.declared.adding.Added.the-variants.{Done, BadState as BadHistory, TooLong, IllFormed}
-use Rattle.history.proofs.Original.{original}
 use Rattle.editor.specs.declared.line.Mode.the-variants.{Typing}
 use Rattle.editor.specs.declared.drawing.Key.{Key}
 use Rattle.editor.specs.declared.drawing.Pressed.{Pressed}
 use Rattle.editor.specs.declared.drawing.Pressed.the-variants.{Shown, Entered, Dropped, BadState, BadPrompt, NoRoom}
 use Rattle.editor.specs.Line.{limit}
 use Rattle.editor.specs.Answer.{stateOf, goodPrompt, refused, number as keyNumber, value as keyValue, kind as keyKind, beside as keyBeside}
-use Rattle.editor.specs.Rust.{Shell, rustKey}
-use Rattle.editor.proofs.Original.{shellOf}
 use Rattle.editor.proofs.Seats.{good-parts}
 use Rattle.saved.specs.State.{savedOf, editorIn, historyIn, goodSaved}
 use Rattle.saved.specs.Calls.{Beginning, turnIn, number as begunNumber, value as begunValue}
@@ -41,7 +35,7 @@ use Rattle.parse.specs.Answer.{number as parseNumber, value as parseValue}
 use Rattle.parse.specs.declared.answer.Parsed.{Parsed}
 use Rattle.help.specs.Answer.{number as helpNumber, value as helpValue}
 use Rattle.help.specs.declared.call.Helped.{Helped}
-use Rattle.shell.specs.Lines.{builtinOf, beginsHelp}
+use Rattle.shell.specs.Lines.{builtinOf}
 use Rattle.shell.specs.Answer.{number as runNumber, value as runValue, kind as runKind, beside as runBeside}
 use Rattle.shell.specs.declared.answer.Ran.{Ran}
 use Rattle.shell.specs.declared.answer.Ran.the-variants.{NoRoom as RunNoRoom}
@@ -55,8 +49,10 @@ use Rattle.rust.specs.Tree.{Commands}
 use Rattle.rust.specs.Parser.{tokenize, Result, parse}
 use Rattle.rust.specs.Help.{showHelp}
 use Rattle.rust.specs.Shell.{enter}
-use Rattle.rust.specs.Same.{Seen, quiet, output, handed, ended, crashed, seenOf, allPrinted}
-use Rattle.rust.specs.Calls.{Writes, resultNumber, parseBytes, helpBytes, HelpsAs, seenBytes, Says, Fair, SameAsRust}
+use Rattle.rust.specs.History.{CommandHistory, addCommand}
+use Rattle.rust.specs.Loop.{Shell, rustKey}
+use Rattle.rust.specs.Same.{original, shellOf, Seen, quiet, output, handed, ended, crashed, seenOf, QuotedAsIs}
+use Rattle.rust.specs.Calls.{Writes, PressesAs, resultNumber, parseBytes, helpBytes, HelpsAs, seenBytes, Says, Fair, SameAsRust}
 use Rattle.promises.proofs.Tables.{Told, told}
 use Rattle.promises.proofs.Answers.{tooLong, illFormed, tokenizeTable, tokenize-tells, quoteTable, quote-tells, checkTable, check-tells, parseTable, parse-tells, helpTable, help-tells, Ended, runTable, run-tells}
 use Rattle.promises.proofs.KeyAnswers.{Keyed, keyed, pressTable, press-tells, savedAddTable, saved-add-tells, beginTable, begin-tells}
@@ -208,18 +204,23 @@ shellIn state slots = shellOf (stateOf (editorIn state) (historyIn state) slots)
 abbrev pub commandsIn : List ℕ → List ℕ → CommandHistory
 commandsIn state slots = original (entriesIn (historyIn state) slots) (historyIn state .place)
 
+-- one turn of the Rust's loop: the state, the bytes in both buffers, and the answer, whose number, value, kind and second value are the 64 bits
+pub record PacksTurn (prompt : List ℕ) (shell : Shell) (byte : ℕ) (line screen : List ℕ) (p : ℕ) (after : Shell) (line′ screen′ : List ℕ) : Type 0 where
+  pub told : Pressed
+  pub bits : p ≡ keyTold told
+  pub turn : PressesAs prompt (rustKey prompt shell byte) line screen after told line′ screen′
+
 pub record PacksAsRust (image : List ℕ) (tree : Commands) : Type 0 where
   pub splits : (line out : List ℕ) (p : ℕ) (left : List ℕ) → Fair line → WordsCall line out p left → PacksBytes 0 (wordFrames (tokenize line)) out p left
   pub parses : (line out : List ℕ) (p : ℕ) (left : List ℕ) → Fair line → ParseCall image line out p left
       → PacksBytes (resultNumber (parse tree line)) (parseBytes (parse tree line)) out p left
   pub helps : (line out : List ℕ) (p : ℕ) (left : List ℕ) → Fair line → HelpCall image line out p left → PacksHelp (showHelp tree (wordsBetween line)) out p left
-  pub runs : (printable : ℕ → Bool) (line out : List ℕ) (p : ℕ) (left : List ℕ) → length line ≤ 1024
-      → (beginsHelp line ≡ true → allPrinted printable (codesIn line) ≡ true) → RunCall image line out p left
+  pub runs : (printable : ℕ → Bool) (line out : List ℕ) (p : ℕ) (left : List ℕ) → length line ≤ 1024 → QuotedAsIs printable tree line → RunCall image line out p left
       → let seen : Seen = seenOf (enter printable tree line) in Writes (seenBytes seen) out left (PacksSeen seen p) (p ≡ plain 9 (length (seenBytes seen)))
   -- a key, and a text added, in a good state and not refused: what the Rust's loop, and its add_command, make of what the bytes hold
   pub keys : (state slots prompt : List ℕ) (byte : ℕ) (line screen : List ℕ) (p : ℕ) (state′ slots′ line′ screen′ : List ℕ)
       → KeyCall state slots prompt byte line screen p state′ slots′ line′ screen′ → goodSaved state slots ≡ true → numberIn p ≡ 0
-      → (shellIn state′ slots′ ≡ rustKey prompt (shellIn state slots) byte .after) × (screen′ ≡ over (rustKey prompt (shellIn state slots) byte .stdout) screen)
+      → PacksTurn prompt (shellIn state slots) byte line screen p (shellIn state′ slots′) line′ screen′
   pub adds : (state slots text : List ℕ) (p : ℕ) (state′ slots′ : List ℕ) → AddCall state slots text p state′ slots′ → goodSaved state slots ≡ true → numberIn p ≡ 0
       → addCommand (commandsIn state slots) text ≡ commandsIn state′ slots′
 
@@ -255,7 +256,7 @@ done-add (IllFormed n) p e z = absurd (omega arith)
 
 module _ (state slots prompt : List ℕ) (byte : ℕ) (line screen : List ℕ) (p : ℕ) (state′ slots′ line′ screen′ : List ℕ) where
   key-as-rust : KeyCall state slots prompt byte line screen p state′ slots′ line′ screen′ → goodSaved state slots ≡ true → numberIn p ≡ 0
-      → (shellIn state′ slots′ ≡ rustKey prompt (shellIn state slots) byte .after) × (screen′ ≡ over (rustKey prompt (shellIn state slots) byte .stdout) screen)
+      → PacksTurn prompt (shellIn state slots) byte line screen p (shellIn state′ slots′) line′ screen′
   key-as-rust c good zero =
       let b = key-behind state slots prompt byte line screen p state′ slots′ line′ screen′ c in
       let is = good-saved-parts state slots good in
@@ -263,7 +264,11 @@ module _ (state slots prompt : List ℕ) (byte : ℕ) (line screen : List ℕ) (
       let saved : state′ ≡ savedOf (k .editor) (k .history) = key-saved state slots prompt byte line screen (b .0) state′ slots′ line′ screen′ (b .1) (is .0) in
       let d = key (editorIn state) (historyIn state) slots prompt byte line screen k slots′ line′ screen′
       (key-by-value state slots prompt byte line screen (b .0) state′ slots′ line′ screen′ (b .1) (is .0)) (taken-key (b .0) p (b .2) zero) (is .1) in
-      (ap (λ (x : List ℕ). shellIn x slots′) saved ∙ ap shellOf (held-saved (k .editor) (k .history) slots′) ∙ d .0, d .1)
+      record {
+        told = b .0;
+        bits = b .2;
+        turn = record { state = ap (λ (x : List ℕ). shellIn x slots′) saved ∙ ap shellOf (held-saved (k .editor) (k .history) slots′) ∙ d .state; answer = d .answer; given = d .given; shown = d .shown };
+      }
 
 module _ (state slots text : List ℕ) (p : ℕ) (state′ slots′ : List ℕ) where
   add-as-rust : AddCall state slots text p state′ slots′ → goodSaved state slots ≡ true → numberIn p ≡ 0 → addCommand (commandsIn state slots) text ≡ commandsIn state′ slots′

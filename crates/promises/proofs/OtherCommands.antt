@@ -1,7 +1,7 @@
 -- Demand 3, no command depends on another: under two well-formed trees in which the command that a line names is absent or has the same subtree, and with
 -- equal buffers, answer, refusal and every byte written are the same. A line that is over-long, ill-formed or wordless names none and is answered alike under all trees.
 use Prim.Native.Nat.{ℕ}
-use mathlib.Core.Path.{_≡_, refl}
+use mathlib.Core.Path.{_≡_, refl, sym, _∙_}
 use mathlib.Core.Bool.{Bool, true, false, cond}
 use mathlib.Core.List.{List, [], _∷_}
 use native.Mathlib.Omega.{arith}
@@ -29,6 +29,7 @@ use Rattle.shell.specs.declared.answer.Ran.{Ran}
 use Rattle.shell.specs.declared.builtin.Builtin.the-variants.{Help}
 use Rattle.shell.proofs.Answers.{naming, other-commands as run-alike}
 use Rattle.promises.proofs.Answers.{tooLong, illFormed}
+use Rattle.promises.proofs.Subtrees.{Absent, Present, absent-none, present-found}
 
 -- the words of a line, of which the first names its command; a line that is over-long or ill-formed has none to name one
 abbrev pub named : (List ℕ → List (List ℕ)) → List ℕ → List (List ℕ)
@@ -71,6 +72,53 @@ module _ (image other line : List ℕ) (good : checkTree image ≡ Good) (good�
       → (r q : Ran) → Running image line out r left → Running other line out q left′ → (r ≡ q) × (left ≡ left′)
   run-alone bare agree r q a b =
       run-alike image other line good good′ out left left′ r q a b (λ l w. (bare l w, asked (Agree image other) (tooLong line) (illFormed line) (naming line) agree l w))
+
+-- THE TWO CASES BY NAME. The command that a line names is absent from both trees, or it is present in both with the same complete subtree: its node and all
+-- frames before the next node of its depth or less (Subtrees). What else stands in either tree, before it or behind it, does not matter.
+module _ (image other line : List ℕ) (good : checkTree image ≡ Good) (good′ : checkTree other ≡ Good) where
+  module _ (words : List ℕ → List (List ℕ)) (name : List ℕ) (more : List (List ℕ)) (e : words line ≡ name ∷ more) where
+    -- of a line that is over-long or ill-formed nothing is asked
+    same-named : subtree 0 name (framesOf image) ≡ subtree 0 name (framesOf other) → Agree image other (named words line)
+    same-named same = by (tooLong line) (illFormed line)
+      where
+        by : (l w : Bool) → Agree image other (cond l [] (cond w [] (words line)))
+        by true w = tt
+        by false true = tt
+        by false false = rw e same
+
+    absent-agree : Absent name (framesOf image) → Absent name (framesOf other) → Agree image other (named words line)
+    absent-agree a b = same-named (absent-none name (framesOf image) a ∙ sym (absent-none name (framesOf other) b))
+
+    present-agree : (command : List Frame) → Present name command (framesOf image) → Present name command (framesOf other) → Agree image other (named words line)
+    present-agree command a b = same-named (present-found image name command good a ∙ sym (present-found other name command good′ b))
+
+  module _ (out left left′ : List ℕ) (name : List ℕ) (more : List (List ℕ)) where
+    -- PARSE
+    pub parse-absent : wordsOf line ≡ name ∷ more → Absent name (framesOf image) → Absent name (framesOf other)
+        → (r q : Parsed) → Parsing image line out r left → Parsing other line out q left′ → (r ≡ q) × (left ≡ left′)
+    parse-absent e a b = parse-alone image other line good good′ out left left′ (absent-agree wordsOf name more e a b)
+
+    pub parse-present : wordsOf line ≡ name ∷ more → (command : List Frame) → Present name command (framesOf image) → Present name command (framesOf other)
+        → (r q : Parsed) → Parsing image line out r left → Parsing other line out q left′ → (r ≡ q) × (left ≡ left′)
+    parse-present e command a b = parse-alone image other line good good′ out left left′ (present-agree wordsOf name more e command a b)
+
+    -- HELP
+    pub help-absent : wordsBetween line ≡ name ∷ more → Absent name (framesOf image) → Absent name (framesOf other)
+        → (r q : Helped) → Helping image line out r left → Helping other line out q left′ → (r ≡ q) × (left ≡ left′)
+    help-absent e a b = help-alone image other line good good′ out left left′ (absent-agree wordsBetween name more e a b)
+
+    pub help-present : wordsBetween line ≡ name ∷ more → (command : List Frame) → Present name command (framesOf image) → Present name command (framesOf other)
+        → (r q : Helped) → Helping image line out r left → Helping other line out q left′ → (r ≡ q) × (left ≡ left′)
+    help-present e command a b = help-alone image other line good good′ out left left′ (present-agree wordsBetween name more e command a b)
+
+    -- RUN, of any line but a bare `help`
+    pub run-absent : (builtinOf (trimmed line) ≡ Help → ⊥) → naming line ≡ name ∷ more → Absent name (framesOf image) → Absent name (framesOf other)
+        → (r q : Ran) → Running image line out r left → Running other line out q left′ → (r ≡ q) × (left ≡ left′)
+    run-absent bare e a b = run-alone image other line good good′ out left left′ (λ l w. bare) (absent-agree naming name more e a b)
+
+    pub run-present : (builtinOf (trimmed line) ≡ Help → ⊥) → naming line ≡ name ∷ more → (command : List Frame) → Present name command (framesOf image) → Present name command (framesOf other)
+        → (r q : Ran) → Running image line out r left → Running other line out q left′ → (r ≡ q) × (left ≡ left′)
+    run-present bare e command a b = run-alone image other line good good′ out left left′ (λ l w. bare) (present-agree naming name more e command a b)
 
 -- THE SAME OVER THE DEFINITIONS, which a constant would not satisfy: what a line says is a function of the subtree of its first word
 pub parse-is : (image line w : List ℕ) (words : List (List ℕ)) → wordsOf line ≡ w ∷ words → parseLine image line ≡ parseIn (subtree 0 w (framesOf image)) w words

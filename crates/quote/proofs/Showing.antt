@@ -23,6 +23,10 @@ use Rattle.text.proofs.Pieces.{character-some, character-fits, character-bytes,
 use Rattle.text.proofs.Prefix.{codes-step, codes-stop, codes-end, codes-whole, prefix-step, prefix-none, encode-append}
 use Rattle.quote.specs.Steps.{quietOf, quietFirst, plainWord, specials, escapedBytes}
 
+-- what is still to come of a well-formed word begins with a character
+pub formed-on : (w : List ℕ) (at : ℕ) (d : Decoded) → at + wellFormedLength (drop at w) ≡ length w → decodeFirst (drop at w) ≡ d → OneOf (1 ∷ 2 ∷ []) (tagOf the-type d) → at < length w → ⊥
+formed-on w at d f e k l = let z = prefix-none (drop at w) (codes-stop (drop at w) d e k) in omega arith
+
 -- a character more, seen from the place behind it
 pub codes-at : (w : List ℕ) (at code n : ℕ) → decodeFirst (drop at w) ≡ Character code n → codesIn (drop at w) ≡ code ∷ codesIn (drop (at + n) w)
 codes-at w at code n d = codes-step (drop at w) code n d ∙ ap (λ (l : List ℕ). code ∷ codesIn l) (drop-drop n at w)

@@ -68,8 +68,9 @@ pub fn is_plain(word: &[u8]) -> bool
     true
 }
 
-// How many characters of a word are `"` or `\`.
+// How many characters of a well-formed word are `"` or `\`.
 fn escapes(word: &[u8]) -> usize
+    requires { ⌜ wellFormedLength (now word) ≡ length (now word) ⌝ }
     ensures { λ r. ⌜ (r ≡ specials (codesIn (now (word .entry)))) × (r ≤ length (now (word .entry))) ⌝ }
 {
     let mut n = 0;
@@ -107,8 +108,9 @@ fn push_character(code: u32, bytes: &[u8], out: &mut [u8], at: usize) -> usize
     push(bytes, out, at)
 }
 
-// Writes a word's characters at the place `start`, with `\` before `"` and `\`, and returns the place behind.
+// Writes a well-formed word's characters at the place `start`, with `\` before `"` and `\`, and returns the place behind.
 fn push_escaped(word: &[u8], out: &mut [u8], start: usize) -> usize
+    requires { ⌜ wellFormedLength (now word) ≡ length (now word) ⌝ }
     requires { ⌜ start + length (encodeAll (escaped (codesIn (now word)))) ≤ length (now out) ⌝ }
     ensures { λ r. ⌜ Pushed (encodeAll (escaped (codesIn (now (word .entry))))) (now (out .entry)) start r (now (out .exit)) ⌝ }
 {

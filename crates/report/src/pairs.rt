@@ -8,9 +8,10 @@ use table::Table;
 use table::key;
 use table::value;
 ghost use mathlib.Core.Path.{_≡_};
-ghost use Prim.Native.Nat.{_≤_, _<_, _^_};
+ghost use Prim.Native.Nat.{ℕ, _≤_, _<_, _^_};
 ghost use lib.ListN.{length};
 ghost use Rattle.buffer.specs.Write.{Written};
+ghost use Rattle.frame.specs.Framed.{frameOf};
 ghost use Rattle.frame.specs.Series.{runs};
 ghost use Rattle.table.specs.Held.{mapOf};
 ghost use Rattle.report.specs.Report.{optionFrame, flagFrame};
@@ -80,6 +81,14 @@ pub fn write_options<'a>(words: &'a [u8], image: &'a [u8], options: Table, out: 
     o
 }
 
+// Writes the frame of a flag at the front of out and returns how many bytes that is: as many for any kind.
+fn write_flag(key: &[u8], out: &mut [u8]) -> usize
+    requires { ⌜ (length (now key) < 256 ^ 2) × ((kind : ℕ) → length (frameOf kind (now key)) ≤ length (now out)) ⌝ }
+    ensures { λ r. ⌜ Written (frameOf 0x13 (now (key .entry))) (now (out .entry)) r (now (out .exit)) ⌝ }
+{
+    write_frame(0x13, key, out)
+}
+
 // Writes the frames of the flags at the front of out and returns how many bytes that is.
 pub fn write_flags<'a>(words: &'a [u8], image: &'a [u8], flags: Table, out: &mut [u8]) -> usize
     requires { ⌜ length (runs flagFrame (mapOf (now words) (now image) flags)) ≤ length (now out) ⌝ }
@@ -90,7 +99,7 @@ pub fn write_flags<'a>(words: &'a [u8], image: &'a [u8], flags: Table, out: &mut
     let mut i = 0;
     while i < n {
         let e = flags.at[i];
-        o += write_frame(0x13, key(words, image, e), &mut out[o..]);
+        o += write_flag(key(words, image, e), &mut out[o..]);
         i += 1;
     }
     o

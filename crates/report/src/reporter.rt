@@ -5,7 +5,8 @@ use super::pairs::options_size;
 use super::pairs::write_flags;
 use super::pairs::write_options;
 use super::series::words_size;
-use super::series::write_words;
+use super::series::write_path;
+use super::series::write_positionals;
 use table::Table;
 ghost use mathlib.Core.Path.{_≡_};
 ghost use Prim.Native.Nat.{_+_, _≤_, _<_};
@@ -29,7 +30,7 @@ fn report_size<'a>(
     texts + options_size(words, image, options) + flags_size(words, image, flags)
 }
 
-// Writes the report at the front of out: each part into the rest of it, from the cursor on.
+// Writes the report at the front of out. The writer of each kind is lent the rest of it, from the cursor on, and returns its length.
 fn write_frames<'a>(
     words: &'a [u8],
     image: &'a [u8],
@@ -42,10 +43,10 @@ fn write_frames<'a>(
     requires { ⌜ length (reportHeld (now words) (now image) (now path) options flags (now rest)) ≤ length (now out) ⌝ }
     ensures { λ _. ⌜ now (out .exit) ≡ over (reportHeld (now (words .entry)) (now (image .entry)) (now (path .entry)) options flags (now (rest .entry))) (now (out .entry)) ⌝ }
 {
-    let mut at = write_words(0x11, path, out);
+    let mut at = write_path(path, out);
     at += write_options(words, image, options, &mut out[at..]);
     at += write_flags(words, image, flags, &mut out[at..]);
-    write_words(0x14, rest, &mut out[at..]);
+    write_positionals(rest, &mut out[at..]);
 }
 
 // The report of the path words, the options, the flags and the positionals, at the front of out. The words of `path` and `rest` come as frames,

@@ -24,7 +24,7 @@ pub fn words_size(words: &[u8]) -> usize
 }
 
 // Writes the words as frames of that kind at the front of out and returns how many bytes that is. A word goes to the place that it is read from.
-pub fn write_words(kind: u8, words: &[u8], out: &mut [u8]) -> usize
+fn write_words(kind: u8, words: &[u8], out: &mut [u8]) -> usize
     requires { ⌜ length (runs (frameOf kind) (textsIn (now words))) ≤ length (now out) ⌝ }
     ensures { λ r. ⌜ Written (runs (frameOf kind) (textsIn (now (words .entry)))) (now (out .entry)) r (now (out .exit)) ⌝ }
 {
@@ -38,4 +38,20 @@ pub fn write_words(kind: u8, words: &[u8], out: &mut [u8]) -> usize
         at += write_frame(kind, &words[start..end], &mut out[at..]);
     }
     at
+}
+
+// Writes the words of a path as frames 11 at the front of out and returns how many bytes that is.
+pub fn write_path(path: &[u8], out: &mut [u8]) -> usize
+    requires { ⌜ length (runs (frameOf 0x11) (textsIn (now path))) ≤ length (now out) ⌝ }
+    ensures { λ r. ⌜ Written (runs (frameOf 0x11) (textsIn (now (path .entry)))) (now (out .entry)) r (now (out .exit)) ⌝ }
+{
+    write_words(0x11, path, out)
+}
+
+// Writes the positional words as frames 14 at the front of out and returns how many bytes that is.
+pub fn write_positionals(rest: &[u8], out: &mut [u8]) -> usize
+    requires { ⌜ length (runs (frameOf 0x14) (textsIn (now rest))) ≤ length (now out) ⌝ }
+    ensures { λ r. ⌜ Written (runs (frameOf 0x14) (textsIn (now (rest .entry)))) (now (out .entry)) r (now (out .exit)) ⌝ }
+{
+    write_words(0x14, rest, out)
 }

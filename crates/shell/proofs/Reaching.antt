@@ -1,9 +1,11 @@
 -- Laws of the handler: that of the node which bytes begin with, and that of the command which words lead to.
 use Prim.Native.Nat.{ℕ}
-use mathlib.Core.Path.{_≡_, refl, sym, ap}
+use mathlib.Core.Path.{_≡_, refl, sym, ap, _∙_}
 use mathlib.Core.List.{List, [], _∷_}
 use types.Run.{OneOf, miss, hit}
 use denote.Enum.Declared.{tagOf}
+use borrow.Author.Tests.{ne-eqb}
+use Rattle.buffer.proofs.Choices.{else-is}
 use Rattle.image.specs.Frames.{Frame}
 use Rattle.image.specs.Reading.{readBy, readFirst, headFirst, nodeIn, optionIn, flagIn}
 use Rattle.image.specs.declared.head.Lengths.{Lengths}
@@ -17,20 +19,32 @@ use Rattle.tree.proofs.Items.{frames-read}
 use Rattle.parse.specs.Commands.{fault, parseIn, parseWords}
 use Rattle.parse.proofs.Definitions.{frames-none}
 use Rattle.shell.specs.Lines.{handlerOf, carried, executeIn, execute}
+use Rattle.shell.specs.Held.{handlerBy}
+use Rattle.shell.specs.declared.handler.Handler.the-variants.{Number, None}
 
 -- THE HANDLER of the node that bytes begin with
 module _ (s : List ℕ) where
-  pub handler-there : (d h : ℕ) (t : Lengths) → headFirst s ≡ Node d h t → h ≡ handlerOf (framesOf s)
+  handler-is : (d h : ℕ) (t : Lengths) → headFirst s ≡ Node d h t → h ≡ handlerOf (framesOf s)
   unfolding handlerOf readFirst nodeIn
-  handler-there d h t e = sym (ap handlerOf (frames-read s (nodeIn s d h t) (t .size) (ap (readBy s) e)))
+  handler-is d h t e = sym (ap handlerOf (frames-read s (nodeIn s d h t) (t .size) (ap (readBy s) e)))
 
-  pub handler-none : (head : Head) → headFirst s ≡ head → OneOf (1 ∷ 2 ∷ 3 ∷ 4 ∷ []) (tagOf the-type head) → 0 ≡ handlerOf (framesOf s)
+  no-node : (head : Head) → headFirst s ≡ head → OneOf (1 ∷ 2 ∷ 3 ∷ 4 ∷ []) (tagOf the-type head) → 0 ≡ handlerOf (framesOf s)
   unfolding handlerOf readFirst optionIn flagIn
-  handler-none (Node d h t) e k = absurd (miss (1 ∷ 2 ∷ 3 ∷ 4 ∷ []) 0 tt k)
-  handler-none (Option r c t) e k = sym (ap handlerOf (frames-read s (optionIn s r c t) (t .size) (ap (readBy s) e)))
-  handler-none (Flag c t) e k = sym (ap handlerOf (frames-read s (flagIn s c t) (t .size) (ap (readBy s) e)))
-  handler-none Bad e k = sym (ap handlerOf (frames-none s Bad e (hit (3 ∷ 4 ∷ []) 3 tt)))
-  handler-none End e k = sym (ap handlerOf (frames-none s End e (hit (3 ∷ 4 ∷ []) 4 tt)))
+  no-node (Node d h t) e k = absurd (miss (1 ∷ 2 ∷ 3 ∷ 4 ∷ []) 0 tt k)
+  no-node (Option r c t) e k = sym (ap handlerOf (frames-read s (optionIn s r c t) (t .size) (ap (readBy s) e)))
+  no-node (Flag c t) e k = sym (ap handlerOf (frames-read s (flagIn s c t) (t .size) (ap (readBy s) e)))
+  no-node Bad e k = sym (ap handlerOf (frames-none s Bad e (hit (3 ∷ 4 ∷ []) 3 tt)))
+  no-node End e k = sym (ap handlerOf (frames-none s End e (hit (3 ∷ 4 ∷ []) 4 tt)))
+
+  -- by its number, which 0 is not
+  pub handler-there : (d h : ℕ) (t : Lengths) → headFirst s ≡ Node d h t → (h ≡ 0 → ⊥) → Number h ≡ handlerBy (handlerOf (framesOf s))
+  handler-there d h t e k = sym (else-is _ _ _ (ne-eqb h 0 k)) ∙ ap handlerBy (handler-is d h t e)
+
+  pub handler-lacking : (d h : ℕ) (t : Lengths) → headFirst s ≡ Node d h t → h ≡ 0 → None ≡ handlerBy (handlerOf (framesOf s))
+  handler-lacking d h t e k = ap handlerBy (sym k ∙ handler-is d h t e)
+
+  pub handler-none : (head : Head) → headFirst s ≡ head → OneOf (1 ∷ 2 ∷ 3 ∷ 4 ∷ []) (tagOf the-type head) → None ≡ handlerBy (handlerOf (framesOf s))
+  handler-none head e k = ap handlerBy (no-node head e k)
 
 -- WHAT IS CARRIED OUT: the descent from the top leads where that from the subtree of the first word leads, and a fault asks for no handler
 carried-fault : (h k number : ℕ) (told : List ℕ) → carried h (fault number told) ≡ carried k (fault number told)

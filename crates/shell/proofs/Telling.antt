@@ -1,11 +1,11 @@
 -- What is carried out of what was judged: a fault by its parts, and a command with its handler or without.
 use Prim.Native.Nat.{ℕ, _<_, _≤_}
 use mathlib.Core.Path.{_≡_, refl, sym, ap, _∙_}
+use mathlib.Core.Bool.{Bool, true, false, cond}
 use mathlib.Core.List.{List}
 use native.Mathlib.Omega.{arith}
-use borrow.Author.Tests.{eq-eqb, ne-eqb}
+use lib.Dec.{eqb}
 use lib.ListN.{length, take, length-take, length-drop}
-use Rattle.buffer.proofs.Choices.{then-is, else-is}
 use Rattle.frame.specs.Series.{textsIn}
 use Rattle.report.specs.Report.{dashed, reportOf}
 use Rattle.tree.specs.Images.{framesOf}
@@ -16,7 +16,7 @@ use Rattle.message.specs.declared.told.Told.{Told}
 use Rattle.message.specs.declared.told.Told.the-variants.{NoHandler}
 use Rattle.scan.specs.Arguments.{Found}
 use Rattle.scan.specs.Held.{foundOf}
-use Rattle.parse.specs.Commands.{parseWords}
+use Rattle.parse.specs.Commands.{parsed, parseWords}
 use Rattle.parse.specs.Answer.{toldIn}
 use Rattle.parse.specs.Held.{outcomeIn, numberOf, dashesOf, textOf}
 use Rattle.parse.specs.declared.judging.Verdict.{Verdict}
@@ -24,6 +24,8 @@ use Rattle.parse.specs.declared.judging.Verdict.the-variants.{Fine, NoWords, Un
 use Rattle.parse.specs.declared.judging.Judged.{Judged}
 use Rattle.parse.proofs.Tellings.{fault-told, report-told}
 use Rattle.shell.specs.Lines.{text, handed, faultMessage, joined, handlerOf, carried, execute}
+use Rattle.shell.specs.Held.{handlerBy}
+use Rattle.shell.specs.declared.handler.Handler.the-variants.{Number, None}
 use Rattle.shell.proofs.Reaching.{execute-top}
 
 -- a fault's number is a byte
@@ -73,13 +75,22 @@ module _ (words image rest : List ℕ) (j : Judged) (handler : ℕ) where
 
   -- A COMMAND
   module _ (fine : numberOf (j .verdict) ≡ 0) where
-    pub lacking-carried : handler ≡ 0 → text 8 (message NoHandler (joined path)) ≡ carried handler (outcomeIn words image rest j)
+    pub lacking-carried : None ≡ handlerBy handler → text 8 (message NoHandler (joined path)) ≡ carried handler (outcomeIn words image rest j)
     unfolding outcomeIn carried
-    lacking-carried z = sym (ap (carried handler) (report-told words part path found (j .verdict) fine) ∙ then-is _ _ _ (eq-eqb handler 0 z))
+    lacking-carried e = sym (ap (carried handler) (report-told words part path found (j .verdict) fine) ∙ by (eqb handler 0) e)
+      where
+        by : (t : Bool) → None ≡ cond t None (Number handler) → cond t (text 8 (message NoHandler (joined path))) (handed handler (toldIn (parsed path found))) ≡ text 8 (message NoHandler (joined path))
+        by true q = refl
+        by false q = cc
 
-    pub handed-carried : (handler ≡ 0 → ⊥) → handed handler (reportOf path (found .options) (found .flags) (found .positionals)) ≡ carried handler (outcomeIn words image rest j)
+    pub handed-carried : (number : ℕ) → Number number ≡ handlerBy handler → handed number (reportOf path (found .options) (found .flags) (found .positionals)) ≡ carried handler (outcomeIn words image rest j)
     unfolding outcomeIn carried toldIn
-    handed-carried z = sym (ap (carried handler) (report-told words part path found (j .verdict) fine) ∙ else-is _ _ _ (ne-eqb handler 0 z))
+    handed-carried number e = sym (ap (carried handler) (report-told words part path found (j .verdict) fine) ∙ by (eqb handler 0) e)
+      where
+        by : (t : Bool) → Number number ≡ cond t None (Number handler)
+            → cond t (text 8 (message NoHandler (joined path))) (handed handler (toldIn (parsed path found))) ≡ handed number (reportOf path (found .options) (found .flags) (found .positionals))
+        by true q = cc
+        by false q = let k : handler ≡ number = cc in ap (λ (n : ℕ). handed n (reportOf path (found .options) (found .flags) (found .positionals))) k
 
   -- THE WORDS of a line
   pub words-carried : outcomeIn words image rest j ≡ parseWords (framesOf image) (textsIn words) → handler ≡ handlerOf (reachedBy image words .frames)

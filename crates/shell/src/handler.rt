@@ -4,10 +4,16 @@ use image::head_of;
 ghost use mathlib.Core.Path.{_≡_};
 ghost use Rattle.tree.specs.Images.{framesOf};
 ghost use Rattle.shell.specs.Lines.{handlerOf};
+ghost use Rattle.shell.specs.Held.{handlerBy};
 
-// The handler of the node that frames begin with, 0 where there is none.
-pub fn handler_of(frames: &[u8]) -> u16
-    ensures { λ r. ⌜ r ≡ handlerOf (framesOf (now (frames .entry))) ⌝ }
+pub enum Handler {
+    Number(u16),
+    None,
+}
+
+// The handler of the node that frames begin with; an image says 0 where there is none.
+pub fn handler_of(frames: &[u8]) -> Handler
+    ensures { λ r. ⌜ r ≡ handlerBy (handlerOf (framesOf (now (frames .entry)))) ⌝ }
 {
     let Head::Node {
         depth: _,
@@ -15,7 +21,10 @@ pub fn handler_of(frames: &[u8]) -> u16
         texts: _,
     } = head_of(frames)
     else {
-        return 0;
+        return Handler::None;
     };
-    handler as u16
+    if handler == 0 {
+        return Handler::None;
+    }
+    Handler::Number(handler as u16)
 }

@@ -8,6 +8,7 @@ use super::builtin::builtin_of;
 use super::fault::show_dashed;
 use super::fault::show_no_handler;
 use super::fault::told_of;
+use super::handler::Handler;
 use super::handler::handler_of;
 use buffer::same;
 use help::Followed;
@@ -33,7 +34,7 @@ use text::next_word;
 use text::trim;
 use text::well_formed_prefix;
 use tree::Checked;
-use tree::Place;
+use tree::Found;
 use tree::find_command;
 use words::Tokens;
 use words::tokenize;
@@ -49,12 +50,12 @@ ghost use Rattle.tree.specs.Images.{framesOf};
 ghost use Rattle.tree.specs.Rules.{checkTree};
 ghost use Rattle.tree.specs.declared.check.Checked.the-variants.{Good};
 ghost use Rattle.tree.specs.Commands.{reachedBy};
-ghost use Rattle.tree.specs.Trails.{Within, Descended};
+ghost use Rattle.tree.specs.Trails.{Within, Leads};
 ghost use Rattle.help.specs.Answer.{helpOf};
 ghost use Rattle.parse.specs.Held.{numberOf, outcomeIn};
 ghost use Rattle.shell.specs.Lines.{helpSaid, carried, execute, otherSaid, lineSaid};
 ghost use Rattle.shell.specs.Answer.{Answered, Running};
-ghost use Rattle.shell.specs.Held.{Splits, Ready};
+ghost use Rattle.shell.specs.Held.{Splits, Ready, handlerBy};
 
 // The length of a line that is too long, 65,535 if more.
 fn told_length(n: usize) -> usize
@@ -87,17 +88,17 @@ fn tell_command<'a>(
     image: &'a [u8],
     judged: Judged,
     rest: &[u8],
-    handler: u16,
+    handler: Handler,
     out: &mut [u8],
 ) -> Ran
     requires { ⌜ Within (now words) (now image) (judged .place) × (judged .scan .kept ≤ length (now rest)) × (length (now rest) ≤ 4096) × (length (now words) ≤ 4096) × (numberOf (judged .verdict) ≡ 0) ⌝ }
-    ensures { λ r. ⌜ Answered (carried handler (outcomeIn (now (words .entry)) (now (image .entry)) (now (rest .entry)) judged)) (now (out .entry)) r (now (out .exit)) ⌝ }
+    ensures { λ r. ⌜ ((n : ℕ) → handler ≡ handlerBy n → Answered (carried n (outcomeIn (now (words .entry)) (now (image .entry)) (now (rest .entry)) judged)) (now (out .entry)) r (now (out .exit))) ⌝ }
 {
     let place = judged.place;
     let at = place.at;
-    if handler == 0 {
+    let Handler::Number(number) = handler else {
         return shown(8, show_no_handler(&words[..at], out));
-    }
+    };
     let start = place.start;
     let end = place.end;
     let scan = judged.scan;
@@ -105,7 +106,7 @@ fn tell_command<'a>(
     let options = scan.options;
     let flags = scan.flags;
     called(
-        handler,
+        number,
         write_report(
             words,
             &image[start..end],
@@ -118,13 +119,13 @@ fn tell_command<'a>(
     )
 }
 
-// The words of a line under a well-formed tree, in which they lead to a place.
-fn execute_command<'a>(words: &'a [u8], image: &'a [u8], place: Place, out: &mut [u8]) -> Ran
-    requires { ⌜ (length (now words) ≤ 4096) × (checkTree (now image) ≡ Good) × Descended (now words) (now image) place (reachedBy (now image) (now words)) ⌝ }
+// The words of a line under a well-formed tree, in which they lead to what was found.
+fn execute_command<'a>(words: &'a [u8], image: &'a [u8], found: Found, out: &mut [u8]) -> Ran
+    requires { ⌜ (length (now words) ≤ 4096) × (checkTree (now image) ≡ Good) × Leads (now words) (now image) found (reachedBy (now image) (now words)) ⌝ }
     ensures { λ r. ⌜ Answered (execute (framesOf (now (image .entry))) (textsIn (now (words .entry)))) (now (out .entry)) r (now (out .exit)) ⌝ }
 {
     let mut rest = [0u8; 4096];
-    let judged = judge(words, image, place, &mut rest);
+    let judged = judge(words, image, found, &mut rest);
     let verdict = judged.verdict;
     if number_of(verdict) != 0 {
         return tell_fault(words, image, judged, out);
@@ -154,9 +155,9 @@ fn help_for(image: &[u8], words: &[u8], out: &mut [u8]) -> Ran
     }
 }
 
-// A line that is no builtin: the word `help` with a space behind it asks for help, and all else is a command, whose words lead to a place.
-fn run_other<'a>(image: &'a [u8], line: &[u8], words: &'a [u8], place: Place, out: &mut [u8]) -> Ran
-    requires { ⌜ Ready (now image) (now line) (now words) place ⌝ }
+// A line that is no builtin: the word `help` with a space behind it asks for help, and all else is a command, whose words lead to what was found.
+fn run_other<'a>(image: &'a [u8], line: &[u8], words: &'a [u8], found: Found, out: &mut [u8]) -> Ran
+    requires { ⌜ Ready (now image) (now line) (now words) found ⌝ }
     ensures { λ r. ⌜ Answered (otherSaid (framesOf (now (image .entry))) (now (line .entry))) (now (out .entry)) r (now (out .exit)) ⌝ }
 {
     if same(part(line, 0, 5), b"help ") {
@@ -165,7 +166,7 @@ fn run_other<'a>(image: &'a [u8], line: &[u8], words: &'a [u8], place: Place, ou
     if is_blank(line) {
         return Ran::Nothing;
     }
-    execute_command(words, image, place, out)
+    execute_command(words, image, found, out)
 }
 
 // A well-formed line; the builtins come first.
@@ -173,10 +174,10 @@ fn handle_builtin_commands<'a>(
     image: &'a [u8],
     line: &[u8],
     words: &'a [u8],
-    place: Place,
+    found: Found,
     out: &mut [u8],
 ) -> Ran
-    requires { ⌜ Ready (now image) (now line) (now words) place ⌝ }
+    requires { ⌜ Ready (now image) (now line) (now words) found ⌝ }
     ensures { λ r. ⌜ Answered (lineSaid (framesOf (now (image .entry))) (now (line .entry))) (now (out .entry)) r (now (out .exit)) ⌝ }
 {
     let trimmed = trim(line);
@@ -184,7 +185,7 @@ fn handle_builtin_commands<'a>(
         Builtin::Help => shown(0, show_available_commands(image, out)),
         Builtin::Exit => ended(show_goodbye(out)),
         Builtin::Clear => shown(0, show_clear(out)),
-        Builtin::None => run_other(image, line, words, place, out),
+        Builtin::None => run_other(image, line, words, found, out),
     }
 }
 
@@ -193,8 +194,8 @@ fn run_words<'a>(image: &'a [u8], line: &[u8], words: &'a [u8], out: &mut [u8]) 
     requires { ⌜ (length (now words) ≤ 4096) × Splits (now line) (now words) ⌝ }
     ensures { λ r. ⌜ Running (now (image .entry)) (now (line .entry)) (now (out .entry)) r (now (out .exit)) ⌝ }
 {
-    let found = find_command(words, image);
-    let checked = found.checked;
+    let tested = find_command(words, image);
+    let checked = tested.checked;
     if let Checked::BadFrame(n) = checked {
         return Ran::BadTree(n);
     }
@@ -204,8 +205,8 @@ fn run_words<'a>(image: &'a [u8], line: &[u8], words: &'a [u8], out: &mut [u8]) 
     if well_formed_prefix(line) < line.len() {
         return shown(3, show_ill_formed(out));
     }
-    let place = found.place;
-    handle_builtin_commands(image, line, words, place, out)
+    let found = tested.found;
+    handle_builtin_commands(image, line, words, found, out)
 }
 
 // Splits a line into its words, as frames at the front of a buffer: how many bytes they take, 0 for a line that is refused. They always find

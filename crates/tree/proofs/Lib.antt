@@ -4,6 +4,7 @@ pub mod Told
 pub mod Items
 pub mod Wholes
 pub mod Trails
+pub mod Reached
 pub mod Growing
 pub mod Planting
 pub mod Forests

@@ -4,11 +4,10 @@ use mathlib.Core.Path.{_≡_, refl, sym, ap, _∙_}
 use mathlib.Core.Bool.{Bool, true, false, cond}
 use mathlib.Core.List.{List, [], _∷_, _++_, append-nil}
 use native.Mathlib.Omega.{arith}
-use borrow.Author.Tests.{le-leb, lt-leb, leb-true, eq-eqb, ne-eqb}
-use lib.Dec.{leb, ltb}
+use borrow.Author.Tests.{le-leb, lt-leb, leb-true, eq-eqb, ne-eqb, eqb-true, eqb-false}
+use lib.Dec.{leb, ltb, eqb}
 use lib.ListN.{length, take, drop, getD, length-append, length-take, length-drop}
-use types.Run.{OneOf, miss, hit}
-use denote.Enum.Declared.{tagOf}
+use types.Run.{hit}
 use lib.Seq.{append-snoc, drop-drop, getD-drop, getD-take, take-add, take-append-seam}
 use Rattle.buffer.specs.Compare.{sameBytes}
 use Rattle.buffer.proofs.Ordering.{same-is, same-self}
@@ -18,7 +17,6 @@ use Rattle.frame.specs.Framed.{frameFirst}
 use Rattle.frame.specs.Series.{textsIn}
 use Rattle.frame.specs.declared.framed.Framed.{Framed as Frames}
 use Rattle.frame.specs.declared.framed.Framed.the-variants.{Frame as Framed, Broken, End as Ended}
-use Rattle.frame.proofs.framed.Framed.{the-type}
 use Rattle.frame.proofs.Texts.{bytes-drop}
 use Rattle.frame.proofs.Series.{texts-stop, word-within, word-length, words-more, texts-none, whole-none, path-more, path-whole}
 use Rattle.image.specs.Frames.{Perhaps, text, perhaps, Frame, node, option, flag, encode}
@@ -33,13 +31,16 @@ use Rattle.tree.specs.Rules.{obeys, checkTree}
 use Rattle.tree.specs.Steps.{textFirst, nameAt, seenBy, startWalk, passed as walked, stepBy}
 use Rattle.tree.specs.Subtrees.{isNamed, isUpper, upTo, onFrom, rooted, subtree}
 use Rattle.tree.specs.Commands.{Reached, onSubtree, descend, reachedBy}
-use Rattle.tree.specs.Trails.{partAt, Descended, Finding, allFair, nextLength, Ahead, startTrail, isAbove, Inside, Followed, inside, behind, Passing}
+use Rattle.tree.specs.Trails.{partAt, Descended, Leads, Finding, allFair, nextWord, Ahead, foundBy, startTrail, isAbove, Inside, Followed, inside, behind, Passing}
 use Rattle.tree.specs.declared.walk.Walk.{Walk}
 use Rattle.tree.specs.declared.walk.Step.{Step}
 use Rattle.tree.specs.declared.command.Place.{Place}
 use Rattle.tree.specs.declared.command.Trail.{Trail}
+use Rattle.tree.specs.declared.command.Found.{Found}
+use Rattle.tree.specs.declared.command.Found.the-variants.{At, Nowhere}
+use Rattle.tree.specs.declared.command.Next.the-variants.{Word, End as NoMore}
 use Rattle.tree.specs.declared.check.Checked.the-variants.{Good, BadFrame}
-use Rattle.tree.specs.declared.check.Found.{Found}
+use Rattle.tree.specs.declared.check.Tested.{Tested}
 use Rattle.tree.proofs.Items.{frames-read, frames-end}
 use Rattle.tree.proofs.Told.{head-name}
 use Rattle.tree.proofs.Walks.{passed-at}
@@ -188,7 +189,6 @@ module _ (words image : List ℕ) (at : ℕ) (t : Trail) (passed : List Frame) (
         left = ap (λ (x : Reached). x .words) r;
         frames = ap framesOf s ∙ frames-flat passed (all-fit passed (o .fair)) ∙ ap (λ (x : Reached). x .frames) r;
         within = record { order = let a = o .start in omega arith; inside = let a = o .within in omega arith; passed = o .behind };
-        none = λ z. o .none (ap (λ (x : Reached). x .path) r ∙ z);
       }
 
 -- ONE FRAME MORE
@@ -255,6 +255,7 @@ module _ (words image : List ℕ) (b : Bytes image) (at n : ℕ) (f : Frame) (e 
           end = o .end;
           behind = o .behind;
           whole = o .whole;
+          top = o .top;
           none = o .none;
           bytes = front-on (t .place .start) (o .start) ∙ ap (λ (s : List ℕ). s ++ encode f) (o .bytes) ∙ ap (λ (s : List ℕ). flat passed ++ s) (sym flat-one) ∙ sym (flat-append passed (f ∷ []));
           fair = fair-both passed (f ∷ []) (o .fair) fair-one;
@@ -265,8 +266,8 @@ module _ (words image : List ℕ) (b : Bytes image) (at n : ℕ) (f : Frame) (e 
         }
 
     -- it is above: the subtree is passed
-    pub closes : isAbove (t .depth) f ≡ true → Descended words image (record { start = t .place .start; end = at; at = t .place .at }) (reachedBy image words)
-    closes a = settles words image at t passed o (up-here (isAbove (t .depth)) a) at refl
+    pub closes : isAbove (t .depth) f ≡ true → (t .depth ≡ 0 → ⊥) → Leads words image (At (record { start = t .place .start; end = at; at = t .place .at })) (reachedBy image words)
+    closes a k = let d = settles words image at t passed o (up-here (isAbove (t .depth)) a) at refl in (d, λ z. k (o .none (d .path ∙ z)))
 
     -- it is the child that is named next
     module _ (kind m : ℕ) (q : frameFirst (drop (t .place .at) words) ≡ Framed kind m) (bw : Bytes words) (s : length words ≤ 4096) (a : isAbove (t .depth) f ≡ false) where
@@ -274,7 +275,7 @@ module _ (words image : List ℕ) (b : Bytes image) (at n : ℕ) (f : Frame) (e 
       word = take m (drop (t .place .at + 3) words)
 
       abbrev next : Trail
-      next = record { place = record { start = at; end = length image; at = t .place .at + 3 + m }; depth = t .depth + 1; next = nextLength (frameFirst (drop (t .place .at + 3 + m) words)) }
+      next = record { place = record { start = at; end = length image; at = t .place .at + 3 + m }; depth = t .depth + 1; next = nextWord (frameFirst (drop (t .place .at + 3 + m) words)) }
 
       child : isNamed (t .depth) word f ≡ true → subtree (t .depth) word (passed ++ upTo (isAbove (t .depth)) (framesOf (drop at image))) ≡ f ∷ upTo (isUpper (t .depth)) more
       unfolding subtree
@@ -310,6 +311,7 @@ module _ (words image : List ℕ) (b : Bytes image) (at n : ℕ) (f : Frame) (e 
             end = refl;
             behind = word-within words (t .place .at) kind m q;
             whole = path-whole words (t .place .at) kind m q bw shorter (o .whole);
+            top = λ z. absurd (omega arith);
             none = λ z. absurd (longer (path words image at t passed o) (sym p ∙ z));
             bytes = ap (λ (i : ℕ). take i (drop at image)) k ∙ bytes-on ∙ sym flat-one;
             fair = fair-one;
@@ -320,21 +322,16 @@ module _ (words image : List ℕ) (b : Bytes image) (at n : ℕ) (f : Frame) (e 
                 ∙ onward c;
           }
 
--- THE NEXT WORD by its length
-pub next-framed : (d : Frames) (n : ℕ) → n ≡ nextLength d → n < 65536 → (kind : ℕ) × (d ≡ Framed kind n)
-next-framed (Framed kind m) n e h = (kind, ap (Framed kind) (sym e))
-next-framed Broken n e h = absurd (omega arith)
-next-framed Ended n e h = absurd (omega arith)
+-- THE NEXT WORD
+pub next-framed : (d : Frames) (n : ℕ) → Word n ≡ nextWord d → (kind : ℕ) × (d ≡ Framed kind n)
+next-framed (Framed kind m) n e = let k : m ≡ n = cc in (kind, ap (Framed kind) k)
+next-framed Broken n e = absurd (let z : _≡_ {A = ℕ} 0 1 = cc in omega arith)
+next-framed Ended n e = absurd (let z : _≡_ {A = ℕ} 0 1 = cc in omega arith)
 
-pub next-none : (s : List ℕ) (d : Frames) → frameFirst s ≡ d → OneOf (1 ∷ 2 ∷ []) (tagOf the-type d) → 65536 ≡ nextLength (frameFirst s)
-next-none s (Framed kind n) e k = absurd (miss (1 ∷ 2 ∷ []) 0 tt k)
-next-none s Broken e k = sym (ap nextLength e)
-next-none s Ended e k = sym (ap nextLength e)
-
-next-word : (words : List ℕ) (at : ℕ) (w : List ℕ) (l : List (List ℕ)) → textsIn (drop at words) ≡ w ∷ l → (d : Frames) → frameFirst (drop at words) ≡ d → nextLength d ≡ length w
-next-word words at w l q (Framed kind n) e = let k : take n (drop (at + 3) words) ≡ w = cc (q, words-more words at kind n e) in sym (word-length words at kind n e) ∙ ap length k
-next-word words at w l q Broken e = absurd (let z = texts-stop (drop at words) Broken e (hit (1 ∷ 2 ∷ []) 1 tt) in let y : _≡_ {A = ℕ} 0 1 = cc in omega arith)
-next-word words at w l q Ended e = absurd (let z = texts-stop (drop at words) Ended e (hit (1 ∷ 2 ∷ []) 2 tt) in let y : _≡_ {A = ℕ} 0 1 = cc in omega arith)
+next-none : (words : List ℕ) (at : ℕ) (w : List ℕ) (l : List (List ℕ)) (d : Frames) → frameFirst (drop at words) ≡ d → NoMore ≡ nextWord d → textsIn (drop at words) ≡ w ∷ l → ⊥
+next-none words at w l (Framed kind n) e k q = let z : _≡_ {A = ℕ} 0 1 = cc in omega arith
+next-none words at w l Broken e k q = let z = texts-stop (drop at words) Broken e (hit (1 ∷ 2 ∷ []) 1 tt) in let y : _≡_ {A = ℕ} 0 1 = cc in omega arith
+next-none words at w l Ended e k q = let z = texts-stop (drop at words) Ended e (hit (1 ∷ 2 ∷ []) 2 tt) in let y : _≡_ {A = ℕ} 0 1 = cc in omega arith
 
 -- two texts by their last bytes, and by all
 not-same : (a b : List ℕ) → (a ≡ b → ⊥) → sameBytes a b ≡ false
@@ -365,12 +362,12 @@ module _ (words image : List ℕ) (b : Bytes image) (at : ℕ) (h : at < length 
   past-plain k f n e g (inside passed o) =
       let x = no-node image at n b f e k in
       inside _ (passes-by words image b at n f e g h t passed o (x .below (t .depth)) (λ w l q. x .other (t .depth) w))
-  past-plain k f n e g (behind z d) = behind z d
+  past-plain k f n e g (behind z y d) = behind z y d
 
   -- the subtree is passed already
   pub past-behind : t .place .end < length image → Passing words image at t t
   past-behind k f n e g (inside passed o) = absurd (let q = o .end in omega arith)
-  past-behind k f n e g (behind z d) = behind z d
+  past-behind k f n e g (behind z y d) = behind z y d
 
   module _ (kind : getD image at 0 ≡ 1) where
     -- a node below a child
@@ -378,14 +375,14 @@ module _ (words image : List ℕ) (b : Bytes image) (at : ℕ) (h : at < length 
     past-deep k f n e g (inside passed o) =
         let x = node-at image at n b f e kind in
         inside _ (passes-by words image b at n f e g h t passed o (x .below (t .depth) (omega arith)) (λ w l q. x .other (t .depth) w (λ z. omega arith)))
-    past-deep k f n e g (behind z d) = behind z d
+    past-deep k f n e g (behind z y d) = behind z y d
 
     -- a node that is not below
     pub past-above : getD image (at + 1) 0 < t .depth → length image ≤ t .place .end → Passing words image at t (record { place = record { start = t .place .start; end = at; at = t .place .at }; depth = t .depth; next = t .next })
     past-above k l f n e g (inside passed o) =
         let x = node-at image at n b f e kind in
-        behind h (closes words image b at n f e g h t passed o (x .above (t .depth) k))
-    past-above k l f n e g (behind z d) = absurd (omega arith)
+        behind h (λ z. omega arith) (closes words image b at n f e g h t passed o (x .above (t .depth) k) (λ z. omega arith))
+    past-above k l f n e g (behind z y d) = absurd (omega arith)
 
     -- a child that is not of the next word's name, told by lengths, by last bytes or by all of them; and the one that is
     module _ (deep : getD image (at + 1) 0 ≡ t .depth) (end : length image ≤ t .place .end) where
@@ -396,12 +393,10 @@ module _ (words image : List ℕ) (b : Bytes image) (at : ℕ) (h : at < length 
           inside _
           (passes-by words image b at n f e g h t passed o (x .below (t .depth) (omega arith))
           (λ w l q. ap (λ (d : ℕ). isNamed d w f) (sym deep) ∙ x .named w ∙ not-same (nameAt image (at + 4)) w (k f n e g w l q)))
-      past-unlike k f n e g (behind z d) = absurd (omega arith)
+      past-unlike k f n e g (behind z y d) = absurd (omega arith)
 
-      pub past-longer : Ahead words t → (getD image (at + 4) 0 ≡ t .next → ⊥) → Passing words image at t t
-      past-longer a k =
-          past-unlike
-          (λ f n e g w l q z. k (sym (node-at image at n b f e kind .size) ∙ ap length z ∙ sym (a ∙ next-word words (t .place .at) w l q (frameFirst (drop (t .place .at) words)) refl)))
+      pub past-no-word : Ahead words t → t .next ≡ NoMore → Passing words image at t t
+      past-no-word a k = past-unlike (λ f n e g w l q z. next-none words (t .place .at) w l (frameFirst (drop (t .place .at) words)) refl (sym k ∙ a) q)
 
       module _ (framed m : ℕ) (q : frameFirst (drop (t .place .at) words) ≡ Framed framed m) where
         abbrev ahead : List ℕ
@@ -409,6 +404,11 @@ module _ (words image : List ℕ) (b : Bytes image) (at : ℕ) (h : at < length 
 
         next-is : (w : List ℕ) (l : List (List ℕ)) → textsIn (drop (t .place .at) words) ≡ w ∷ l → w ≡ ahead
         next-is w l z = cc (z, words-more words (t .place .at) framed m q)
+
+        pub past-longer : (getD image (at + 4) 0 ≡ m → ⊥) → Passing words image at t t
+        past-longer k =
+            past-unlike
+            (λ f n e g w l z y. k (sym (node-at image at n b f e kind .size) ∙ ap length (y ∙ next-is w l z) ∙ word-length words (t .place .at) framed m q))
 
         pub past-last : (getD image (at + 4 + m) 0 ≡ getD words (t .place .at + 3 + m - 1) 0 → ⊥) → Passing words image at t t
         past-last k =
@@ -427,13 +427,13 @@ module _ (words image : List ℕ) (b : Bytes image) (at : ℕ) (h : at < length 
           past-other k = past-unlike (λ f n e g w l z y. true-is-not-false (sym (ap (λ (s : List ℕ). sameBytes s ahead) (y ∙ next-is w l z) ∙ same-self ahead) ∙ sym same-as ∙ k))
 
           pub past-named : Bytes words → length words ≤ 4096 → r ≡ true
-              → Passing words image at t (record { place = record { start = at; end = length image; at = t .place .at + 3 + m }; depth = t .depth + 1; next = nextLength (frameFirst (drop (t .place .at + 3 + m) words)) })
+              → Passing words image at t (record { place = record { start = at; end = length image; at = t .place .at + 3 + m }; depth = t .depth + 1; next = nextWord (frameFirst (drop (t .place .at + 3 + m) words)) })
           past-named bw s k f n e g (inside passed o) =
               let x = node-at image at n b f e kind in
               inside _
               (enters words image b at n f e g h t passed o framed m q bw s (x .below (t .depth) (omega arith)) (ap (λ (d : ℕ). isNamed d ahead f) (sym deep) ∙ x .named ahead ∙ sym same-as ∙ k)
               (λ w. x .other (t .depth + 1) w (λ z. omega arith)))
-          past-named bw s k f n e g (behind z d) = absurd (omega arith)
+          past-named bw s k f n e g (behind z y d) = absurd (omega arith)
 
 -- THE START AND THE END
 pub follows-start : (words image : List ℕ) (walk : Walk) (t : Trail) → walk ≡ startWalk → t ≡ startTrail words image → Followed words image (walk .at) t
@@ -447,6 +447,7 @@ follows-start words image walk t e q =
       end = refl;
       behind = omega arith;
       whole = whole-none;
+      top = λ z. texts-none;
       none = λ z. refl;
       bytes = refl;
       fair = refl;
@@ -454,11 +455,15 @@ follows-start words image walk t e q =
       steps = ap (λ (fs : List Frame). descend 0 fs (textsIn []) (textsIn words)) (up-never (isAbove 0) (λ f. refl) (framesOf image)) ∙ ap (λ (p : List (List ℕ)). descend 0 (framesOf image) p (textsIn words)) texts-none;
     }))
 
-pub follows-end : (words image : List ℕ) (at : ℕ) (t : Trail) → length image ≤ at → Followed words image at t → Descended words image (t .place) (reachedBy image words)
+pub follows-end : (words image : List ℕ) (at : ℕ) (t : Trail) → length image ≤ at → Followed words image at t → Leads words image (foundBy t) (reachedBy image words)
 unfolding upTo
 follows-end words image at t h (inside passed o) =
-    settles words image at t passed o (ap (upTo (isAbove (t .depth))) (frames-end image at h)) (t .place .end) (let a = o .end in let b = o .within in omega arith)
-follows-end words image at t h (behind z d) = d
+    by (eqb (t .depth) 0) refl (settles words image at t passed o (ap (upTo (isAbove (t .depth))) (frames-end image at h)) (t .place .end) (let a = o .end in let b = o .within in omega arith))
+  where
+    by : (x : Bool) → eqb (t .depth) 0 ≡ x → Descended words image (t .place) (reachedBy image words) → Leads words image (cond x Nowhere (At (t .place))) (reachedBy image words)
+    by true e d = sym (d .path) ∙ o .top (eqb-true (t .depth) 0 e)
+    by false e d = (d, λ z. eqb-false (t .depth) 0 e (o .none (d .path ∙ z)))
+follows-end words image at t h (behind z y d) = rw (ne-eqb (t .depth) 0 y) d
 
 -- one turn of the walk
 pub follows-turn : (words image : List ℕ) (walk : Walk) (r : Step) (t u : Trail) (x : Read) → readFirst (drop (walk .at) image) ≡ x → r ≡ stepBy (seenBy image walk) walk x → r .ok ≡ true
@@ -475,8 +480,8 @@ pub part-most : (image : List ℕ) (place : Place) → length (partAt image plac
 part-most image place = rw length-take (omega arith)
 
 -- THE ANSWER
-pub found-bad : (words image : List ℕ) (r : Found) (n : ℕ) → r .checked ≡ BadFrame n → BadFrame n ≡ checkTree image → Finding words image r
-found-bad words image r n e q = record { checked = e ∙ q; place = λ g. absurd (let z : _≡_ {A = ℕ} 0 1 = cc in omega arith) }
+pub found-bad : (words image : List ℕ) (r : Tested) (n : ℕ) → r .checked ≡ BadFrame n → BadFrame n ≡ checkTree image → Finding words image r
+found-bad words image r n e q = record { checked = e ∙ q; found = λ g. absurd (let z : _≡_ {A = ℕ} 0 1 = cc in omega arith) }
 
-pub found-good : (words image : List ℕ) (p : Place) → Good ≡ checkTree image → Descended words image p (reachedBy image words) → Finding words image (record { checked = Good; place = p })
-found-good words image p e d = record { checked = e; place = λ g. d }
+pub found-good : (words image : List ℕ) (t : Trail) (x : Found) → x ≡ foundBy t → Good ≡ checkTree image → Leads words image (foundBy t) (reachedBy image words) → Finding words image (record { checked = Good; found = x })
+found-good words image t x q e d = record { checked = e; found = λ g. rw q d }

@@ -2,7 +2,7 @@
 use Prim.Native.Nat.{ℕ, suc}
 use mathlib.Core.List.{List, [], _∷_, _++_}
 use Rattle.frame.specs.Series.{textsIn}
-use Rattle.image.specs.Frames.{Frame}
+use Rattle.image.specs.Frames.{Frame, node, option, flag}
 use Rattle.tree.specs.Images.{framesOf}
 use Rattle.tree.specs.Subtrees.{subtree}
 
@@ -27,3 +27,10 @@ descend depth frames path (w ∷ words) =
 -- from the top of a tree; where the first word names no command the path is empty
 unfoldable pub reachedBy : List ℕ → List ℕ → Reached
 reachedBy image words = descend 0 (framesOf image) [] (textsIn words)
+
+-- frames that begin with a node
+abbrev pub NodeFirst : List Frame → Type 0
+NodeFirst [] = ⊥
+NodeFirst (node depth handler name description usage ∷ l) = Unit
+NodeFirst (option required short name long description ∷ l) = ⊥
+NodeFirst (flag short name long description ∷ l) = ⊥

@@ -1,5 +1,5 @@
 // The image test: whether a whole image keeps the rules, and if not the number of the first frame that breaks one; and on the way the command that words name.
-use super::command::Place;
+use super::command::Found;
 use super::command::Trail;
 use super::walk::Walk;
 use super::walk::step_at;
@@ -18,27 +18,23 @@ pub enum Checked {
 }
 
 // What an image is, and where words lead in one that is well-formed.
-pub struct Found {
+pub struct Tested {
     pub checked: Checked,
-    pub place: Place,
+    pub found: Found,
 }
 
 // An image that is bad at that frame.
-fn bad(n: usize) -> Found
+fn bad(n: usize) -> Tested
     ensures { λ r. ⌜ r .checked ≡ BadFrame n ⌝ }
 {
-    Found {
+    Tested {
         checked: Checked::BadFrame(n),
-        place: Place {
-            start: 0,
-            end: 0,
-            at: 0,
-        },
+        found: Found::Nowhere,
     }
 }
 
 // Tests an image and follows words, which come as frames, down to the command that they name; an image over 32,768 bytes is bad at frame 0.
-pub fn find_command(words: &[u8], image: &[u8]) -> Found
+pub fn find_command(words: &[u8], image: &[u8]) -> Tested
     requires { ⌜ length (now words) ≤ 4096 ⌝ }
     ensures { λ r. ⌜ Finding (now (words .entry)) (now (image .entry)) r ⌝ }
 {
@@ -58,10 +54,9 @@ pub fn find_command(words: &[u8], image: &[u8]) -> Found
         walk = past;
         n += 1;
     }
-    let place = trail.place;
-    Found {
+    Tested {
         checked: Checked::Good,
-        place,
+        found: trail.found(),
     }
 }
 
@@ -69,6 +64,6 @@ pub fn find_command(words: &[u8], image: &[u8]) -> Found
 pub fn check_tree(image: &[u8]) -> Checked
     ensures { λ r. ⌜ r ≡ checkTree (now (image .entry)) ⌝ }
 {
-    let found = find_command(part(image, 0, 0), image);
-    found.checked
+    let tested = find_command(part(image, 0, 0), image);
+    tested.checked
 }

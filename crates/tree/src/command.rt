@@ -9,32 +9,46 @@ ghost use mathlib.Core.Path.{_≡_};
 ghost use Prim.Native.Nat.{_+_, _≤_, _<_};
 ghost use lib.ListN.{length, drop, getD};
 ghost use Rattle.frame.specs.Framed.{frameFirst};
-ghost use Rattle.tree.specs.Trails.{nextLength, Ahead, startTrail, Passing};
+ghost use Rattle.tree.specs.Trails.{nextWord, foundBy, Ahead, startTrail, Passing};
+ghost use Rattle.tree.specs.declared.command.Next.the-variants.{Word};
 
-// Where words have led: the part of the image that their command has, and the place in the words behind its path. It is the whole image, and
-// no word is passed, where the first word names no command.
+// A part of the image, and the place in the words behind the path that leads to it.
 pub struct Place {
     pub start: usize,
     pub end: usize,
     pub at: usize,
 }
 
-// Where they have led so far, the depth of a child there, and the length of the next word, 65,536 where there is none. The part ends with the
-// image until a node comes that is not below.
+// The command that words name.
+pub enum Found {
+    At(Place),
+    // The first word names none.
+    Nowhere,
+}
+
+// The word that comes next: its length, or that there is none.
+pub enum Next {
+    Word(usize),
+    End,
+}
+
+// Where words have led so far, the depth of a child there, and the next word. The part ends with the image until a node comes that is not below;
+// at depth 0 it is the whole image, and no word is passed.
 pub struct Trail {
     pub place: Place,
     pub depth: usize,
-    pub next: usize,
+    pub next: Next,
 }
 
-// The length of the word at a place.
-fn next_length(words: &[u8], at: usize) -> usize
-    ensures { λ r. ⌜ r ≡ nextLength (frameFirst (drop at (now (words .entry)))) ⌝ }
+// The word at a place.
+fn next_word(words: &[u8], at: usize) -> Next
+    ensures { λ r. ⌜ r ≡ nextWord (frameFirst (drop at (now (words .entry)))) ⌝ }
 {
-    let Framed::Frame { kind: _, length } = read_frame(words, at) else {
-        return 65536;
-    };
-    length
+    match read_frame(words, at) {
+        Framed::Frame { kind: _, length } => Next::Word(length),
+        Framed::Broken => Next::End,
+        Framed::End => Next::End,
+    }
 }
 
 impl Trail {
@@ -49,27 +63,38 @@ impl Trail {
                 at: 0,
             },
             depth: 0,
-            next: next_length(words, 0),
+            next: next_word(words, 0),
         }
     }
 
-    // The child at a place of the image is passed: it is followed if it has the name that the next word is. Names of one list often begin
-    // alike, so lengths and last bytes are compared first.
-    fn past_child(self, words: &[u8], image: &[u8], at: usize) -> Trail
+    // Where the words have led, once all frames are passed.
+    pub fn found(self) -> Found
+        ensures { λ r. ⌜ r ≡ foundBy self ⌝ }
+    {
+        if self.depth == 0 {
+            return Found::Nowhere;
+        }
+        let place = self.place;
+        Found::At(place)
+    }
+
+    // The child at a place of the image is passed, and a word of that length is next: the child is followed if that is its name. Names of one
+    // list often begin alike, so lengths and last bytes are compared first.
+    fn past_name(self, words: &[u8], image: &[u8], at: usize, bytes: usize) -> Trail
         requires { ⌜ (length (now words) ≤ 4096) × (length (now image) ≤ 32768) × (at < length (now image)) × Ahead (now words) self ⌝ }
         requires { ⌜ (getD (now image) at 0 ≡ 1) × (getD (now image) (at + 1) 0 ≡ self .depth) × (length (now image) ≤ self .place .end) × (self .depth < 256) ⌝ }
+        requires { ⌜ self .next ≡ Word bytes ⌝ }
         ensures { λ r. ⌜ Passing (now (words .entry)) (now (image .entry)) at self r × Ahead (now (words .entry)) r ⌝ }
     {
-        let length = self.next;
-        if byte_at(image, at + 4) != length {
+        if byte_at(image, at + 4) != bytes {
             return self;
         }
         let name = self.place.at + 3;
-        let behind = name + length;
-        if byte_at(image, at + 4 + length) != byte_at(words, behind - 1) {
+        let behind = name + bytes;
+        if byte_at(image, at + 4 + bytes) != byte_at(words, behind - 1) {
             return self;
         }
-        if !same(name_at(image, at + 4), part(words, name, length)) {
+        if !same(name_at(image, at + 4), part(words, name, bytes)) {
             return self;
         }
         Trail {
@@ -79,7 +104,20 @@ impl Trail {
                 at: behind,
             },
             depth: self.depth + 1,
-            next: next_length(words, behind),
+            next: next_word(words, behind),
+        }
+    }
+
+    // The child at a place of the image is passed: if a word is next, it may be its name.
+    fn past_child(self, words: &[u8], image: &[u8], at: usize) -> Trail
+        requires { ⌜ (length (now words) ≤ 4096) × (length (now image) ≤ 32768) × (at < length (now image)) × Ahead (now words) self ⌝ }
+        requires { ⌜ (getD (now image) at 0 ≡ 1) × (getD (now image) (at + 1) 0 ≡ self .depth) × (length (now image) ≤ self .place .end) × (self .depth < 256) ⌝ }
+        ensures { λ r. ⌜ Passing (now (words .entry)) (now (image .entry)) at self r × Ahead (now (words .entry)) r ⌝ }
+    {
+        let next = self.next;
+        match next {
+            Next::Word(length) => self.past_name(words, image, at, length),
+            Next::End => self,
         }
     }
 
@@ -101,6 +139,7 @@ impl Trail {
         if depth == self.depth {
             return self.past_child(words, image, at);
         }
+        let next = self.next;
         Trail {
             place: Place {
                 start: self.place.start,
@@ -108,7 +147,7 @@ impl Trail {
                 at: self.place.at,
             },
             depth: self.depth,
-            next: self.next,
+            next,
         }
     }
 }

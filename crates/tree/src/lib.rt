@@ -4,9 +4,10 @@ mod command;
 mod walk;
 
 pub use check::Checked;
-pub use check::Found;
+pub use check::Tested;
 pub use check::check_tree;
 pub use check::find_command;
+pub use command::Found;
 pub use command::Place;
 pub use walk::Step;
 pub use walk::Walk;

@@ -3,7 +3,8 @@ use mathlib.Core.Path.{refl, sym, _∙_}
 use native.Mathlib.Omega.{arith}
 use Rattle.frame.specs.Text.{Bytes}
 use Rattle.frame.proofs.Series.{texts-stop}
-use Rattle.parse.proofs.Judgements.{good-short, first-unknown, first-judged, judged-as, judged-without, no-words}
+use Rattle.tree.proofs.Reached.{reached-first}
+use Rattle.parse.proofs.Judgements.{good-short, first-unknown, first-judged, leads-as, judged-as, judged-without, no-words}
 use borrow.Author.Needs.{needs}
 use Rattle.parse.proofs.judging.judge.Statement.{statement}
 use Rattle.parse.proofs.judging.judge.Tie as tie
@@ -20,23 +21,29 @@ without-command-requires c κs = search needs
 returns : tie.Need-returns
 returns c = let w = c .without-command .ensures in judged-without (c .before .before .before .before .before .before .args .words .now) (c .before .before .before .before .before .before .args .image .now) (c .before .before .before .before .before .before .args .rest .now) _ _ _ _ (w .0) (w .1) (w .2) (λ part path found. no-words (c .before .before .before .before .before .before .args .words .now) (c .before .before .before .before .before .before .args .image .now) (texts-stop _ _ (sym (c .before .before .read-frame .ensures)) (c .before .match .keys2))) (λ z. omega arith)
 
+enum-known-found : tie.Need-enum-known-found
+enum-known-found c = search needs
+
+enum-told : tie.Need-enum-told
+enum-told c = search needs
+
 without-command-requires-2 : tie.Need-without-command-requires-2
 without-command-requires-2 c κs = search needs
 
 returns-2 : tie.Need-returns-2
 unfolding Bytes
-returns-2 c = let w = c .without-command2 .ensures in judged-without (c .before .before .before .before .before .before .before .before .before .before .args .words .now) (c .before .before .before .before .before .before .before .before .before .before .args .image .now) (c .before .before .before .before .before .before .before .before .before .before .args .rest .now) _ _ _ _ (w .0) (w .1) (w .2) (λ part path found. first-unknown (c .before .before .before .before .before .before .before .before .before .before .args .words .now) (c .before .before .before .before .before .before .before .before .before .before .args .image .now) _ (c .before .before .before .before .length .given .0 .1 .0) (sym (c .before .before .before .before .before .before .read-frame .ensures) ∙ c .before .before .before .before .length .given .1) (λ i. c .before .before .before .before .before .before .before .before .shared-slice-known2 .given i .fits) (c .before .before .before .before .before .before .before .before .before .before .pre .2) (c .before .before .before .before .before .before .before .before .before .before .args .place) (c .before .before .before .before .before .before .before .before .before .before .pre .3) (c .before .if1 .taken)) (λ z. omega arith)
+returns-2 c = let w = c .without-command2 .ensures in judged-without (c .before .before .before .before .before .before .before .before .before .before .args .words .now) (c .before .before .before .before .before .before .before .before .before .before .args .image .now) (c .before .before .before .before .before .before .before .before .before .before .args .rest .now) _ _ _ _ (w .0) (w .1) (w .2) (λ part path found. first-unknown (c .before .before .before .before .before .before .before .before .before .before .args .words .now) (c .before .before .before .before .before .before .before .before .before .before .args .image .now) _ (c .before .before .before .before .length .given .0 .1 .0) (sym (c .before .before .before .before .before .before .read-frame .ensures) ∙ c .before .before .before .before .length .given .1) (λ i. c .before .before .before .before .before .before .before .before .shared-slice-known2 .given i .fits) (c .before .before .before .before .before .before .before .before .before .before .pre .2) (leads-as _ _ _ _ _ (c .before .enum-told .given .1) (c .before .before .before .before .before .before .before .before .before .before .pre .3))) (λ z. omega arith)
 
 judge-arguments-requires : tie.Need-judge-arguments-requires
 unfolding Bytes
-judge-arguments-requires c κs = (c .before .before .before .before .before .before .before .before .before .before .pre .0, good-short (c .before .before .before .before .before .before .before .before .before .before .args .image .now) (λ i. c .before .before .before .before .before .before .before .before .shared-slice-known2 .given i .fits) (c .before .before .before .before .before .before .before .before .before .before .pre .2), c .before .before .before .before .before .before .before .before .before .before .pre .1, c .before .before .before .before .before .before .before .before .before .before .pre .3 .within)
+judge-arguments-requires c κs = let l = leads-as _ _ _ _ _ (c .before .before .found .given .1) (c .before .before .before .before .before .before .before .before .before .before .before .pre .3) in (c .before .before .before .before .before .before .before .before .before .before .before .pre .0, good-short (c .before .before .before .before .before .before .before .before .before .before .before .args .image .now) (λ i. c .before .before .before .before .before .before .before .before .before .shared-slice-known2 .given i .fits) (c .before .before .before .before .before .before .before .before .before .before .before .pre .2), c .before .before .before .before .before .before .before .before .before .before .before .pre .1, l .0 .within, rw (l .0 .frames) (reached-first (c .before .before .before .before .before .before .before .before .before .before .before .args .image .now) (c .before .before .before .before .before .before .before .before .before .before .before .args .words .now) (l .1)))
 
 same-length : tie.Need-same-length
 same-length c = search needs
 
 returns-3 : tie.Need-returns-3
 unfolding Bytes
-returns-3 c = judged-as _ _ _ _ _ _ _ _ _ (first-judged (c .before .before .before .before .before .before .before .before .before .before .before .before .before .args .words .now) (c .before .before .before .before .before .before .before .before .before .before .before .before .before .args .image .now) _ (c .before .before .before .before .before .before .before .length .given .0 .1 .0) (sym (c .before .before .before .before .before .before .before .before .before .read-frame .ensures) ∙ c .before .before .before .before .before .before .before .length .given .1) (λ i. c .before .before .before .before .before .before .before .before .before .before .before .shared-slice-known2 .given i .fits) (c .before .before .before .before .before .before .before .before .before .before .before .before .before .pre .2) (c .before .before .before .before .before .before .before .before .before .before .before .before .before .args .place) (c .before .before .before .before .before .before .before .before .before .before .before .before .before .pre .3) (c .before .before .before .before .if1 .left)) refl (c .before .before .judge-arguments .ensures _ (c .before .before .before .before .before .before .before .before .before .before .before .before .before .pre .3))
+returns-3 c = let l = leads-as _ _ _ _ _ (c .before .before .before .before .before .found .given .1) (c .before .before .before .before .before .before .before .before .before .before .before .before .before .before .pre .3) in judged-as _ _ _ _ _ _ _ _ _ (first-judged (c .before .before .before .before .before .before .before .before .before .before .before .before .before .before .args .words .now) (c .before .before .before .before .before .before .before .before .before .before .before .before .before .before .args .image .now) _ (c .before .before .before .before .before .before .before .before .length .given .0 .1 .0) (sym (c .before .before .before .before .before .before .before .before .before .before .read-frame .ensures) ∙ c .before .before .before .before .before .before .before .before .length .given .1) (λ i. c .before .before .before .before .before .before .before .before .before .before .before .before .shared-slice-known2 .given i .fits) (c .before .before .before .before .before .before .before .before .before .before .before .before .before .before .pre .2) (l .1)) refl (c .before .before .judge-arguments .ensures _ (l .0))
 
 pub judge-spec : {M : Type 1} → statement M
 judge-spec =
@@ -46,6 +53,8 @@ judge-spec =
     enum-known-length
     without-command-requires
     returns
+    enum-known-found
+    enum-told
     without-command-requires-2
     returns-2
     judge-arguments-requires

@@ -15,7 +15,7 @@ enum-told : tie.Need-enum-told
 enum-told c = search needs
 
 parse-command-requires : tie.Need-parse-command-requires
-parse-command-requires c κs = let good = sym (c .before .before .before .before .before .find-command .ensures .checked) ∙ c .before .before .before .enum-told .given .1 in (c .before .before .before .before .before .before .before .before .before .before .pre .0, c .before .before .before .before .before .before .before .before .before .before .pre .1, good, c .before .before .before .before .before .find-command .ensures .place good)
+parse-command-requires c κs = let good = sym (c .before .before .before .before .find-command .ensures .checked) ∙ c .before .before .enum-told .given .1 in (c .before .before .before .before .before .before .before .before .before .pre .0, c .before .before .before .before .before .before .before .before .before .pre .1, good, c .before .before .before .before .find-command .ensures .found good)
 
 returns : tie.Need-returns
 returns c = words-bad (c .before .before .before .before .before .before .before .before .args .image .now) (c .before .before .before .before .before .before .before .before .args .words .now) (c .before .before .before .before .before .before .before .before .args .out .now) _ (sym (c .before .before .before .find-command .ensures .checked) ∙ c .before .checked .given .1)
@@ -27,7 +27,7 @@ same-length-2 : tie.Need-same-length-2
 same-length-2 c = search needs
 
 returns-2 : tie.Need-returns-2
-returns-2 c = words-told (c .before .before .before .before .before .before .before .before .before .before .before .before .before .before .before .args .image .now) (c .before .before .before .before .before .before .before .before .before .before .before .before .before .before .before .args .words .now) (c .before .before .before .before .before .before .before .before .before .before .before .before .before .before .before .args .out .now) _ _ (sym (c .before .before .before .before .before .before .before .before .before .before .find-command .ensures .checked) ∙ c .before .before .before .before .before .before .before .before .enum-told .given .1) (c .before .before .before .before .parse-command .ensures)
+returns-2 c = words-told (c .before .before .before .before .before .before .before .before .before .before .before .before .before .before .args .image .now) (c .before .before .before .before .before .before .before .before .before .before .before .before .before .before .args .words .now) (c .before .before .before .before .before .before .before .before .before .before .before .before .before .before .args .out .now) _ _ (sym (c .before .before .before .before .before .before .before .before .before .find-command .ensures .checked) ∙ c .before .before .before .before .before .before .before .enum-told .given .1) (c .before .before .before .before .parse-command .ensures)
 
 pub parse-words-spec : {M : Type 1} → statement M
 parse-words-spec =

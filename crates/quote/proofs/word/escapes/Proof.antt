@@ -1,9 +1,9 @@
--- `quote::word::escapes` meets its contract: what is counted and what is still to come make up the whole count.
-use Rattle.quote.proofs.Showing.{specials-more, specials-same, specials-none}
+-- `quote::word::escapes` meets its contract: what is counted and what is still to come make up the whole count, and what is still to come is well-formed.
+use Rattle.quote.proofs.Showing.{specials-more, specials-same, specials-none, formed-on}
 use Rattle.quote.specs.Steps.{specials}
 use Rattle.text.proofs.Pieces.{character-some, character-fits}
-use Rattle.text.proofs.Prefix.{codes-stop, codes-end}
-use Rattle.text.specs.Decoding.{codesIn}
+use Rattle.text.proofs.Prefix.{codes-end, prefix-turn}
+use Rattle.text.specs.Decoding.{codesIn, wellFormedLength}
 use mathlib.Core.Logic.{⊎-elim}
 use native.Mathlib.Omega.{arith}
 use Prim.Native.Nat.{_+_, _≤_, _-_}
@@ -13,13 +13,13 @@ use Rattle.quote.proofs.word.escapes.Statement.{statement}
 use Rattle.quote.proofs.word.escapes.Tie as tie
 
 abbrev Inv-loop : tie.InvT-loop
-Inv-loop word n₀ at₀ n at = (at ≤ length word) × (n ≤ at) × (n + specials (codesIn (drop at word)) ≡ specials (codesIn word))
+Inv-loop word n₀ at₀ n at = (at ≤ length word) × (n ≤ at) × (n + specials (codesIn (drop at word)) ≡ specials (codesIn word)) × (at + wellFormedLength (drop at word) ≡ length word)
 
 abbrev μ-loop : tie.MeasureT-loop
 μ-loop word n₀ at₀ n at = length word - at
 
 loop-holds : tie.Need-loop-holds Inv-loop μ-loop
-loop-holds c = (omega arith, omega arith, omega arith)
+loop-holds c = (omega arith, omega arith, omega arith, omega (arith, c .before .pre))
 
 decode-requires : tie.Need-decode-requires Inv-loop μ-loop
 decode-requires c κs = tt
@@ -28,7 +28,7 @@ enum-known-code : tie.Need-enum-known-code Inv-loop μ-loop
 enum-known-code c = c .match .keys1
 
 returns : tie.Need-returns Inv-loop μ-loop
-returns c = let z = specials-none _ (codes-stop _ _ (sym (c .before .decode .ensures)) (c .match .keys2)) in (omega (arith, z, c .before .before .before .loop .inv), omega (arith, c .before .before .before .loop .inv))
+returns c = absurd (formed-on (c .before .before .before .before .before .args .word .now) (c .before .before .before .loop .at) _ (c .before .before .before .loop .inv .3) (sym (c .before .decode .ensures)) (c .match .keys2) (c .before .before .loop-test .taken))
 
 is-special-requires : tie.Need-is-special-requires Inv-loop μ-loop
 is-special-requires c κs = tt
@@ -50,13 +50,14 @@ loop-again c =
     let f = character-fits (c .before .before .before .before .before .before .before .before .before .args .word .now) (c .before .before .before .before .before .before .before .loop .at) _ _ d in
     let g = character-some (drop (c .before .before .before .before .before .before .before .loop .at) (c .before .before .before .before .before .before .before .before .before .args .word .now)) _ _ d in
     let i = c .before .before .before .before .before .before .before .loop .inv in
+    let w = prefix-turn (c .before .before .before .before .before .before .before .before .before .args .word .now) (c .before .before .before .before .before .before .before .loop .at) _ _ _ d (i .3) in
     ⊎-elim
     (λ t.
     let m = specials-more (c .before .before .before .before .before .before .before .before .before .args .word .now) (c .before .before .before .before .before .before .before .loop .at) _ _ d (sym (c .before .is-special .ensures) ∙ t .0 .taken) in
-    (f, omega arith, omega arith))
+    (f, omega arith, omega arith, w))
     (λ t.
     let m = specials-same (c .before .before .before .before .before .before .before .before .before .args .word .now) (c .before .before .before .before .before .before .before .loop .at) _ _ d (sym (c .before .is-special .ensures) ∙ t .0 .left) in
-    (f, omega arith, omega arith))
+    (f, omega arith, omega arith, w))
     (c .if1 .came)
 
 returns-2 : tie.Need-returns-2 Inv-loop μ-loop

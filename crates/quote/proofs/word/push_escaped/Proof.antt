@@ -1,26 +1,26 @@
 -- `quote::word::push_escaped` meets its contract: each character is a write right behind those before it.
 use Rattle.quote.proofs.Laying.{Laying, laying-start, laying-end, character-room, character-turn}
-use Rattle.quote.proofs.Showing.{escaped-none}
+use Rattle.quote.proofs.Showing.{escaped-none, formed-on}
 use Rattle.quote.specs.Shown.{escaped}
 use Rattle.text.proofs.Pieces.{character-some, character-fits}
-use Rattle.text.proofs.Prefix.{codes-stop, codes-end}
-use Rattle.text.specs.Decoding.{codesIn}
+use Rattle.text.proofs.Prefix.{codes-end, prefix-turn}
+use Rattle.text.specs.Decoding.{codesIn, wellFormedLength}
 use Rattle.text.specs.Unicode.{encodeAll}
 use native.Mathlib.Omega.{arith}
-use Prim.Native.Nat.{_-_}
+use Prim.Native.Nat.{_+_, _-_}
 use mathlib.Core.Path.{_≡_, refl, sym, _∙_}
 use lib.ListN.{length, drop}
 use Rattle.quote.proofs.word.push_escaped.Statement.{statement}
 use Rattle.quote.proofs.word.push_escaped.Tie as tie
 
 abbrev Inv-loop : tie.InvT-loop
-Inv-loop word out₀ start o₀ at₀ out o at = (length out ≡ length out₀) × Laying (encodeAll (escaped (codesIn word))) (encodeAll (escaped (codesIn (drop at word)))) out₀ start o out
+Inv-loop word out₀ start o₀ at₀ out o at = (length out ≡ length out₀) × Laying (encodeAll (escaped (codesIn word))) (encodeAll (escaped (codesIn (drop at word)))) out₀ start o out × (at + wellFormedLength (drop at word) ≡ length word)
 
 abbrev μ-loop : tie.MeasureT-loop
 μ-loop word out₀ start o₀ at₀ out o at = length word - at
 
 loop-holds : tie.Need-loop-holds Inv-loop μ-loop
-loop-holds c = (refl, laying-start _ _ _ _ refl)
+loop-holds c = (refl, laying-start _ _ _ _ refl, omega (arith, c .before .before .pre .0))
 
 decode-requires : tie.Need-decode-requires Inv-loop μ-loop
 decode-requires c κs = tt
@@ -32,7 +32,7 @@ same-length : tie.Need-same-length Inv-loop μ-loop
 same-length c = c .before .before .before .loop .inv .0
 
 returns : tie.Need-returns Inv-loop μ-loop
-returns c = laying-end _ _ _ _ _ _ (c .before .before .before .loop .inv .1) (escaped-none _ (codes-stop _ _ (sym (c .before .decode .ensures)) (c .match .keys2)))
+returns c = absurd (formed-on (c .before .before .before .before .before .before .args .word .now) (c .before .before .before .loop .at) _ (c .before .before .before .loop .inv .2) (sym (c .before .decode .ensures)) (c .match .keys2) (c .before .before .loop-test .taken))
 
 add-end : tie.Need-add-end Inv-loop μ-loop
 add-end c = let f = character-fits (c .before .before .before .before .before .before .before .before .args .word .now) (c .before .before .before .before .before .loop .at) _ _ (sym (c .before .before .before .decode .ensures) ∙ c .before .code .given .1) in omega arith
@@ -47,7 +47,7 @@ part-push-character-end : tie.Need-part-push-character-end Inv-loop μ-loop
 part-push-character-end c = let f = character-fits (c .before .before .before .before .before .before .before .before .args .word .now) (c .before .before .before .before .before .loop .at) _ _ (sym (c .before .before .before .decode .ensures) ∙ c .before .code .given .1) in omega arith
 
 push-character-requires : tie.Need-push-character-requires Inv-loop μ-loop
-push-character-requires c κs = let r = character-room (c .before .before .before .before .before .before .before .before .before .before .args .word .now) (c .before .before .before .before .before .before .before .before .before .before .args .out .now) _ _ (c .before .before .before .before .before .before .before .loop .at) _ _ _ (c .before .before .before .before .before .before .before .loop .inv .1) (sym (c .before .before .before .before .before .decode .ensures) ∙ c .before .before .before .code .given .1) (c .before .before .before .before .before .before .before .before .before .before .pre) in omega (arith, r, c .before .before .before .before .before .before .before .loop .inv .0)
+push-character-requires c κs = let r = character-room (c .before .before .before .before .before .before .before .before .before .before .args .word .now) (c .before .before .before .before .before .before .before .before .before .before .args .out .now) _ _ (c .before .before .before .before .before .before .before .loop .at) _ _ _ (c .before .before .before .before .before .before .before .loop .inv .1) (sym (c .before .before .before .before .before .decode .ensures) ∙ c .before .before .before .code .given .1) (c .before .before .before .before .before .before .before .before .before .before .pre .1) in omega (arith, r, c .before .before .before .before .before .before .before .loop .inv .0)
 
 loop-less : tie.Need-loop-less Inv-loop μ-loop
 loop-less c =
@@ -57,7 +57,8 @@ loop-less c =
 loop-again : tie.Need-loop-again Inv-loop μ-loop
 loop-again c = (
   c .before .before .push-character .kept .1 .1 .0 ∙ c .before .before .before .before .before .before .before .before .before .before .loop .inv .0,
-  character-turn (c .before .before .before .before .before .before .before .before .before .before .before .before .before .args .word .now) (c .before .before .before .before .before .before .before .before .before .before .before .before .before .args .out .now) _ _ (c .before .before .before .before .before .before .before .before .before .before .loop .at) _ _ _ (c .before .before .before .before .before .before .before .before .before .before .loop .inv .1) (sym (c .before .before .before .before .before .before .before .before .decode .ensures) ∙ c .before .before .before .before .before .before .code .given .1) (c .before .before .before .before .before .before .before .before .before .before .before .before .before .pre) _ _ (c .before .before .push-character .ensures),
+  character-turn (c .before .before .before .before .before .before .before .before .before .before .before .before .before .args .word .now) (c .before .before .before .before .before .before .before .before .before .before .before .before .before .args .out .now) _ _ (c .before .before .before .before .before .before .before .before .before .before .loop .at) _ _ _ (c .before .before .before .before .before .before .before .before .before .before .loop .inv .1) (sym (c .before .before .before .before .before .before .before .before .decode .ensures) ∙ c .before .before .before .before .before .before .code .given .1) (c .before .before .before .before .before .before .before .before .before .before .before .before .before .pre .1) _ _ (c .before .before .push-character .ensures),
+  prefix-turn (c .before .before .before .before .before .before .before .before .before .before .before .before .before .args .word .now) (c .before .before .before .before .before .before .before .before .before .before .loop .at) _ _ _ (sym (c .before .before .before .before .before .before .before .before .decode .ensures) ∙ c .before .before .before .before .before .before .code .given .1) (c .before .before .before .before .before .before .before .before .before .before .loop .inv .2),
 )
 
 same-length-2 : tie.Need-same-length-2 Inv-loop μ-loop

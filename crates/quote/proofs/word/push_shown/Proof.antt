@@ -29,7 +29,7 @@ push-byte-requires : tie.Need-push-byte-requires
 push-byte-requires c κs = let r = quoted-room (c .before .before .before .before .before .args .word .now) (c .before .before .before .before .before .pre .0) (sym (c .before .before .is-plain .ensures) ∙ c .before .if1 .left) (c .before .before .before .before .before .args .at) _ (c .before .before .before .before .before .pre .1) in omega arith
 
 push-escaped-requires : tie.Need-push-escaped-requires
-push-escaped-requires c κs = let r = quoted-room (c .before .before .before .before .before .before .before .before .before .args .word .now) (c .before .before .before .before .before .before .before .before .before .pre .0) (sym (c .before .before .before .before .before .before .is-plain .ensures) ∙ c .before .before .before .before .before .if1 .left) (c .before .before .before .before .before .before .before .before .before .args .at) _ (c .before .before .before .before .before .before .before .before .before .pre .1) in omega (arith, r, c .before .before .before .push-byte .ensures .place)
+push-escaped-requires c κs = let r = quoted-room (c .before .before .before .before .before .before .before .before .before .args .word .now) (c .before .before .before .before .before .before .before .before .before .pre .0) (sym (c .before .before .before .before .before .before .is-plain .ensures) ∙ c .before .before .before .before .before .if1 .left) (c .before .before .before .before .before .before .before .before .before .args .at) _ (c .before .before .before .before .before .before .before .before .before .pre .1) in (c .before .before .before .before .before .before .before .before .before .pre .0, omega (arith, r, c .before .before .before .push-byte .ensures .place))
 
 push-byte-requires-2 : tie.Need-push-byte-requires-2
 push-byte-requires-2 c κs = let r = quoted-room (c .before .before .before .before .before .before .before .before .before .before .before .before .before .args .word .now) (c .before .before .before .before .before .before .before .before .before .before .before .before .before .pre .0) (sym (c .before .before .before .before .before .before .before .before .before .before .is-plain .ensures) ∙ c .before .before .before .before .before .before .before .before .before .if1 .left) (c .before .before .before .before .before .before .before .before .before .before .before .before .before .args .at) _ (c .before .before .before .before .before .before .before .before .before .before .before .before .before .pre .1) in omega (arith, r, c .before .before .before .before .before .before .before .push-byte .ensures .place, c .before .before .before .push-escaped .ensures .place)

@@ -6,7 +6,7 @@ use Rattle.quote.proofs.word.quoted_size.Statement.{statement}
 use Rattle.quote.proofs.word.quoted_size.Tie as tie
 
 escapes-requires : tie.Need-escapes-requires
-escapes-requires c κs = search needs
+escapes-requires c κs = c .before .pre .0 .0
 
 add-result : tie.Need-add-result
 add-result c = search needs

@@ -31,26 +31,26 @@ element-copy-out-e c = search needs
 key-requires : tie.Need-key-requires Inv-loop μ-loop
 key-requires c κs = search needs
 
-sub-write-frame : tie.Need-sub-write-frame Inv-loop μ-loop
-sub-write-frame c = omega (arith, c .before .before .before .loop .inv .1 .count, c .before .before .before .loop .inv .1 .same, c .before .before .before .before .before .before .before .before .pre)
+sub-write-flag : tie.Need-sub-write-flag Inv-loop μ-loop
+sub-write-flag c = omega (arith, c .before .before .before .loop .inv .1 .count, c .before .before .before .loop .inv .1 .same, c .before .before .before .before .before .before .before .before .pre)
 
-part-write-frame-start : tie.Need-part-write-frame-start Inv-loop μ-loop
-part-write-frame-start c = omega (arith, c .before .before .before .loop .inv .1 .count, c .before .before .before .loop .inv .1 .same, c .before .before .before .before .before .before .before .before .pre)
+part-write-flag-start : tie.Need-part-write-flag-start Inv-loop μ-loop
+part-write-flag-start c = omega (arith, c .before .before .before .loop .inv .1 .count, c .before .before .before .loop .inv .1 .same, c .before .before .before .before .before .before .before .before .pre)
 
-part-write-frame-end : tie.Need-part-write-frame-end Inv-loop μ-loop
-part-write-frame-end c = search needs
+part-write-flag-end : tie.Need-part-write-flag-end Inv-loop μ-loop
+part-write-flag-end c = search needs
 
-write-frame-requires : tie.Need-write-frame-requires Inv-loop μ-loop
-write-frame-requires c κs =
+write-flag-requires : tie.Need-write-flag-requires Inv-loop μ-loop
+write-flag-requires c κs =
     let a = c .before .before .before .before .before .before .before .before .before .args in
     let h : c .before .before .before .before .loop .i < sizeOf (a .t3) = omega arith in
-    (pair-short (a .words .now) (a .image .now) _ _ _ (c .before .key .ensures) refl .0, flag-lent (a .words .now) (a .image .now) (a .t3) (c .before .before .before .before .loop .i) h _ (c .before .key .ensures) (a .out .now) _ _ (c .before .before .before .before .loop .inv .1) (c .before .before .before .before .before .before .before .before .before .pre) _)
+    (pair-short (a .words .now) (a .image .now) _ _ _ (c .before .key .ensures) refl .0, λ kind. flag-lent (a .words .now) (a .image .now) (a .t3) (c .before .before .before .before .loop .i) h _ (c .before .key .ensures) (a .out .now) _ _ (c .before .before .before .before .loop .inv .1) (c .before .before .before .before .before .before .before .before .before .pre) kind)
 
 add-o : tie.Need-add-o Inv-loop μ-loop
 add-o c =
     let a = c .before .before .before .before .before .before .before .before .before .before .before .before .args in
     let h : c .before .before .before .before .before .before .before .loop .i < sizeOf (a .t3) = omega arith in
-    let r = flag-place (a .words .now) (a .image .now) (a .t3) (c .before .before .before .before .before .before .before .loop .i) h _ (c .before .before .before .before .key .ensures) (a .out .now) _ _ (c .before .before .before .before .before .before .before .loop .inv .1) (c .before .before .before .before .before .before .before .before .before .before .before .before .pre) _ _ _ _ (c .before .before .write-frame .ensures) in
+    let r = flag-place (a .words .now) (a .image .now) (a .t3) (c .before .before .before .before .before .before .before .loop .i) h _ (c .before .before .before .before .key .ensures) (a .out .now) _ _ (c .before .before .before .before .before .before .before .loop .inv .1) (c .before .before .before .before .before .before .before .before .before .before .before .before .pre) _ _ _ _ (c .before .before .write-flag .ensures) in
     omega arith
 
 add-i : tie.Need-add-i Inv-loop μ-loop
@@ -63,7 +63,7 @@ loop-again : tie.Need-loop-again Inv-loop μ-loop
 loop-again c =
     let a = c .before .before .before .before .before .before .before .before .before .before .before .before .args in
     let h : c .before .before .before .before .before .before .before .loop .i < sizeOf (a .t3) = omega arith in
-    (omega arith, flag-written (a .words .now) (a .image .now) (a .t3) (c .before .before .before .before .before .before .before .loop .i) h _ (c .before .before .before .before .key .ensures) (a .out .now) _ _ (c .before .before .before .before .before .before .before .loop .inv .1) (c .before .before .before .before .before .before .before .before .before .before .before .before .pre) _ _ (c .before .before .write-frame .ensures))
+    (omega arith, flag-written (a .words .now) (a .image .now) (a .t3) (c .before .before .before .before .before .before .before .loop .i) h _ (c .before .before .before .before .key .ensures) (a .out .now) _ _ (c .before .before .before .before .before .before .before .loop .inv .1) (c .before .before .before .before .before .before .before .before .before .before .before .before .pre) _ _ (c .before .before .write-flag .ensures))
 
 same-length : tie.Need-same-length Inv-loop μ-loop
 same-length c = c .before .loop .inv .1 .same
@@ -85,10 +85,10 @@ write-flags-spec =
     mul-e
     element-copy-out-e
     key-requires
-    sub-write-frame
-    part-write-frame-start
-    part-write-frame-end
-    write-frame-requires
+    sub-write-flag
+    part-write-flag-start
+    part-write-flag-end
+    write-flag-requires
     add-o
     add-i
     loop-less

@@ -5,21 +5,21 @@ use native.Mathlib.Omega.{arith}
 use Rattle.report.proofs.reporter.write_frames.Statement.{statement}
 use Rattle.report.proofs.reporter.write_frames.Tie as tie
 
-write-words-requires : tie.Need-write-words-requires
-write-words-requires c κs =
+write-path-requires : tie.Need-write-path-requires
+write-path-requires c κs =
     let a = c .before .before .before .before .before .before .args in
     omega (arith, report-length (a .words .now) (a .image .now) (a .path .now) (a .options) (a .flags) (a .rest .now), c .before .before .before .before .before .before .pre)
 
 sub-write-options : tie.Need-sub-write-options
 sub-write-options c =
     let a = c .before .before .before .before .before .before .before .before .before .args in
-    let s = path-written (a .words .now) (a .image .now) (a .path .now) (a .options) (a .flags) (a .rest .now) (a .out .now) (c .before .before .before .before .before .before .before .before .before .pre) _ _ (c .before .before .write-words .ensures) in
+    let s = path-written (a .words .now) (a .image .now) (a .path .now) (a .options) (a .flags) (a .rest .now) (a .out .now) (c .before .before .before .before .before .before .before .before .before .pre) _ _ (c .before .before .write-path .ensures) in
     omega (arith, s .count, s .same, c .before .before .before .before .before .before .before .before .before .pre)
 
 part-write-options-start : tie.Need-part-write-options-start
 part-write-options-start c =
     let a = c .before .before .before .before .before .before .before .before .before .args in
-    let s = path-written (a .words .now) (a .image .now) (a .path .now) (a .options) (a .flags) (a .rest .now) (a .out .now) (c .before .before .before .before .before .before .before .before .before .pre) _ _ (c .before .before .write-words .ensures) in
+    let s = path-written (a .words .now) (a .image .now) (a .path .now) (a .options) (a .flags) (a .rest .now) (a .out .now) (c .before .before .before .before .before .before .before .before .before .pre) _ _ (c .before .before .write-path .ensures) in
     omega (arith, s .count, s .same, c .before .before .before .before .before .before .before .before .before .pre)
 
 part-write-options-end : tie.Need-part-write-options-end
@@ -28,27 +28,27 @@ part-write-options-end c = search needs
 write-options-requires : tie.Need-write-options-requires
 write-options-requires c κs =
     let a = c .before .before .before .before .before .before .before .before .before .before .args in
-    let s = path-written (a .words .now) (a .image .now) (a .path .now) (a .options) (a .flags) (a .rest .now) (a .out .now) (c .before .before .before .before .before .before .before .before .before .before .pre) _ _ (c .before .before .before .write-words .ensures) in
+    let s = path-written (a .words .now) (a .image .now) (a .path .now) (a .options) (a .flags) (a .rest .now) (a .out .now) (c .before .before .before .before .before .before .before .before .before .before .pre) _ _ (c .before .before .before .write-path .ensures) in
     options-lent (a .words .now) (a .image .now) (a .path .now) (a .options) (a .flags) (a .rest .now) (a .out .now) (c .before .before .before .before .before .before .before .before .before .before .pre) _ _ s
 
 add-at : tie.Need-add-at
 add-at c =
     let a = c .before .before .before .before .before .before .before .before .before .before .before .before .before .args in
-    let s = path-written (a .words .now) (a .image .now) (a .path .now) (a .options) (a .flags) (a .rest .now) (a .out .now) (c .before .before .before .before .before .before .before .before .before .before .before .before .before .pre) _ _ (c .before .before .before .before .before .before .write-words .ensures) in
+    let s = path-written (a .words .now) (a .image .now) (a .path .now) (a .options) (a .flags) (a .rest .now) (a .out .now) (c .before .before .before .before .before .before .before .before .before .before .before .before .before .pre) _ _ (c .before .before .before .before .before .before .write-path .ensures) in
     let t = options-written (a .words .now) (a .image .now) (a .path .now) (a .options) (a .flags) (a .rest .now) (a .out .now) (c .before .before .before .before .before .before .before .before .before .before .before .before .before .pre) _ _ s _ _ (c .before .before .write-options .ensures) in
     omega (arith, t .count, t .same, c .before .before .before .before .before .before .before .before .before .before .before .before .before .pre)
 
 sub-write-flags : tie.Need-sub-write-flags
 sub-write-flags c =
     let a = c .before .before .before .before .before .before .before .before .before .before .before .before .before .args in
-    let s = path-written (a .words .now) (a .image .now) (a .path .now) (a .options) (a .flags) (a .rest .now) (a .out .now) (c .before .before .before .before .before .before .before .before .before .before .before .before .before .pre) _ _ (c .before .before .before .before .before .before .write-words .ensures) in
+    let s = path-written (a .words .now) (a .image .now) (a .path .now) (a .options) (a .flags) (a .rest .now) (a .out .now) (c .before .before .before .before .before .before .before .before .before .before .before .before .before .pre) _ _ (c .before .before .before .before .before .before .write-path .ensures) in
     let t = options-written (a .words .now) (a .image .now) (a .path .now) (a .options) (a .flags) (a .rest .now) (a .out .now) (c .before .before .before .before .before .before .before .before .before .before .before .before .before .pre) _ _ s _ _ (c .before .before .write-options .ensures) in
     omega (arith, t .count, t .same, c .before .before .before .before .before .before .before .before .before .before .before .before .before .pre)
 
 part-write-flags-start : tie.Need-part-write-flags-start
 part-write-flags-start c =
     let a = c .before .before .before .before .before .before .before .before .before .before .before .before .before .args in
-    let s = path-written (a .words .now) (a .image .now) (a .path .now) (a .options) (a .flags) (a .rest .now) (a .out .now) (c .before .before .before .before .before .before .before .before .before .before .before .before .before .pre) _ _ (c .before .before .before .before .before .before .write-words .ensures) in
+    let s = path-written (a .words .now) (a .image .now) (a .path .now) (a .options) (a .flags) (a .rest .now) (a .out .now) (c .before .before .before .before .before .before .before .before .before .before .before .before .before .pre) _ _ (c .before .before .before .before .before .before .write-path .ensures) in
     let t = options-written (a .words .now) (a .image .now) (a .path .now) (a .options) (a .flags) (a .rest .now) (a .out .now) (c .before .before .before .before .before .before .before .before .before .before .before .before .before .pre) _ _ s _ _ (c .before .before .write-options .ensures) in
     omega (arith, t .count, t .same, c .before .before .before .before .before .before .before .before .before .before .before .before .before .pre)
 
@@ -58,41 +58,41 @@ part-write-flags-end c = search needs
 write-flags-requires : tie.Need-write-flags-requires
 write-flags-requires c κs =
     let a = c .before .before .before .before .before .before .before .before .before .before .before .before .before .before .args in
-    let s = path-written (a .words .now) (a .image .now) (a .path .now) (a .options) (a .flags) (a .rest .now) (a .out .now) (c .before .before .before .before .before .before .before .before .before .before .before .before .before .before .pre) _ _ (c .before .before .before .before .before .before .before .write-words .ensures) in
+    let s = path-written (a .words .now) (a .image .now) (a .path .now) (a .options) (a .flags) (a .rest .now) (a .out .now) (c .before .before .before .before .before .before .before .before .before .before .before .before .before .before .pre) _ _ (c .before .before .before .before .before .before .before .write-path .ensures) in
     let t = options-written (a .words .now) (a .image .now) (a .path .now) (a .options) (a .flags) (a .rest .now) (a .out .now) (c .before .before .before .before .before .before .before .before .before .before .before .before .before .before .pre) _ _ s _ _ (c .before .before .before .write-options .ensures) in
     flags-lent (a .words .now) (a .image .now) (a .path .now) (a .options) (a .flags) (a .rest .now) (a .out .now) (c .before .before .before .before .before .before .before .before .before .before .before .before .before .before .pre) _ _ t
 
 add-at-2 : tie.Need-add-at-2
 add-at-2 c =
     let a = c .before .before .before .before .before .before .before .before .before .before .before .before .before .before .before .before .before .args in
-    let s = path-written (a .words .now) (a .image .now) (a .path .now) (a .options) (a .flags) (a .rest .now) (a .out .now) (c .before .before .before .before .before .before .before .before .before .before .before .before .before .before .before .before .before .pre) _ _ (c .before .before .before .before .before .before .before .before .before .before .write-words .ensures) in
+    let s = path-written (a .words .now) (a .image .now) (a .path .now) (a .options) (a .flags) (a .rest .now) (a .out .now) (c .before .before .before .before .before .before .before .before .before .before .before .before .before .before .before .before .before .pre) _ _ (c .before .before .before .before .before .before .before .before .before .before .write-path .ensures) in
     let t = options-written (a .words .now) (a .image .now) (a .path .now) (a .options) (a .flags) (a .rest .now) (a .out .now) (c .before .before .before .before .before .before .before .before .before .before .before .before .before .before .before .before .before .pre) _ _ s _ _ (c .before .before .before .before .before .before .write-options .ensures) in
     let u = flags-written (a .words .now) (a .image .now) (a .path .now) (a .options) (a .flags) (a .rest .now) (a .out .now) (c .before .before .before .before .before .before .before .before .before .before .before .before .before .before .before .before .before .pre) _ _ t _ _ (c .before .before .write-flags .ensures) in
     omega (arith, u .count, u .same, c .before .before .before .before .before .before .before .before .before .before .before .before .before .before .before .before .before .pre)
 
-sub-write-words : tie.Need-sub-write-words
-sub-write-words c =
+sub-write-positionals : tie.Need-sub-write-positionals
+sub-write-positionals c =
     let a = c .before .before .before .before .before .before .before .before .before .before .before .before .before .before .before .before .before .args in
-    let s = path-written (a .words .now) (a .image .now) (a .path .now) (a .options) (a .flags) (a .rest .now) (a .out .now) (c .before .before .before .before .before .before .before .before .before .before .before .before .before .before .before .before .before .pre) _ _ (c .before .before .before .before .before .before .before .before .before .before .write-words .ensures) in
+    let s = path-written (a .words .now) (a .image .now) (a .path .now) (a .options) (a .flags) (a .rest .now) (a .out .now) (c .before .before .before .before .before .before .before .before .before .before .before .before .before .before .before .before .before .pre) _ _ (c .before .before .before .before .before .before .before .before .before .before .write-path .ensures) in
     let t = options-written (a .words .now) (a .image .now) (a .path .now) (a .options) (a .flags) (a .rest .now) (a .out .now) (c .before .before .before .before .before .before .before .before .before .before .before .before .before .before .before .before .before .pre) _ _ s _ _ (c .before .before .before .before .before .before .write-options .ensures) in
     let u = flags-written (a .words .now) (a .image .now) (a .path .now) (a .options) (a .flags) (a .rest .now) (a .out .now) (c .before .before .before .before .before .before .before .before .before .before .before .before .before .before .before .before .before .pre) _ _ t _ _ (c .before .before .write-flags .ensures) in
     omega (arith, u .count, u .same, c .before .before .before .before .before .before .before .before .before .before .before .before .before .before .before .before .before .pre)
 
-part-write-words-start : tie.Need-part-write-words-start
-part-write-words-start c =
+part-write-positionals-start : tie.Need-part-write-positionals-start
+part-write-positionals-start c =
     let a = c .before .before .before .before .before .before .before .before .before .before .before .before .before .before .before .before .before .args in
-    let s = path-written (a .words .now) (a .image .now) (a .path .now) (a .options) (a .flags) (a .rest .now) (a .out .now) (c .before .before .before .before .before .before .before .before .before .before .before .before .before .before .before .before .before .pre) _ _ (c .before .before .before .before .before .before .before .before .before .before .write-words .ensures) in
+    let s = path-written (a .words .now) (a .image .now) (a .path .now) (a .options) (a .flags) (a .rest .now) (a .out .now) (c .before .before .before .before .before .before .before .before .before .before .before .before .before .before .before .before .before .pre) _ _ (c .before .before .before .before .before .before .before .before .before .before .write-path .ensures) in
     let t = options-written (a .words .now) (a .image .now) (a .path .now) (a .options) (a .flags) (a .rest .now) (a .out .now) (c .before .before .before .before .before .before .before .before .before .before .before .before .before .before .before .before .before .pre) _ _ s _ _ (c .before .before .before .before .before .before .write-options .ensures) in
     let u = flags-written (a .words .now) (a .image .now) (a .path .now) (a .options) (a .flags) (a .rest .now) (a .out .now) (c .before .before .before .before .before .before .before .before .before .before .before .before .before .before .before .before .before .pre) _ _ t _ _ (c .before .before .write-flags .ensures) in
     omega (arith, u .count, u .same, c .before .before .before .before .before .before .before .before .before .before .before .before .before .before .before .before .before .pre)
 
-part-write-words-end : tie.Need-part-write-words-end
-part-write-words-end c = search needs
+part-write-positionals-end : tie.Need-part-write-positionals-end
+part-write-positionals-end c = search needs
 
-write-words-requires-2 : tie.Need-write-words-requires-2
-write-words-requires-2 c κs =
+write-positionals-requires : tie.Need-write-positionals-requires
+write-positionals-requires c κs =
     let a = c .before .before .before .before .before .before .before .before .before .before .before .before .before .before .before .before .before .before .args in
-    let s = path-written (a .words .now) (a .image .now) (a .path .now) (a .options) (a .flags) (a .rest .now) (a .out .now) (c .before .before .before .before .before .before .before .before .before .before .before .before .before .before .before .before .before .before .pre) _ _ (c .before .before .before .before .before .before .before .before .before .before .before .write-words .ensures) in
+    let s = path-written (a .words .now) (a .image .now) (a .path .now) (a .options) (a .flags) (a .rest .now) (a .out .now) (c .before .before .before .before .before .before .before .before .before .before .before .before .before .before .before .before .before .before .pre) _ _ (c .before .before .before .before .before .before .before .before .before .before .before .write-path .ensures) in
     let t = options-written (a .words .now) (a .image .now) (a .path .now) (a .options) (a .flags) (a .rest .now) (a .out .now) (c .before .before .before .before .before .before .before .before .before .before .before .before .before .before .before .before .before .before .pre) _ _ s _ _ (c .before .before .before .before .before .before .before .write-options .ensures) in
     let u = flags-written (a .words .now) (a .image .now) (a .path .now) (a .options) (a .flags) (a .rest .now) (a .out .now) (c .before .before .before .before .before .before .before .before .before .before .before .before .before .before .before .before .before .before .pre) _ _ t _ _ (c .before .before .before .write-flags .ensures) in
     rest-lent (a .words .now) (a .image .now) (a .path .now) (a .options) (a .flags) (a .rest .now) (a .out .now) (c .before .before .before .before .before .before .before .before .before .before .before .before .before .before .before .before .before .before .pre) _ _ u
@@ -103,16 +103,16 @@ same-length c = search needs
 returns : tie.Need-returns
 returns c =
     let a = c .before .before .before .before .before .before .before .before .before .before .before .before .before .before .before .before .before .before .before .before .before .args in
-    let s = path-written (a .words .now) (a .image .now) (a .path .now) (a .options) (a .flags) (a .rest .now) (a .out .now) (c .before .before .before .before .before .before .before .before .before .before .before .before .before .before .before .before .before .before .before .before .before .pre) _ _ (c .before .before .before .before .before .before .before .before .before .before .before .before .before .before .write-words .ensures) in
+    let s = path-written (a .words .now) (a .image .now) (a .path .now) (a .options) (a .flags) (a .rest .now) (a .out .now) (c .before .before .before .before .before .before .before .before .before .before .before .before .before .before .before .before .before .before .before .before .before .pre) _ _ (c .before .before .before .before .before .before .before .before .before .before .before .before .before .before .write-path .ensures) in
     let t = options-written (a .words .now) (a .image .now) (a .path .now) (a .options) (a .flags) (a .rest .now) (a .out .now) (c .before .before .before .before .before .before .before .before .before .before .before .before .before .before .before .before .before .before .before .before .before .pre) _ _ s _ _ (c .before .before .before .before .before .before .before .before .before .before .write-options .ensures) in
     let u = flags-written (a .words .now) (a .image .now) (a .path .now) (a .options) (a .flags) (a .rest .now) (a .out .now) (c .before .before .before .before .before .before .before .before .before .before .before .before .before .before .before .before .before .before .before .before .before .pre) _ _ t _ _ (c .before .before .before .before .before .before .write-flags .ensures) in
-    rest-written (a .words .now) (a .image .now) (a .path .now) (a .options) (a .flags) (a .rest .now) (a .out .now) (c .before .before .before .before .before .before .before .before .before .before .before .before .before .before .before .before .before .before .before .before .before .pre) _ _ u _ _ (c .before .before .write-words2 .ensures)
+    rest-written (a .words .now) (a .image .now) (a .path .now) (a .options) (a .flags) (a .rest .now) (a .out .now) (c .before .before .before .before .before .before .before .before .before .before .before .before .before .before .before .before .before .before .before .before .before .pre) _ _ u _ _ (c .before .before .write-positionals .ensures)
 
 pub write-frames-spec : {M : Type 1} → statement M
 write-frames-spec =
     tie.close
     (tie.spec
-    write-words-requires
+    write-path-requires
     sub-write-options
     part-write-options-start
     part-write-options-end
@@ -123,9 +123,9 @@ write-frames-spec =
     part-write-flags-end
     write-flags-requires
     add-at-2
-    sub-write-words
-    part-write-words-start
-    part-write-words-end
-    write-words-requires-2
+    sub-write-positionals
+    part-write-positionals-start
+    part-write-positionals-end
+    write-positionals-requires
     same-length
     returns)

@@ -1,10 +1,10 @@
 -- `shell::handler::handler_of` meets its contract: by the head of the first frame.
 use mathlib.Core.Path.{sym, _∙_}
 use native.Mathlib.Omega.{arith}
-use borrow.Author.Needs.{needs}
 use Rattle.frame.specs.Text.{Bytes}
 use Rattle.image.proofs.Views.{node-bytes}
-use Rattle.shell.proofs.Reaching.{handler-there, handler-none}
+use Rattle.shell.proofs.Reaching.{handler-there, handler-lacking, handler-none}
+use borrow.Author.Needs.{needs}
 use Rattle.shell.proofs.handler.handler_of.Statement.{statement}
 use Rattle.shell.proofs.handler.handler_of.Tie as tie
 
@@ -17,14 +17,16 @@ enum-known-handler c = search needs
 returns : tie.Need-returns
 returns c = handler-none (c .before .before .before .args .frames .now) _ (sym (c .before .head-of .ensures)) (c .match .keys2)
 
-cast-result : tie.Need-cast-result
-unfolding Bytes
-cast-result c =
-    let h = node-bytes (c .before .before .before .before .before .args .frames .now) _ _ _ (sym (c .before .before .before .head-of .ensures) ∙ c .before .handler .given .1) (λ i. c .before .before .before .before .shared-slice-known .given i .fits) in
-    omega arith
-
 returns-2 : tie.Need-returns-2
-returns-2 c = handler-there (c .before .before .before .before .before .args .frames .now) _ _ _ (sym (c .before .before .before .head-of .ensures) ∙ c .before .handler .given .1)
+returns-2 c = handler-lacking (c .before .before .before .before .before .before .args .frames .now) _ _ _ (sym (c .before .before .before .before .head-of .ensures) ∙ c .before .before .handler .given .1) (let h = c .if1 .taken in omega arith)
+
+cast-t5 : tie.Need-cast-t5
+unfolding Bytes
+cast-t5 c = let h = node-bytes (c .before .before .before .before .before .before .args .frames .now) _ _ _ (sym (c .before .before .before .before .head-of .ensures) ∙ c .before .before .handler .given .1) (λ i. c .before .before .before .before .before .shared-slice-known .given i .fits) in omega arith
+
+returns-3 : tie.Need-returns-3
+returns-3 c = handler-there (c .before .before .before .before .before .before .args .frames .now) _ _ _ (sym (c .before .before .before .before .head-of .ensures) ∙ c .before .before .handler .given .1) (λ z. let h = c .if1 .left in omega arith)
 
 pub handler-of-spec : {M : Type 1} → statement M
-handler-of-spec = tie.close (tie.spec head-of-requires enum-known-handler returns cast-result returns-2)
+handler-of-spec =
+    tie.close (tie.spec head-of-requires enum-known-handler returns returns-2 cast-t5 returns-3)

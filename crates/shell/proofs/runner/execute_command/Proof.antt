@@ -1,8 +1,11 @@
 -- `shell::runner::execute_command` meets its contract: what is told is what was judged, with the handler of the node reached.
 use mathlib.Core.Path.{refl, sym, ap, _∙_}
+use mathlib.Core.List.{List}
 use Rattle.frame.specs.Text.{Bytes}
 use Rattle.parse.proofs.Judgements.{good-short}
+use Rattle.image.specs.Frames.{Frame}
 use Rattle.shell.specs.Lines.{handlerOf}
+use Rattle.shell.specs.Held.{handlerBy}
 use Rattle.shell.proofs.Answering.{said-same}
 use Rattle.shell.proofs.Telling.{words-carried}
 use borrow.Author.Needs.{needs}
@@ -50,7 +53,7 @@ same-length-2 : tie.Need-same-length-2
 same-length-2 c = search needs
 
 returns-2 : tie.Need-returns-2
-returns-2 c = let j = c .before .before .before .before .before .before .before .before .before .before .before .judge .ensures in let h = c .before .before .before .before .before .handler-of .ensures ∙ ap handlerOf (j .command (sym (c .before .before .before .before .before .before .before .before .before .number-of .ensures) ∙ c .before .before .before .before .before .before .before .before .if1 .left)) in said-same _ _ _ _ _ (words-carried (c .before .before .before .before .before .before .before .before .before .before .before .before .before .before .before .before .args .words .now) (c .before .before .before .before .before .before .before .before .before .before .before .before .before .before .before .before .args .image .now) _ _ _ (j .outcome) h) (c .before .before .tell-command .ensures)
+returns-2 c = let j = c .before .before .before .before .before .before .before .before .before .before .before .judge .ensures in let h = c .before .before .before .before .before .handler-of .ensures ∙ ap (λ (fs : List Frame). handlerBy (handlerOf fs)) (j .command (sym (c .before .before .before .before .before .before .before .before .before .number-of .ensures) ∙ c .before .before .before .before .before .before .before .before .if1 .left)) in said-same _ _ _ _ _ (words-carried (c .before .before .before .before .before .before .before .before .before .before .before .before .before .before .before .before .args .words .now) (c .before .before .before .before .before .before .before .before .before .before .before .before .before .before .before .before .args .image .now) _ _ _ (j .outcome) refl) (c .before .before .tell-command .ensures _ h)
 
 pub execute-command-spec : {M : Type 1} → statement M
 execute-command-spec =

@@ -43,13 +43,13 @@ returns-3 c = ill-formed (c .before .before .before .before .before .before .bef
 
 handle-builtin-commands-requires : tie.Need-handle-builtin-commands-requires
 unfolding Splits
-handle-builtin-commands-requires c κs = let short = c .before .before .before .before .if1 .left in let p = prefix-fits (c .before .before .before .before .before .before .before .before .before .before .before .before .args .line .now) in let e = c .before .before .before .well-formed-prefix .ensures in let k = c .before .before .if2 .left in record { good = (sym (c .before .before .before .before .before .before .before .find-command .ensures .checked) ∙ c .before .before .before .before .before .enum-told .given .1); short = omega arith; whole = omega arith; room = c .before .before .before .before .before .before .before .before .before .before .before .before .pre .0; split = c .before .before .before .before .before .before .before .before .before .before .before .before .pre .1 (omega arith) (omega arith); leads = c .before .before .before .before .before .before .before .find-command .ensures .place (sym (c .before .before .before .before .before .before .before .find-command .ensures .checked) ∙ c .before .before .before .before .before .enum-told .given .1) }
+handle-builtin-commands-requires c κs = let short = c .before .before .before .if1 .left in let p = prefix-fits (c .before .before .before .before .before .before .before .before .before .before .before .args .line .now) in let e = c .before .before .well-formed-prefix .ensures in let k = c .before .if2 .left in record { good = (sym (c .before .before .before .before .before .before .find-command .ensures .checked) ∙ c .before .before .before .before .enum-told .given .1); short = omega arith; whole = omega arith; room = c .before .before .before .before .before .before .before .before .before .before .before .pre .0; split = c .before .before .before .before .before .before .before .before .before .before .before .pre .1 (omega arith) (omega arith); leads = c .before .before .before .before .before .before .find-command .ensures .found (sym (c .before .before .before .before .before .before .find-command .ensures .checked) ∙ c .before .before .before .before .enum-told .given .1) }
 
 same-length-2 : tie.Need-same-length-2
 same-length-2 c = search needs
 
 returns-4 : tie.Need-returns-4
-returns-4 c = well-formed (c .before .before .before .before .before .before .before .before .before .before .before .before .before .before .before .args .image .now) (c .before .before .before .before .before .before .before .before .before .before .before .before .before .before .before .args .line .now) _ (sym (c .before .before .before .before .before .before .before .before .before .before .find-command .ensures .checked) ∙ c .before .before .before .before .before .before .before .before .enum-told .given .1) (let h = c .before .before .before .before .before .before .before .if1 .left in omega arith) _ _ _ (c .before .before .before .before .before .before .well-formed-prefix .ensures) (c .before .before .before .before .before .if2 .left) (c .before .before .handle-builtin-commands .ensures)
+returns-4 c = well-formed (c .before .before .before .before .before .before .before .before .before .before .before .before .before .before .args .image .now) (c .before .before .before .before .before .before .before .before .before .before .before .before .before .before .args .line .now) _ (sym (c .before .before .before .before .before .before .before .before .before .find-command .ensures .checked) ∙ c .before .before .before .before .before .before .before .enum-told .given .1) (let h = c .before .before .before .before .before .before .if1 .left in omega arith) _ _ _ (c .before .before .before .before .before .well-formed-prefix .ensures) (c .before .before .before .before .if2 .left) (c .before .before .handle-builtin-commands .ensures)
 
 pub run-words-spec : {M : Type 1} → statement M
 run-words-spec =

@@ -53,8 +53,11 @@ loop-less c = let t = goes-on _ _ _ (c .before .before .before .before .before .
 loop-again : tie.Need-loop-again Inv-loop μ-loop
 loop-again c = let o = not-false _ (c .before .before .if3 .left) in (goes-on _ _ _ (c .before .before .before .before .before .before .before .loop .inv .0) (c .before .before .before .before .step-at .result) _ refl (c .before .before .before .before .step-at .ensures) o .1, follows-turn (c .before .before .before .before .before .before .before .before .before .before .before .before .before .args .words .now) (c .before .before .before .before .before .before .before .before .before .before .before .before .before .args .image .now) (c .before .before .before .before .before .before .before .loop .walk) (c .before .before .before .before .step-at .result) (c .before .before .before .before .before .before .before .loop .trail) _ _ refl (c .before .before .before .before .step-at .ensures) o (c .before .past .ensures .0) (c .before .before .before .before .before .before .before .loop .inv .1), c .before .past .ensures .1)
 
+found-requires : tie.Need-found-requires Inv-loop μ-loop
+found-requires c κs = search needs
+
 returns-3 : tie.Need-returns-3 Inv-loop μ-loop
-returns-3 c = found-good _ _ _ (arrives _ _ _ (c .before .before .before .loop .inv .0) (c .before .if2 .left) ∙ check-judged _ (c .before .before .before .before .before .before .if1 .left)) (follows-end (c .before .before .before .before .before .before .before .before .before .args .words .now) (c .before .before .before .before .before .before .before .before .before .args .image .now) _ _ (c .before .if2 .left) (c .before .before .before .loop .inv .1))
+returns-3 c = found-good _ _ (c .before .before .before .loop .trail) _ (c .found .ensures) (arrives _ _ _ (c .before .before .before .loop .inv .0) (c .before .if2 .left) ∙ check-judged _ (c .before .before .before .before .before .before .if1 .left)) (follows-end (c .before .before .before .before .before .before .before .before .before .args .words .now) (c .before .before .before .before .before .before .before .before .before .args .image .now) _ _ (c .before .if2 .left) (c .before .before .before .loop .inv .1))
 
 pub find-command-spec : {M : Type 1} → statement M
 find-command-spec =
@@ -74,4 +77,5 @@ find-command-spec =
     add-n
     loop-less
     loop-again
+    found-requires
     returns-3)

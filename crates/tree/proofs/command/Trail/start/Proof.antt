@@ -4,11 +4,11 @@ use borrow.Author.Needs.{needs}
 use Rattle.tree.proofs.command.Trail.start.Statement.{statement}
 use Rattle.tree.proofs.command.Trail.start.Tie as tie
 
-next-length-requires : tie.Need-next-length-requires
-next-length-requires c κs = search needs
+next-word-requires : tie.Need-next-word-requires
+next-word-requires c κs = search needs
 
 returns : tie.Need-returns
-returns c = rw (c .next-length .ensures) refl
+returns c = rw (c .next-word .ensures) refl
 
 pub start-spec : {M : Type 1} → statement M
-start-spec = tie.close (tie.spec next-length-requires returns)
+start-spec = tie.close (tie.spec next-word-requires returns)
