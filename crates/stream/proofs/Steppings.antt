@@ -14,7 +14,7 @@ use Rattle.buffer.specs.Write.{over, overAt}
 use Rattle.buffer.proofs.Choices.{then-is, else-is, true-is-not-false}
 use Rattle.buffer.proofs.Lending.{length-overAt, overAt-front, overAt-nothing}
 use Rattle.frame.specs.House.{ended}
-use Rattle.session.specs.Prints.{badLine, linesOf}
+use Rattle.session.specs.Prints.{Printed, badLine, linesOf}
 use Rattle.session.specs.Calls.{most, RefusingLine}
 use Rattle.session.specs.declared.running.Printing.{Printing}
 use Rattle.session.specs.declared.running.Printing.the-variants.{Ends}
