@@ -1,5 +1,6 @@
 // Whole sessions: the program `console` against the original's loop and shell, with the frames of the standard around them.
 mod bad;
+mod lines;
 mod mixed;
 mod program;
 mod talk;
@@ -12,27 +13,13 @@ pub use talk::{closed_outputs, dialogues};
 use crate::named::named;
 use crate::part::Part;
 use crate::planting::{Tree, examples, full, handlers, marked, named as trees};
-use forest::{BYTES, Kind, NODES, Node, frames, image, largest_tree, plain_definition, plain_node};
+use forest::{BYTES, Kind, NODES, Node, image, largest_tree, plain_definition, plain_node};
+use lines::{house, key_lines, tree_lines};
 use program::{Feed, output};
 use told::told;
 
 /// The most keys of a line.
 const KEYS: usize = 511;
-
-/// A house line.
-fn house(frame: &[u8]) -> String {
-    let digits: String = frame.iter().map(|byte| format!("{byte:02x}")).collect();
-    digits + "\n"
-}
-
-fn tree_lines(tree: &[Node]) -> String {
-    frames(tree).iter().map(|frame| house(frame)).collect()
-}
-
-/// Keys in lines of so many.
-fn key_lines(keys: &[u8], length: usize) -> String {
-    keys.chunks(length).map(|keys| house(&[b" ", keys].concat())).collect()
-}
 
 fn session(tree: &[Node], keys: &[u8]) -> String {
     tree_lines(tree) + &key_lines(keys, KEYS)

@@ -1,0 +1,2 @@
+-- The laws of the crate `replay_session` that belong to no one function.
+pub mod Turns

@@ -1,0 +1,12 @@
+-- `ways::blank_slots` meets its contract.
+use mathlib.Core.Path.{refl}
+use Rattle.history.specs.Slots.{zeros, run, layout}
+use Rattle.replay_session.proofs.ways.blank_slots.Statement.{statement}
+use Rattle.replay_session.proofs.ways.blank_slots.Tie as tie
+
+returns : tie.Need-returns
+unfolding layout run zeros
+returns c = refl
+
+pub blank-slots-spec : {M : Type 1} → statement M
+blank-slots-spec = tie.close (tie.spec returns)

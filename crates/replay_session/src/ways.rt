@@ -1,0 +1,86 @@
+// The ways by which a session is replayed: in pieces of 1, 7, 64 and 1,000 bytes and all at once, and with room for what one key may print or two.
+use crate::taking::take_all;
+ghost use mathlib.Core.Path.{_≡_};
+ghost use mathlib.Core.List.{[]};
+ghost use Prim.Native.Nat.{_<_, _≤_};
+ghost use lib.ListN.{length};
+ghost use Rattle.history.specs.Slots.{layout};
+ghost use Rattle.stream.specs.Bytes.{lineRoom};
+
+// The number of ways: five sizes of pieces, and one of them again with more room.
+pub const WAYS: usize = 6;
+
+// No entry.
+fn blank_slots() -> [u8; 25600]
+    ensures { λ r. ⌜ r ≡ layout [] ⌝ }
+{
+    [0; 25600]
+}
+
+fn blank_image() -> [u8; 32768]
+    ensures { λ r. ⌜ length r ≡ 32768 ⌝ }
+{
+    [0; 32768]
+}
+
+fn blank_line() -> [u8; 1026]
+    ensures { λ r. ⌜ length r ≡ lineRoom ⌝ }
+{
+    [0; 1026]
+}
+
+// Room for what one key may print.
+fn blank_out() -> [u8; 131101]
+    ensures { λ r. ⌜ length r ≡ 131101 ⌝ }
+{
+    [0; 131101]
+}
+
+// Room for what two keys may print.
+fn blank_wide() -> [u8; 262202]
+    ensures { λ r. ⌜ length r ≡ 262202 ⌝ }
+{
+    [0; 262202]
+}
+
+// Replays a session in pieces of so many bytes: puts what it prints into the answer, and returns how many bytes that is.
+fn replay(session: &[u8], size: usize, out: &mut [u8], answer: &mut [u8]) -> usize
+    requires { ⌜ (0 < size) × (7 ≤ length (now out)) ⌝ }
+{
+    let mut line = blank_line();
+    let mut image = blank_image();
+    let mut slots = blank_slots();
+    take_all(
+        session,
+        size,
+        &mut line,
+        &mut image,
+        &mut slots,
+        out,
+        answer,
+    )
+}
+
+// The size of the pieces of a way.
+fn size_of(way: usize) -> usize
+    ensures { λ r. ⌜ 0 < r ⌝ }
+{
+    match way {
+        0 => 1,
+        1 => 7,
+        2 => 64,
+        3 => 1000,
+        4 => usize::MAX,
+        _ => 64,
+    }
+}
+
+// Replays a session by the way of that number; the last has room for what two keys may print.
+pub fn replay_by(way: usize, session: &[u8], answer: &mut [u8]) -> usize {
+    if way == WAYS - 1 {
+        let mut wide = blank_wide();
+        return replay(session, size_of(way), &mut wide, answer);
+    }
+    let mut out = blank_out();
+    replay(session, size_of(way), &mut out, answer)
+}
