@@ -1,8 +1,8 @@
 # Builds what compare/run.sh and bench/run.sh share. They read this file in, and stand at the top of the repository.
 
 # The library to compare: the one proved here, or the archive that RISSEMAT_LIBRARY names.
-library=${RISSEMAT_LIBRARY:-target/staticlib/libabi.a}
-[ -n "${RISSEMAT_LIBRARY:-}" ] || rt staticlib abi
+library=${RISSEMAT_LIBRARY:-target/staticlib/librissemat.a}
+[ -n "${RISSEMAT_LIBRARY:-}" ] || rt staticlib rissemat
 
 # The program console: the one proved here, or the one that RISSEMAT_CONSOLE names.
 if [ -z "${RISSEMAT_CONSOLE:-}" ]; then

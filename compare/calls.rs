@@ -1,5 +1,5 @@
-// The calls of libabi.a as safe functions on slices; each answers 64 bits.
-#[path = "../crates/abi/rissemat.rs"]
+// The calls of librissemat.a as safe functions on slices; each answers 64 bits.
+#[path = "../crates/rissemat/rissemat.rs"]
 mod rissemat;
 
 use rissemat::{rissemat_fresh, rissemat_help, rissemat_history_add, rissemat_key, rissemat_parse};

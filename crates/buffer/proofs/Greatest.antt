@@ -5,7 +5,7 @@ use mathlib.Core.List.{List, [], _∷_, _++_}
 use native.Mathlib.Omega.{arith}
 use lib.ListN.{length, take, drop, getD, take-append-drop}
 use lib.Seq.{drop-nil, drop-drop}
-use Rattle.buffer.specs.Most.{greatest}
+use Rattle.buffer.specs.Greatest.{greatest}
 use Rattle.buffer.proofs.Lists.{drop-step, drop-end}
 
 -- a turn of the pass takes the element at its place

@@ -5,3 +5,4 @@ pub mod Lending
 pub mod Writing
 pub mod Ordering
 pub mod Greatest
+pub mod Zeros

@@ -1,13 +1,17 @@
 // The ground under all writers and lookups: writing into lent buffers, comparing byte strings, the greatest byte of a part.
+mod lend;
+mod maximum;
 mod order;
-mod scan;
 mod write;
 
+pub use lend::byte_at;
+pub use lend::part;
+pub use lend::rest;
+pub use maximum::greatest_byte;
 pub use order::Order;
 pub use order::compare;
 pub use order::same;
 pub use order::same_throughout;
-pub use scan::most;
 pub use write::copy;
 pub use write::push;
 pub use write::push_byte;

@@ -1,5 +1,5 @@
 // Standard input and output: one read, a whole write. A call that was only interrupted is made again; a failure is told on standard error.
-use image::rest;
+use buffer::rest;
 use libc::STDIN_FILENO;
 use libc::STDOUT_FILENO;
 ghost use Prim.Native.Nat.{_≤_};

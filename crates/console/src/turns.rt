@@ -2,8 +2,8 @@
 use crate::channels::Got;
 use crate::channels::read_piece;
 use crate::channels::write_out;
-use image::part;
-use image::rest;
+use buffer::part;
+use buffer::rest;
 use stream::Stream;
 use stream::finish;
 use stream::step;

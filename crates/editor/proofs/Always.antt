@@ -9,11 +9,11 @@ use lib.Dec.{eqb, ltb}
 use lib.ListN.{length}
 use borrow.Author.Tests.{eq-eqb, ne-eqb, le-ltb}
 use Rattle.buffer.proofs.Choices.{then-is, else-is}
-use Rattle.history.specs.declared.past.History.{History}
+use Rattle.history.specs.declared.stepping.History.{History}
 use Rattle.editor.specs.declared.line.Mode.{Mode}
 use Rattle.editor.specs.declared.line.Mode.the-variants.{Typing, Escape, Sequence}
 use Rattle.editor.specs.declared.line.Editor.{Editor}
-use Rattle.editor.specs.declared.drawing.Key.{Key}
+use Rattle.editor.specs.declared.drawing.KeyAnswer.{KeyAnswer}
 use Rattle.editor.specs.declared.drawing.Pressed.{Pressed}
 use Rattle.editor.specs.Line.{limit}
 use Rattle.editor.specs.Keys.{State, Turn, drops, enters, lineFeed, showing, inMode, enter, erase, insert, typed, escaped, up, onPlace, down, right, left, sequenced, turnIn, turnOf}
@@ -21,7 +21,7 @@ use Rattle.editor.specs.Answer.{refused, Pressing}
 use Rattle.editor.proofs.Ranges.{at-rest}
 
 -- no second answer, state or buffer satisfies the contract
-module _ (e : Editor) (h : History) (slots prompt : List ℕ) (byte : ℕ) (line screen : List ℕ) (k k′ : Key) (a b c a′ b′ c′ : List ℕ)
+module _ (e : Editor) (h : History) (slots prompt : List ℕ) (byte : ℕ) (line screen : List ℕ) (k k′ : KeyAnswer) (a b c a′ b′ c′ : List ℕ)
     (p : Pressing e h slots prompt byte line screen k a b c) (q : Pressing e h slots prompt byte line screen k′ a′ b′ c′) where
   same-answer : k .answer ≡ k′ .answer
   same-answer = p .answer ∙ sym (q .answer)

@@ -11,12 +11,12 @@ use borrow.Author.Tests.{le-ltb}
 use Rattle.buffer.specs.Write.{over}
 use Rattle.buffer.proofs.Choices.{then-is, else-is, true-is-not-false}
 use Rattle.history.specs.Answer.{entriesIn}
-use Rattle.history.specs.declared.past.History.{History}
+use Rattle.history.specs.declared.stepping.History.{History}
 use Rattle.history.proofs.Layouts.{entries-layout}
 use Rattle.editor.specs.declared.line.Mode.{Mode}
 use Rattle.editor.specs.declared.line.Mode.the-variants.{Typing, Escape, Sequence}
 use Rattle.editor.specs.declared.line.Editor.{Editor}
-use Rattle.editor.specs.declared.drawing.Key.{Key}
+use Rattle.editor.specs.declared.drawing.KeyAnswer.{KeyAnswer}
 use Rattle.editor.specs.declared.drawing.Pressed.{Pressed}
 use Rattle.editor.specs.declared.drawing.Pressed.the-variants.{Dropped, BadState, BadPrompt, NoRoom}
 use Rattle.editor.specs.Line.{limit, holding}
@@ -55,7 +55,7 @@ taken-if is prompt t line screen = by is (goodPrompt prompt) (ltb line limit) (l
     by false b c d q = absurd (true-is-not-false q)
 
 -- one key, as it is called
-module _ (e : Editor) (h : History) (slots prompt : List ℕ) (byte : ℕ) (line screen : List ℕ) (k : Key) (slots′ line′ screen′ : List ℕ)
+module _ (e : Editor) (h : History) (slots prompt : List ℕ) (byte : ℕ) (line screen : List ℕ) (k : KeyAnswer) (slots′ line′ screen′ : List ℕ)
     (p : Pressing e h slots prompt byte line screen k slots′ line′ screen′) where
   turn : Turn
   turn = turnOf prompt (stateOf e h slots) byte
@@ -149,8 +149,8 @@ carried m n e (inl q) = inl (e ∙ q)
 carried m n e (inr q) = inr (e ∙ q)
 
 module _ (e : Editor) (h : History) (slots : List ℕ)
-    (prompt : List ℕ) (byte : ℕ) (line screen : List ℕ) (k : Key) (slots₁ line₁ screen₁ : List ℕ) (p : Pressing e h slots prompt byte line screen k slots₁ line₁ screen₁)
-    (prompt′ : List ℕ) (byte′ : ℕ) (line′ screen′ : List ℕ) (k′ : Key) (slots₂ line₂ screen₂ : List ℕ)
+    (prompt : List ℕ) (byte : ℕ) (line screen : List ℕ) (k : KeyAnswer) (slots₁ line₁ screen₁ : List ℕ) (p : Pressing e h slots prompt byte line screen k slots₁ line₁ screen₁)
+    (prompt′ : List ℕ) (byte′ : ℕ) (line′ screen′ : List ℕ) (k′ : KeyAnswer) (slots₂ line₂ screen₂ : List ℕ)
     (q : Pressing (k .editor) (k .history) slots₁ prompt′ byte′ line′ screen′ k′ slots₂ line₂ screen₂) where
   pub typing-back : refused (k .answer) ≡ false → refused (k′ .answer) ≡ false → (byte ≡ 0x1B → ⊥) → (byte′ ≡ 0x1B → ⊥) → k′ .editor .mode ≡ Typing
   unfolding stateOf turn

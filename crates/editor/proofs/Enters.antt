@@ -10,9 +10,9 @@ use borrow.Author.Tests.{eq-eqb, ne-eqb}
 use Rattle.buffer.proofs.Choices.{then-is, else-is}
 use Rattle.buffer.specs.Write.{over}
 use Rattle.history.specs.Answer.{entriesAfter, Offered}
-use Rattle.history.specs.declared.past.History.{History}
+use Rattle.history.specs.declared.stepping.History.{History}
 use Rattle.editor.specs.declared.line.Editor.{Editor}
-use Rattle.editor.specs.declared.drawing.Key.{Key}
+use Rattle.editor.specs.declared.drawing.KeyAnswer.{KeyAnswer}
 use Rattle.editor.specs.declared.drawing.Pressed.the-variants.{Entered, NoRoom}
 use Rattle.editor.specs.Line.{limit, holding, freshEditor, lineOf, goodLine, content}
 use Rattle.editor.specs.Keys.{State, Turn, enters, afterEnter, lineFeed, enter}
@@ -24,7 +24,7 @@ use Rattle.editor.proofs.Seats.{good-parts, holds-history, holds-editor
 
 module _ (e : Editor) (h : History) (t : Turn) (slots line screen : List ℕ) where
   -- a turn that fits, and one that does not
-  pub does-fits : (k : Key) (slots′ line′ screen′ : List ℕ) → length (t .screen) ≤ length screen
+  pub does-fits : (k : KeyAnswer) (slots′ line′ screen′ : List ℕ) → length (t .screen) ≤ length screen
       → k ≡ keyOf (editorOf (t .after)) (historyOf (t .after)) (taken t (t .kind))
       → slots′ ≡ slotsOf (t .after) → line′ ≡ over (t .submitted) line → screen′ ≡ over (t .screen) screen → Does e h t slots line screen k slots′ line′ screen′
   unfolding madeBy
@@ -39,7 +39,7 @@ module _ (e : Editor) (h : History) (t : Turn) (slots line screen : List ℕ) wh
         given = b ∙ sym (attempt-fits (t .screen) (length screen) _ _ l);
       }
 
-  pub does-short : (k : Key) → length screen < length (t .screen) → k ≡ keyOf e h (NoRoom (length (t .screen))) → Does e h t slots line screen k slots line screen
+  pub does-short : (k : KeyAnswer) → length screen < length (t .screen) → k ≡ keyOf e h (NoRoom (length (t .screen))) → Does e h t slots line screen k slots line screen
   unfolding madeBy
   does-short k l m =
       record {
@@ -61,7 +61,7 @@ module _ (e : Editor) (h : History) (t : Turn) (slots line screen : List ℕ) wh
       by true = refl
       by false = refl
 
-  pub does-acts : (k : Key) (screen′ : List ℕ) → slotsOf (t .after) ≡ slots → t .submitted ≡ [] → Acts e h t screen k screen′
+  pub does-acts : (k : KeyAnswer) (screen′ : List ℕ) → slotsOf (t .after) ≡ slots → t .submitted ≡ [] → Acts e h t screen k screen′
       → Does e h t slots line screen k slots line screen′
   does-acts k screen′ p q a =
       record {
@@ -72,7 +72,7 @@ module _ (e : Editor) (h : History) (t : Turn) (slots line screen : List ℕ) wh
             ∙ ap (attempt (t .screen) (length screen) line) (sym (ap (λ (x : List ℕ). over x line) q ∙ over-nothing line));
       }
 
-  pub does-as : (u : Turn) (k : Key) (slots′ line′ screen′ : List ℕ) → t ≡ u → Does e h t slots line screen k slots′ line′ screen′ → Does e h u slots line screen k slots′ line′ screen′
+  pub does-as : (u : Turn) (k : KeyAnswer) (slots′ line′ screen′ : List ℕ) → t ≡ u → Does e h t slots line screen k slots′ line′ screen′ → Does e h u slots line screen k slots′ line′ screen′
   does-as u k slots′ line′ screen′ q d = rw q at d
 
 pub limit-above : (n : ℕ) → limit ≤ n → 255 ≤ n

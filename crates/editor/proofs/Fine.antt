@@ -10,16 +10,17 @@ use borrow.Author.Tests.{eq-eqb, le-leb, ltb-true, eqb-false}
 use Rattle.buffer.proofs.Choices.{then-is}
 use Rattle.buffer.proofs.Ordering.{is-same}
 use Rattle.text.proofs.Prefix.{prefix-none, codes-none}
-use Rattle.history.specs.Entries.{wellFormed, sound}
+use Rattle.text.specs.Decoding.{wellFormed}
+use Rattle.history.specs.Entries.{sound}
 use Rattle.history.specs.Answer.{entriesIn}
-use Rattle.history.specs.declared.past.History.{History}
+use Rattle.history.specs.declared.stepping.History.{History}
 use Rattle.history.proofs.Layouts.{none, length-entries}
 use Rattle.history.proofs.States.{good-has, good-short, short-at}
 use Rattle.history.proofs.Kept.{Entries, entries-good, added-entries}
 use Rattle.editor.specs.declared.line.Mode.{Mode}
 use Rattle.editor.specs.declared.line.Mode.the-variants.{Typing, Escape, Sequence}
 use Rattle.editor.specs.declared.line.Editor.{Editor}
-use Rattle.editor.specs.declared.drawing.Key.{Key}
+use Rattle.editor.specs.declared.drawing.KeyAnswer.{KeyAnswer}
 use Rattle.editor.specs.Line.{limit, padded, holding, goodLine, inserted, erased, content}
 use Rattle.editor.specs.Keys.{State, Turn, inMode, enter, afterEnter, erase, insert, typed, escaped, up, onPlace, down, right, left, sequenced, turnIn, turnOf, freshState, afterKeys}
 use Rattle.editor.specs.Answer.{stateOf, editorOf, historyOf, slotsOf, goodState, refused, Pressing}
@@ -195,7 +196,7 @@ same-good : {e e′ : Editor} {h h′ : History} {slots slots′ : List ℕ} →
 same-good p q r = cc
 
 -- a key that is pressed in a good state leaves a good state
-pub stays-good : (e : Editor) (h : History) (slots prompt : List ℕ) (byte : ℕ) (line screen : List ℕ) (k : Key) (slots′ line′ screen′ : List ℕ)
+pub stays-good : (e : Editor) (h : History) (slots prompt : List ℕ) (byte : ℕ) (line screen : List ℕ) (k : KeyAnswer) (slots′ line′ screen′ : List ℕ)
     → goodState e h slots ≡ true → Pressing e h slots prompt byte line screen k slots′ line′ screen′ → goodState (k .editor) (k .history) slots′ ≡ true
 stays-good e h slots prompt byte line screen k slots′ line′ screen′ g p =
     same-good (p .editor) (p .history) (p .held)

@@ -6,10 +6,10 @@ use mathlib.Core.List.{List, []}
 use lib.Dec.{eqb, ltb}
 use lib.ListN.{length}
 use Rattle.history.specs.Slots.{good, layout}
-use Rattle.history.specs.declared.past.History.{History}
+use Rattle.history.specs.declared.stepping.History.{History}
 use Rattle.editor.specs.declared.line.Mode.{Mode}
 use Rattle.editor.specs.declared.line.Editor.{Editor}
-use Rattle.editor.specs.declared.drawing.Key.{Key}
+use Rattle.editor.specs.declared.drawing.KeyAnswer.{KeyAnswer}
 use Rattle.editor.specs.Line.{limit}
 use Rattle.editor.specs.Keys.{State, Turn, showing, inMode, erase, insert, escaped, up, onPlace, down, right, left, sequenced}
 use Rattle.editor.specs.Answer.{stateOf, slotsOf}
@@ -56,7 +56,7 @@ pub quiet-keeps : (s s′ : State) → s′ .entries ≡ s .entries → Keeps s 
 quiet-keeps s s′ e = same s _ e refl
 
 -- so the slots and the line buffer stay
-pub does-kept : (e : Editor) (h : History) (slots line screen : List ℕ) (t : Turn) (k : Key) (screen′ : List ℕ) → good (h .count) (h .place) slots ≡ true
+pub does-kept : (e : Editor) (h : History) (slots line screen : List ℕ) (t : Turn) (k : KeyAnswer) (screen′ : List ℕ) → good (h .count) (h .place) slots ≡ true
     → Keeps (stateOf e h slots) t → Acts e h t screen k screen′ → Does e h t slots line screen k slots line screen′
 unfolding slotsOf
 does-kept e h slots line screen t k screen′ g p a =

@@ -6,18 +6,18 @@ use mathlib.Core.List.{List, []}
 use native.Mathlib.Omega.{arith}
 use lib.ListN.{length}
 use Rattle.buffer.proofs.Choices.{then-is}
-use Rattle.history.specs.Entries.{wellFormed}
+use Rattle.text.specs.Decoding.{wellFormed}
 use Rattle.history.specs.Slots.{good}
 use Rattle.history.specs.Answer.{Emptied, Offered, Addition}
 use Rattle.history.specs.Steps.{back, onward}
-use Rattle.history.specs.declared.past.History.{History}
-use Rattle.history.specs.declared.past.Step.{Step}
+use Rattle.history.specs.declared.stepping.History.{History}
+use Rattle.history.specs.declared.stepping.Step.{Step}
 use Rattle.history.specs.declared.adding.Added.{Added}
 use Rattle.history.proofs.Kept.{back-good, onward-good}
 use Rattle.history.proofs.Lasting.{emptied-good, offered-good, added-good}
 use Rattle.editor.specs.declared.line.Mode.the-variants.{Typing}
 use Rattle.editor.specs.declared.line.Editor.{Editor}
-use Rattle.editor.specs.declared.drawing.Key.{Key}
+use Rattle.editor.specs.declared.drawing.KeyAnswer.{KeyAnswer}
 use Rattle.editor.specs.Line.{limit, holding, freshEditor, goodLine}
 use Rattle.editor.specs.Answer.{goodState, Pressing}
 use Rattle.editor.proofs.Seats.{good-parts}
@@ -36,7 +36,7 @@ pub data Reached : Editor → History → List ℕ → Type 0 where
   by-offer : {e : Editor} {h r : History} {slots text left : List ℕ} → Reached e h slots → length text ≤ 255 → wellFormed text ≡ true → Offered h slots text r left
       → Reached e r left
   by-add-command : {e : Editor} {h r : History} {slots text left : List ℕ} {told : Added} → Reached e h slots → Addition h slots text r told left → Reached e r left
-  by-key : {e : Editor} {h : History} {slots prompt line screen slots′ line′ screen′ : List ℕ} {byte : ℕ} {k : Key} → Reached e h slots
+  by-key : {e : Editor} {h : History} {slots prompt line screen slots′ line′ screen′ : List ℕ} {byte : ℕ} {k : KeyAnswer} → Reached e h slots
       → Pressing e h slots prompt byte line screen k slots′ line′ screen′ → Reached (k .editor) (k .history) slots′
 
 -- a state of which each part is good, and the parts of a good one

@@ -14,12 +14,13 @@ use Rattle.buffer.proofs.Lending.{copy-step, copy-end}
 use Rattle.buffer.proofs.Lists.{drop-step}
 use Rattle.buffer.proofs.Ordering.{same-is, same-behind}
 use Rattle.buffer.specs.Compare.{sameBytes}
-use Rattle.buffer.specs.Most.{greatest}
+use Rattle.buffer.specs.Greatest.{greatest}
 use Rattle.buffer.specs.Write.{over}
-use Rattle.history.specs.Entries.{wellFormed}
-use Rattle.history.specs.Slots.{zeros}
-use Rattle.history.proofs.Layouts.{length-zeros, drop-zeros}
-use Rattle.history.proofs.Judging.{zero-bytes}
+use Rattle.text.specs.Decoding.{wellFormed}
+use Rattle.buffer.specs.Lend.{zeros}
+use Rattle.buffer.proofs.Zeros.{length-zeros}
+use Rattle.buffer.proofs.Zeros.{drop-zeros}
+use Rattle.buffer.proofs.Zeros.{zero-bytes}
 use Rattle.history.proofs.States.{holds}
 use Rattle.editor.specs.declared.line.Mode.{Mode}
 use Rattle.editor.specs.declared.line.Editor.{Editor}

@@ -8,9 +8,9 @@ use lib.ListN.{length}
 use borrow.Author.Tests.{lt-ltb, le-ltb, ltb-true, ltb-false, leb-true}
 use Rattle.buffer.proofs.Choices.{then-is, else-is}
 use Rattle.history.proofs.States.{holds}
-use Rattle.history.specs.declared.past.History.{History}
+use Rattle.history.specs.declared.stepping.History.{History}
 use Rattle.editor.specs.declared.line.Editor.{Editor}
-use Rattle.editor.specs.declared.drawing.Key.{Key}
+use Rattle.editor.specs.declared.drawing.KeyAnswer.{KeyAnswer}
 use Rattle.editor.specs.declared.drawing.Pressed.{Pressed}
 use Rattle.editor.specs.declared.drawing.Pressed.the-variants.{BadState, BadPrompt, NoRoom}
 use Rattle.editor.specs.Line.{limit}
@@ -65,7 +65,7 @@ module _ (e : Editor) (h : History) (slots prompt : List ℕ) (byte : ℕ) (line
       answers l u q = then-is _ _ _ g ∙ then-is _ _ _ p ∙ else-is _ _ _ (le-ltb (length line) limit l) ∙ q
 
       -- a key that was taken, or for which the screen had no room
-      pub pressed : limit ≤ length line → (k : Key) (slots′ line′ screen′ : List ℕ)
+      pub pressed : limit ≤ length line → (k : KeyAnswer) (slots′ line′ screen′ : List ℕ)
           → Does e h (turnOf prompt (stateOf e h slots) byte) slots line screen k slots′ line′ screen′
           → Pressing e h slots prompt byte line screen k slots′ line′ screen′
       unfolding t madeBy
@@ -75,11 +75,11 @@ module _ (e : Editor) (h : History) (slots prompt : List ℕ) (byte : ℕ) (line
           by true q =
               let room = ltb-true _ _ q in
               let m : k ≡ keyOf e h (NoRoom (length (t .screen))) = d .acts .made ∙ attempt-short (t .screen) (length screen) _ _ room in
-              let r : refused (k .answer) ≡ true = ap (λ (x : Key). refused (x .answer)) m in
+              let r : refused (k .answer) ≡ true = ap (λ (x : KeyAnswer). refused (x .answer)) m in
               record {
-                answer = ap (λ (x : Key). x .answer) m ∙ sym (answers l (NoRoom (length (t .screen))) (then-is _ _ _ q));
-                editor = ap (λ (x : Key). x .editor) m ∙ sym (then-is _ _ _ r);
-                history = ap (λ (x : Key). x .history) m ∙ sym (then-is _ _ _ r);
+                answer = ap (λ (x : KeyAnswer). x .answer) m ∙ sym (answers l (NoRoom (length (t .screen))) (then-is _ _ _ q));
+                editor = ap (λ (x : KeyAnswer). x .editor) m ∙ sym (then-is _ _ _ r);
+                history = ap (λ (x : KeyAnswer). x .history) m ∙ sym (then-is _ _ _ r);
                 held = d .held ∙ attempt-short (t .screen) (length screen) _ _ room ∙ sym (then-is _ _ _ r);
                 given = d .given ∙ attempt-short (t .screen) (length screen) _ _ room ∙ sym (then-is _ _ _ r);
                 shown = d .acts .shown ∙ attempt-short (t .screen) (length screen) _ _ room ∙ sym (then-is _ _ _ r);
@@ -87,11 +87,11 @@ module _ (e : Editor) (h : History) (slots prompt : List ℕ) (byte : ℕ) (line
           by false q =
               let room = ltb-false _ _ q in
               let m : k ≡ keyOf (editorOf (t .after)) (historyOf (t .after)) (taken t (t .kind)) = d .acts .made ∙ attempt-fits (t .screen) (length screen) _ _ room in
-              let r : refused (k .answer) ≡ false = ap (λ (x : Key). refused (x .answer)) m ∙ taken-not-refused t (t .kind) in
+              let r : refused (k .answer) ≡ false = ap (λ (x : KeyAnswer). refused (x .answer)) m ∙ taken-not-refused t (t .kind) in
               record {
-                answer = ap (λ (x : Key). x .answer) m ∙ sym (answers l (taken t (t .kind)) (else-is _ _ _ q));
-                editor = ap (λ (x : Key). x .editor) m ∙ sym (else-is _ _ _ r);
-                history = ap (λ (x : Key). x .history) m ∙ sym (else-is _ _ _ r);
+                answer = ap (λ (x : KeyAnswer). x .answer) m ∙ sym (answers l (taken t (t .kind)) (else-is _ _ _ q));
+                editor = ap (λ (x : KeyAnswer). x .editor) m ∙ sym (else-is _ _ _ r);
+                history = ap (λ (x : KeyAnswer). x .history) m ∙ sym (else-is _ _ _ r);
                 held = d .held ∙ attempt-fits (t .screen) (length screen) _ _ room ∙ sym (else-is _ _ _ r);
                 given = d .given ∙ attempt-fits (t .screen) (length screen) _ _ room ∙ sym (else-is _ _ _ r);
                 shown = d .acts .shown ∙ attempt-fits (t .screen) (length screen) _ _ room ∙ sym (else-is _ _ _ r);

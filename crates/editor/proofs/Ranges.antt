@@ -4,7 +4,7 @@ use mathlib.Core.Path.{_≡_, ap, _∙_}
 use mathlib.Core.List.{List, []}
 use borrow.Author.Tests.{ne-eqb, lt-ltb, le-ltb}
 use Rattle.buffer.proofs.Choices.{then-is, else-is}
-use Rattle.history.specs.declared.past.History.{History}
+use Rattle.history.specs.declared.stepping.History.{History}
 use Rattle.editor.specs.declared.line.Mode.{Mode}
 use Rattle.editor.specs.declared.line.Mode.the-variants.{Typing, Escape, Sequence}
 use Rattle.editor.specs.declared.line.Editor.{Editor}

@@ -8,14 +8,14 @@ use lib.ListN.{length}
 use Rattle.buffer.specs.Write.{over}
 use Rattle.history.specs.Slots.{good}
 use Rattle.history.specs.Answer.{entriesIn}
-use Rattle.history.specs.declared.past.History.{History}
+use Rattle.history.specs.declared.stepping.History.{History}
 use Rattle.history.proofs.Layouts.{length-entries}
 use Rattle.history.proofs.States.{holds, good-has}
 use Rattle.screen.specs.Redraw.{redraw}
 use Rattle.editor.specs.declared.line.Mode.{Mode}
 use Rattle.editor.specs.declared.line.Mode.the-variants.{Typing}
 use Rattle.editor.specs.declared.line.Editor.{Editor}
-use Rattle.editor.specs.declared.drawing.Key.{Key}
+use Rattle.editor.specs.declared.drawing.KeyAnswer.{KeyAnswer}
 use Rattle.editor.specs.declared.drawing.Pressed.the-variants.{Shown, Dropped, NoRoom}
 use Rattle.editor.specs.Line.{limit, holding, lineOf, freshEditor, goodLine, content}
 use Rattle.editor.specs.Keys.{State, Turn, drops, showing, redrawn, redrawing}
@@ -92,7 +92,7 @@ module _ (e : Editor) (h : History) (screen : List ℕ) where
       }
 
   -- bytes shown, with the state that holds
-  pub acts-shown : (s : State) (bytes : List ℕ) (goes : Editor) (h′ : History) (k : Key) (left : List ℕ) → goes ≡ editorOf s → h′ ≡ historyOf s
+  pub acts-shown : (s : State) (bytes : List ℕ) (goes : Editor) (h′ : History) (k : KeyAnswer) (left : List ℕ) → goes ≡ editorOf s → h′ ≡ historyOf s
       → Shows bytes e h goes h′ screen k left → Acts e h (showing s bytes) screen k left
   unfolding madeBy
   acts-shown s bytes goes h′ k left p q a =
@@ -110,10 +110,10 @@ module _ (e : Editor) (h : History) (screen : List ℕ) where
       ap (λ (x : Editor). redraw prompt (content (lineOf x)) (x .cursor)) p
       ∙ ap (λ (l : List ℕ). redraw prompt (content l) (s .cursor)) (line-held (s .line) (s .cursor) (s .mode))
 
-  pub acts-redrawn : (prompt : List ℕ) (s : State) (goes : Editor) (h′ : History) (k : Key) (left : List ℕ) → goes ≡ editorOf s → h′ ≡ historyOf s
+  pub acts-redrawn : (prompt : List ℕ) (s : State) (goes : Editor) (h′ : History) (k : KeyAnswer) (left : List ℕ) → goes ≡ editorOf s → h′ ≡ historyOf s
       → Shows (redraw prompt (content (lineOf goes)) (goes .cursor)) e h goes h′ screen k left → Acts e h (redrawing prompt s) screen k left
   acts-redrawn prompt s goes h′ k left p q a = acts-shown s (redrawn prompt s) goes h′ k left p q (rw (redrawn-by prompt s goes p) at a)
 
   -- the turn by another name
-  pub acts-as : (t u : Turn) (k : Key) (left : List ℕ) → t ≡ u → Acts e h t screen k left → Acts e h u screen k left
+  pub acts-as : (t u : Turn) (k : KeyAnswer) (left : List ℕ) → t ≡ u → Acts e h t screen k left → Acts e h u screen k left
   acts-as t u k left q a = rw q at a

@@ -8,7 +8,7 @@ use lib.ListN.{length}
 use borrow.Author.Tests.{lt-ltb, le-ltb, ltb-true, ltb-false}
 use Rattle.buffer.proofs.Choices.{then-is, else-is}
 use Rattle.buffer.specs.Write.{over}
-use Rattle.history.specs.declared.past.History.{History}
+use Rattle.history.specs.declared.stepping.History.{History}
 use Rattle.screen.specs.Redraw.{redraw, greatest, roomAnswer, leavesBy, Redraw}
 use Rattle.screen.specs.declared.line.Redrawn.{Redrawn}
 use Rattle.screen.specs.declared.line.Redrawn.the-variants.{Shown as Drawn, NoRoom as NoSpace}

@@ -11,17 +11,17 @@ use Rattle.buffer.proofs.Choices.{then-is, else-is}
 use Rattle.history.specs.Slots.{good, entriesOf, entryAt}
 use Rattle.history.specs.Steps.{back, onward, recalledAt}
 use Rattle.history.specs.Answer.{entriesIn}
-use Rattle.history.specs.declared.past.History.{History}
-use Rattle.history.specs.declared.past.Recalled.{Recalled}
-use Rattle.history.specs.declared.past.Recalled.the-variants.{Entry, Nothing}
-use Rattle.history.specs.declared.past.Step.{Step}
+use Rattle.history.specs.declared.stepping.History.{History}
+use Rattle.history.specs.declared.stepping.Recalled.{Recalled}
+use Rattle.history.specs.declared.stepping.Recalled.the-variants.{Entry, Nothing}
+use Rattle.history.specs.declared.stepping.Step.{Step}
 use Rattle.history.proofs.Layouts.{length-entries}
 use Rattle.history.proofs.States.{good-has, entry-of, entry-short}
 use Rattle.screen.specs.Redraw.{redraw}
 use Rattle.editor.specs.declared.line.Mode.{Mode}
 use Rattle.editor.specs.declared.line.Mode.the-variants.{Typing}
 use Rattle.editor.specs.declared.line.Editor.{Editor}
-use Rattle.editor.specs.declared.drawing.Key.{Key}
+use Rattle.editor.specs.declared.drawing.KeyAnswer.{KeyAnswer}
 use Rattle.editor.specs.declared.drawing.Pressed.the-variants.{Shown, Dropped}
 use Rattle.editor.specs.Line.{limit, holding, freshEditor, lineOf, goodLine, inserted, erased, content}
 use Rattle.editor.specs.Keys.{State, showing, redrawing, withLine, inMode, atPlace, erase, insert, recalling, up, onPlace, down, right, left, arrow}
@@ -57,7 +57,7 @@ module _ (e : Editor) (h : History) (slots screen : List ℕ) (g : goodLine e �
       acts-as e h screen (showing s []) (erase prompt s) _ _ (sym (then-is _ _ _ (eq-eqb (e .cursor) 0 z)))
       (acts-quiet e h screen s e h (sym (holds-editor e h slots g)) (sym (holds-history e h slots)))
 
-  module _ (k : Key) (goes : Editor) (shown : List ℕ) (typing : e .mode ≡ Typing) where
+  module _ (k : KeyAnswer) (goes : Editor) (shown : List ℕ) (typing : e .mode ≡ Typing) where
     pub erase-shown : (prompt : List ℕ) → (e .cursor ≡ 0 → ⊥) → goes ≡ holding (erased (lineOf e) (e .cursor)) (e .cursor - 1) (e .mode)
         → Shows (redraw prompt (content (lineOf goes)) (goes .cursor)) e h goes h screen k shown → Acts e h (erase prompt (stateOf e h slots)) screen k shown
     unfolding erase s stateOf
@@ -116,7 +116,7 @@ module _ (e : Editor) (h : History) (slots screen : List ℕ) (g : goodLine e �
   unfolding left stateOf s₁
   left-quiet e′ z p = acts-as e h screen (showing s₁ []) (left s₁) _ _ (sym (then-is _ _ _ (eq-eqb (e .cursor) 0 z))) (quiet e′ p)
 
-  module _ (k : Key) (goes : Editor) (shown : List ℕ) where
+  module _ (k : KeyAnswer) (goes : Editor) (shown : List ℕ) where
     moved-shown : (cursor final : ℕ) → goes ≡ editor (e .line) (e .length) cursor Typing → Shows (arrow final) e h goes h screen k shown
         → Acts e h (showing (withLine (stateOf e h slots) (lineOf e) cursor) (arrow final)) screen k shown
     unfolding s
@@ -195,7 +195,7 @@ module _ (e : Editor) (h : History) (slots screen : List ℕ) (good-state : good
   recalled-short n text p l =
       rw (p ∙ entry-of (h .count) (h .place) n slots is l) (entry-short (h .count) (h .place) n slots is)
 
-  module _ (k : Key) (goes : Editor) (shown prompt : List ℕ) (n : ℕ) (text : List ℕ) (h′ : History) where
+  module _ (k : KeyAnswer) (goes : Editor) (shown prompt : List ℕ) (n : ℕ) (text : List ℕ) (h′ : History) where
     pub recall-shown : n < h .count → h′ ≡ at h n → text ≡ entryAt n slots → goes ≡ holding text (length text) Typing
         → Shows (redraw prompt (content (lineOf goes)) (goes .cursor)) e h goes h′ screen k shown
         → Acts e h (recalling prompt (inMode (stateOf e h slots) Typing) n) screen k shown
@@ -289,7 +289,7 @@ module _ (e : Editor) (h : History) (slots screen : List ℕ) (good-state : good
       let f = found (h .count) p (step .recalled) (ap (λ (y : Step). y .recalled) stepped) n r in
       recalled-short e h slots screen good-state n text x (rw (f .1) (f .0))
 
-  module _ (k : Key) (goes : Editor) (shown prompt : List ℕ) (h′ : History) where
+  module _ (k : KeyAnswer) (goes : Editor) (shown prompt : List ℕ) (h′ : History) where
     pub down-shown : (n : ℕ) (text : List ℕ) → step .recalled ≡ Entry n → h′ ≡ step .history → text ≡ entryAt n slots → goes ≡ holding text (length text) Typing
         → Shows (redraw prompt (content (lineOf goes)) (goes .cursor)) e h goes h′ screen k shown
         → Acts e h (down prompt (inMode (stateOf e h slots) Typing)) screen k shown

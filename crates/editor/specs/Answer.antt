@@ -6,12 +6,12 @@ use mathlib.Core.List.{List}
 use lib.Dec.{ltb, leb}
 use lib.ListN.{length}
 use Rattle.buffer.specs.Write.{over}
-use Rattle.history.specs.Entries.{wellFormed}
+use Rattle.text.specs.Decoding.{wellFormed}
 use Rattle.history.specs.Slots.{layout, good}
 use Rattle.history.specs.Answer.{entriesIn}
-use Rattle.history.specs.declared.past.History.{History}
+use Rattle.history.specs.declared.stepping.History.{History}
 use Rattle.editor.specs.declared.line.Editor.{Editor}
-use Rattle.editor.specs.declared.drawing.Key.{Key}
+use Rattle.editor.specs.declared.drawing.KeyAnswer.{KeyAnswer}
 use Rattle.editor.specs.declared.drawing.Pressed.{Pressed}
 use Rattle.editor.specs.declared.drawing.Pressed.the-variants.{Shown, Entered, Dropped, BadState, BadPrompt, NoRoom}
 use Rattle.editor.specs.Line.{limit, holding, lineOf, goodLine}
@@ -68,7 +68,7 @@ refused (BadPrompt n) = true
 refused (NoRoom n) = true
 
 pub record Pressing (e : Editor) (h : History) (slots prompt : List ℕ) (byte : ℕ) (line screen : List ℕ)
-    (k : Key) (slots′ line′ screen′ : List ℕ) : Type 0 where
+    (k : KeyAnswer) (slots′ line′ screen′ : List ℕ) : Type 0 where
   pub answer : k .answer ≡ keyAnswer (goodState e h slots) prompt (turnOf prompt (stateOf e h slots) byte) (length line) (length screen)
   pub editor : k .editor ≡ cond (refused (k .answer)) e (editorOf (turnOf prompt (stateOf e h slots) byte .after))
   pub history : k .history ≡ cond (refused (k .answer)) h (historyOf (turnOf prompt (stateOf e h slots) byte .after))

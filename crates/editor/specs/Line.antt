@@ -5,8 +5,8 @@ use mathlib.Core.List.{List, [], _∷_, _++_}
 use lib.Dec.{leb}
 use lib.ListN.{length, take, drop}
 use Rattle.buffer.specs.Compare.{sameBytes}
-use Rattle.history.specs.Entries.{wellFormed}
-use Rattle.history.specs.Slots.{zeros}
+use Rattle.text.specs.Decoding.{wellFormed}
+use Rattle.buffer.specs.Lend.{zeros}
 use Rattle.editor.specs.declared.line.Mode.{Mode}
 use Rattle.editor.specs.declared.line.Mode.the-variants.{Typing}
 use Rattle.editor.specs.declared.line.Editor.{Editor}

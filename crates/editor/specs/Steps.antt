@@ -6,9 +6,9 @@ use mathlib.Core.List.{List}
 use lib.Dec.{ltb}
 use lib.ListN.{length}
 use Rattle.buffer.specs.Write.{over}
-use Rattle.history.specs.declared.past.History.{History}
+use Rattle.history.specs.declared.stepping.History.{History}
 use Rattle.editor.specs.declared.line.Editor.{Editor}
-use Rattle.editor.specs.declared.drawing.Key.{Key}
+use Rattle.editor.specs.declared.drawing.KeyAnswer.{KeyAnswer}
 use Rattle.editor.specs.declared.drawing.Pressed.{Pressed}
 use Rattle.editor.specs.declared.drawing.Pressed.the-variants.{Shown, NoRoom}
 use Rattle.editor.specs.Keys.{Turn}
@@ -18,29 +18,29 @@ use Rattle.editor.specs.Answer.{taken, editorOf, historyOf, slotsOf}
 unfoldable pub attempt : {A : Type 0} → List ℕ → ℕ → A → A → A
 attempt bytes room stays goes = cond (ltb room (length bytes)) stays goes
 
-abbrev pub keyOf : Editor → History → Pressed → Key
+abbrev pub keyOf : Editor → History → Pressed → KeyAnswer
 keyOf e h told = record { editor = e; history = h; answer = told }
 
-pub record Shows (bytes : List ℕ) (stays : Editor) (past : History) (goes : Editor) (history : History) (screen : List ℕ) (k : Key) (screen′ : List ℕ) : Type 0 where
+pub record Shows (bytes : List ℕ) (stays : Editor) (past : History) (goes : Editor) (history : History) (screen : List ℕ) (k : KeyAnswer) (screen′ : List ℕ) : Type 0 where
   pub made : k ≡ attempt bytes (length screen) (keyOf stays past (NoRoom (length bytes))) (keyOf goes history (Shown (length bytes)))
   pub shown : screen′ ≡ attempt bytes (length screen) screen (over bytes screen)
 
 -- what a turn comes to for one who holds e and h
-unfoldable pub madeBy : Editor → History → Turn → ℕ → Key
+unfoldable pub madeBy : Editor → History → Turn → ℕ → KeyAnswer
 madeBy e h t room =
     attempt (t .screen) room (keyOf e h (NoRoom (length (t .screen)))) (keyOf (editorOf (t .after)) (historyOf (t .after)) (taken t (t .kind)))
 
 -- a turn that leaves the slots and the line buffer alone
-pub record Acts (e : Editor) (h : History) (t : Turn) (screen : List ℕ) (k : Key) (screen′ : List ℕ) : Type 0 where
+pub record Acts (e : Editor) (h : History) (t : Turn) (screen : List ℕ) (k : KeyAnswer) (screen′ : List ℕ) : Type 0 where
   pub made : k ≡ madeBy e h t (length screen)
   pub shown : screen′ ≡ attempt (t .screen) (length screen) screen (over (t .screen) screen)
 
 -- whatever the slots hold
-abbrev pub ActsFor : (List ℕ → Turn) → Editor → History → List ℕ → Key → List ℕ → Type 0
+abbrev pub ActsFor : (List ℕ → Turn) → Editor → History → List ℕ → KeyAnswer → List ℕ → Type 0
 ActsFor t e h screen k screen′ = (slots : List ℕ) → Acts e h (t slots) screen k screen′
 
 -- any turn
-pub record Does (e : Editor) (h : History) (t : Turn) (slots line screen : List ℕ) (k : Key) (slots′ line′ screen′ : List ℕ) : Type 0 where
+pub record Does (e : Editor) (h : History) (t : Turn) (slots line screen : List ℕ) (k : KeyAnswer) (slots′ line′ screen′ : List ℕ) : Type 0 where
   pub acts : Acts e h t screen k screen′
   pub held : slots′ ≡ attempt (t .screen) (length screen) slots (slotsOf (t .after))
   pub given : line′ ≡ attempt (t .screen) (length screen) line (over (t .submitted) line)

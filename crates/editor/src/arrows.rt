@@ -7,7 +7,7 @@ ghost use Rattle.editor.specs.Line.{goodLine};
 ghost use Rattle.editor.specs.Keys.{inMode, up, down, right, left};
 ghost use Rattle.editor.specs.Answer.{stateOf, goodState};
 ghost use Rattle.editor.specs.Steps.{Acts, ActsFor};
-use super::drawing::Key;
+use super::drawing::KeyAnswer;
 use super::drawing::Pressed;
 use super::drawing::redraw;
 use super::drawing::show_arrow;
@@ -25,7 +25,7 @@ impl Editor {
         slots: &[u8],
         prompt: &[u8],
         screen: &mut [u8],
-    ) -> Key
+    ) -> KeyAnswer
         requires { ⌜ (goodState self history (now slots) ≡ true) × (length (now prompt) ≤ 128) ⌝ }
         ensures { λ r. ⌜ Acts self history (up (now (prompt .entry)) (inMode (stateOf self history (now (slots .entry))) Mode.Typing)) (now (screen .entry)) r (now (screen .exit)) ⌝ }
     {
@@ -33,7 +33,7 @@ impl Editor {
         let recalled = step.recalled;
         let Recalled::Entry(number) = recalled else {
             self = self.in_mode(Mode::Typing);
-            return Key {
+            return KeyAnswer {
                 editor: self,
                 history,
                 answer: Pressed::Shown(0),
@@ -52,7 +52,7 @@ impl Editor {
         slots: &[u8],
         prompt: &[u8],
         screen: &mut [u8],
-    ) -> Key
+    ) -> KeyAnswer
         requires { ⌜ (goodState self history (now slots) ≡ true) × (length (now prompt) ≤ 128) ⌝ }
         ensures { λ r. ⌜ Acts self history (down (now (prompt .entry)) (inMode (stateOf self history (now (slots .entry))) Mode.Typing)) (now (screen .entry)) r (now (screen .exit)) ⌝ }
     {
@@ -69,7 +69,7 @@ impl Editor {
     }
 
     // Right: the cursor goes on by a byte, unless it stands at the end.
-    pub(crate) fn right(mut self, history: History, screen: &mut [u8]) -> Key
+    pub(crate) fn right(mut self, history: History, screen: &mut [u8]) -> KeyAnswer
         requires { ⌜ goodLine self ≡ true ⌝ }
         ensures { λ r. ⌜ ActsFor (λ slots. right (inMode (stateOf self history slots) Mode.Typing)) self history (now (screen .entry)) r (now (screen .exit)) ⌝ }
     {
@@ -78,7 +78,7 @@ impl Editor {
         let before = self;
         self = self.in_mode(Mode::Typing);
         if length <= cursor {
-            return Key {
+            return KeyAnswer {
                 editor: self,
                 history,
                 answer: Pressed::Shown(0),
@@ -89,7 +89,7 @@ impl Editor {
     }
 
     // Left: the cursor goes back by a byte, unless it stands at the beginning.
-    pub(crate) fn left(mut self, history: History, screen: &mut [u8]) -> Key
+    pub(crate) fn left(mut self, history: History, screen: &mut [u8]) -> KeyAnswer
         requires { ⌜ goodLine self ≡ true ⌝ }
         ensures { λ r. ⌜ ActsFor (λ slots. left (inMode (stateOf self history slots) Mode.Typing)) self history (now (screen .entry)) r (now (screen .exit)) ⌝ }
     {
@@ -97,7 +97,7 @@ impl Editor {
         let before = self;
         self = self.in_mode(Mode::Typing);
         if cursor == 0 {
-            return Key {
+            return KeyAnswer {
                 editor: self,
                 history,
                 answer: Pressed::Shown(0),

@@ -30,7 +30,7 @@ pub enum Pressed {
 }
 
 // The state after a key, and its answer.
-pub struct Key {
+pub struct KeyAnswer {
     pub editor: Editor,
     pub history: History,
     pub answer: Pressed,
@@ -54,19 +54,19 @@ pub fn redraw(
     history: History,
     prompt: &[u8],
     screen: &mut [u8],
-) -> Key
+) -> KeyAnswer
     requires { ⌜ (goes .length ≤ limit) × (length (goes .line) ≡ limit) × (length (now prompt) ≤ 128) ⌝ }
     ensures { λ r. ⌜ Shows (redraw (now (prompt .entry)) (content (lineOf goes)) (goes .cursor)) stays past goes history (now (screen .entry)) r (now (screen .exit)) ⌝ }
 {
     let line = goes.line;
     let length = goes.length;
     match clear_line_and_redraw(prompt, shown_part(&line[..length]), goes.cursor, screen) {
-        Redrawn::Shown(n) => Key {
+        Redrawn::Shown(n) => KeyAnswer {
             editor: goes,
             history,
             answer: Pressed::Shown(n),
         },
-        Redrawn::NoRoom(n) => Key {
+        Redrawn::NoRoom(n) => KeyAnswer {
             editor: stays,
             history: past,
             answer: Pressed::NoRoom(n),
@@ -75,11 +75,17 @@ pub fn redraw(
 }
 
 // Shows the cursor's move by one, ESC `[` and a final byte.
-pub fn show_arrow(stays: Editor, goes: Editor, history: History, byte: u8, screen: &mut [u8]) -> Key
+pub fn show_arrow(
+    stays: Editor,
+    goes: Editor,
+    history: History,
+    byte: u8,
+    screen: &mut [u8],
+) -> KeyAnswer
     ensures { λ r. ⌜ Shows (arrow byte) stays history goes history (now (screen .entry)) r (now (screen .exit)) ⌝ }
 {
     if screen.len() < 3 {
-        return Key {
+        return KeyAnswer {
             editor: stays,
             history,
             answer: Pressed::NoRoom(3),
@@ -87,7 +93,7 @@ pub fn show_arrow(stays: Editor, goes: Editor, history: History, byte: u8, scree
     }
     let bytes = [0x1B, 0x5B, byte];
     push(&bytes, screen, 0);
-    Key {
+    KeyAnswer {
         editor: goes,
         history,
         answer: Pressed::Shown(3),

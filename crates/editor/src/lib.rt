@@ -5,7 +5,7 @@ mod line;
 mod pressing;
 mod typing;
 
-pub use drawing::Key;
+pub use drawing::KeyAnswer;
 pub use drawing::Pressed;
 pub use line::Editor;
 pub use line::Mode;

@@ -4,7 +4,7 @@ ghost use mathlib.Core.Path.{_≡_};
 ghost use mathlib.Core.Bool.{true};
 ghost use lib.ListN.{length};
 ghost use Rattle.editor.specs.Line.{limit, holding, lineOf, freshEditor, goodLine, inserted, erased};
-use buffer::most;
+use buffer::greatest_byte;
 
 // What the keys before this one began.
 pub enum Mode {
@@ -70,7 +70,7 @@ impl Editor {
             return false;
         }
         let line = self.line;
-        most(&line[length..]) == 0
+        greatest_byte(&line[length..]) == 0
     }
 
     // A byte typed at the cursor: what stood there and behind it moves on by one.

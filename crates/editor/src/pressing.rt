@@ -7,7 +7,7 @@ ghost use Rattle.editor.specs.Line.{limit, goodLine};
 ghost use Rattle.editor.specs.Keys.{inMode, escaped, typed, sequenced, turnOf};
 ghost use Rattle.editor.specs.Answer.{stateOf, goodState, goodPrompt, Pressing};
 ghost use Rattle.editor.specs.Steps.{Acts, ActsFor, Does};
-use super::drawing::Key;
+use super::drawing::KeyAnswer;
 use super::drawing::Pressed;
 use super::line::Editor;
 use super::line::Mode;
@@ -37,20 +37,20 @@ impl Editor {
     }
 
     // The byte after ESC: `[` is waited for, and any other byte is swallowed.
-    fn escaped(mut self, history: History, byte: u8, screen: &mut [u8]) -> Key
+    fn escaped(mut self, history: History, byte: u8, screen: &mut [u8]) -> KeyAnswer
         requires { ⌜ goodLine self ≡ true ⌝ }
         ensures { λ r. ⌜ ActsFor (λ slots. escaped (stateOf self history slots) byte) self history (now (screen .entry)) r (now (screen .exit)) ⌝ }
     {
         if byte == 0x5B {
             self = self.in_mode(Mode::Sequence);
-            return Key {
+            return KeyAnswer {
                 editor: self,
                 history,
                 answer: Pressed::Shown(0),
             };
         }
         self = self.in_mode(Mode::Typing);
-        Key {
+        KeyAnswer {
             editor: self,
             history,
             answer: Pressed::Shown(0),
@@ -66,7 +66,7 @@ impl Editor {
         byte: u8,
         line: &mut [u8],
         screen: &mut [u8],
-    ) -> Key
+    ) -> KeyAnswer
         requires { ⌜ (goodState self history (now slots) ≡ true) × (self .mode ≡ Mode.Typing) ⌝ }
         requires { ⌜ (length (now prompt) ≤ 128) × (limit ≤ length (now line)) ⌝ }
         ensures { λ r. ⌜ Does self history (typed (now (prompt .entry)) (stateOf self history (now (slots .entry))) byte) (now (slots .entry)) (now (line .entry)) (now (screen .entry)) r (now (slots .exit)) (now (line .exit)) (now (screen .exit)) ⌝ }
@@ -76,13 +76,13 @@ impl Editor {
             0x08 | 0x7F => self.erase_key(history, prompt, screen),
             0x1B => {
                 self = self.in_mode(Mode::Escape);
-                Key {
+                KeyAnswer {
                     editor: self,
                     history,
                     answer: Pressed::Shown(0),
                 }
             }
-            0x00..=0x1F => Key {
+            0x00..=0x1F => KeyAnswer {
                 editor: self,
                 history,
                 answer: Pressed::Shown(0),
@@ -99,7 +99,7 @@ impl Editor {
         prompt: &[u8],
         byte: u8,
         screen: &mut [u8],
-    ) -> Key
+    ) -> KeyAnswer
         requires { ⌜ (goodState self history (now slots) ≡ true) × (length (now prompt) ≤ 128) ⌝ }
         ensures { λ r. ⌜ Acts self history (sequenced (now (prompt .entry)) (inMode (stateOf self history (now (slots .entry))) Mode.Typing) byte) (now (screen .entry)) r (now (screen .exit)) ⌝ }
     {
@@ -110,7 +110,7 @@ impl Editor {
             0x44 => self.left(history, screen),
             _ => {
                 self = self.in_mode(Mode::Typing);
-                Key {
+                KeyAnswer {
                     editor: self,
                     history,
                     answer: Pressed::Shown(0),
@@ -128,7 +128,7 @@ impl Editor {
         byte: u8,
         line: &mut [u8],
         screen: &mut [u8],
-    ) -> Key
+    ) -> KeyAnswer
         requires { ⌜ goodState self history (now slots) ≡ true ⌝ }
         requires { ⌜ (length (now prompt) ≤ 128) × (limit ≤ length (now line)) ⌝ }
         ensures { λ r. ⌜ Does self history (turnOf (now (prompt .entry)) (stateOf self history (now (slots .entry))) byte) (now (slots .entry)) (now (line .entry)) (now (screen .entry)) r (now (slots .exit)) (now (line .exit)) (now (screen .exit)) ⌝ }
@@ -150,25 +150,25 @@ impl Editor {
         byte: u8,
         line: &mut [u8],
         screen: &mut [u8],
-    ) -> Key
+    ) -> KeyAnswer
         ensures { λ r. ⌜ Pressing self history (now (slots .entry)) (now (prompt .entry)) byte (now (line .entry)) (now (screen .entry)) r (now (slots .exit)) (now (line .exit)) (now (screen .exit)) ⌝ }
     {
         if !self.is_good_with(history, slots) {
-            return Key {
+            return KeyAnswer {
                 editor: self,
                 history,
                 answer: Pressed::BadState,
             };
         }
         if !is_good_prompt(prompt) {
-            return Key {
+            return KeyAnswer {
                 editor: self,
                 history,
                 answer: Pressed::BadPrompt(prompt.len()),
             };
         }
         if line.len() < Editor::LIMIT {
-            return Key {
+            return KeyAnswer {
                 editor: self,
                 history,
                 answer: Pressed::NoRoom(Editor::LIMIT),

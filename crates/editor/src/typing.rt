@@ -7,7 +7,7 @@ ghost use Rattle.editor.specs.Line.{limit, goodLine};
 ghost use Rattle.editor.specs.Keys.{enter, erase, insert};
 ghost use Rattle.editor.specs.Answer.{stateOf, goodState};
 ghost use Rattle.editor.specs.Steps.{ActsFor, Does};
-use super::drawing::Key;
+use super::drawing::KeyAnswer;
 use super::drawing::Pressed;
 use super::drawing::redraw;
 use super::drawing::shown_part;
@@ -26,13 +26,13 @@ impl Editor {
         slots: &mut [u8],
         line: &mut [u8],
         screen: &mut [u8],
-    ) -> Key
+    ) -> KeyAnswer
         requires { ⌜ goodState self history (now slots) ≡ true ⌝ }
         requires { ⌜ limit ≤ length (now line) ⌝ }
         ensures { λ r. ⌜ Does self history (enter (stateOf self history (now (slots .entry)))) (now (slots .entry)) (now (line .entry)) (now (screen .entry)) r (now (slots .exit)) (now (line .exit)) (now (screen .exit)) ⌝ }
     {
         if screen.len() == 0 {
-            return Key {
+            return KeyAnswer {
                 editor: self,
                 history,
                 answer: Pressed::NoRoom(1),
@@ -41,7 +41,7 @@ impl Editor {
         push_byte(0x0A, screen, 0);
         let n = self.length;
         if n == 0 {
-            return Key {
+            return KeyAnswer {
                 editor: self,
                 history,
                 answer: Pressed::Entered(0),
@@ -51,7 +51,7 @@ impl Editor {
         let past = offer(history, slots, shown_part(&typed[..n]));
         push(&typed[..n], line, 0);
         self = Editor::fresh();
-        Key {
+        KeyAnswer {
             editor: self,
             history: past,
             answer: Pressed::Entered(n),
@@ -59,12 +59,17 @@ impl Editor {
     }
 
     // The byte before the cursor goes.
-    pub(crate) fn erase_key(mut self, history: History, prompt: &[u8], screen: &mut [u8]) -> Key
+    pub(crate) fn erase_key(
+        mut self,
+        history: History,
+        prompt: &[u8],
+        screen: &mut [u8],
+    ) -> KeyAnswer
         requires { ⌜ (goodLine self ≡ true) × (self .mode ≡ Mode.Typing) × (length (now prompt) ≤ 128) ⌝ }
         ensures { λ r. ⌜ ActsFor (λ slots. erase (now (prompt .entry)) (stateOf self history slots)) self history (now (screen .entry)) r (now (screen .exit)) ⌝ }
     {
         if self.cursor == 0 {
-            return Key {
+            return KeyAnswer {
                 editor: self,
                 history,
                 answer: Pressed::Shown(0),
@@ -82,12 +87,12 @@ impl Editor {
         prompt: &[u8],
         byte: u8,
         screen: &mut [u8],
-    ) -> Key
+    ) -> KeyAnswer
         requires { ⌜ (goodLine self ≡ true) × (self .mode ≡ Mode.Typing) × (length (now prompt) ≤ 128) ⌝ }
         ensures { λ r. ⌜ ActsFor (λ slots. insert (now (prompt .entry)) (stateOf self history slots) byte) self history (now (screen .entry)) r (now (screen .exit)) ⌝ }
     {
         if Editor::LIMIT <= self.length {
-            return Key {
+            return KeyAnswer {
                 editor: self,
                 history,
                 answer: Pressed::Dropped,

@@ -2,7 +2,7 @@
 use Prim.Native.Nat.{ℕ}
 use mathlib.Core.Path.{_≡_, refl}
 use mathlib.Core.List.{List, [], _∷_}
-use Rattle.frame.specs.Text.{number, textOf}
+use Rattle.frame.specs.Text.{numberBytes, textOf}
 use Rattle.frame.specs.Framed.{frameOf}
 use Rattle.frame.specs.Hex.{digitOf, hexOf, digitValue, pairOf, unhex, firstBad}
 use Rattle.frame.specs.House.{LF, houseLine, ended, digitsOf, readDigits, readHouse}
@@ -13,7 +13,7 @@ log : List ℕ
 log = frameOf 0x11 (0x6c ∷ 0x6f ∷ 0x67 ∷ [])
 
 report : log ≡ 0x11 ∷ 0x00 ∷ 0x03 ∷ 0x6c ∷ 0x6f ∷ 0x67 ∷ []
-unfolding log frameOf textOf number
+unfolding log frameOf textOf numberBytes
 report = refl
 
 -- the key line `206c6f670d`, written, read, and refused in upper case

@@ -7,8 +7,8 @@ use native.Mathlib.Omega.{arith}
 use Rattle.buffer.proofs.Lists.{drop-step, drop-end}
 use Rattle.frame.specs.Text.{Bytes, readText}
 use Rattle.frame.specs.Framed.{frameOf, framed, frameFirst}
-use Rattle.frame.specs.declared.text.Text.{Text}
-use Rattle.frame.specs.declared.text.Text.the-variants.{Whole, Broken as NoText}
+use Rattle.frame.specs.declared.prefixed.Text.{Text}
+use Rattle.frame.specs.declared.prefixed.Text.the-variants.{Whole, Broken as NoText}
 use Rattle.frame.specs.declared.framed.Framed.the-variants.{Frame, End}
 use Rattle.frame.proofs.Texts.{length-textOf, text-read, text-found, text-back, read-told}
 

@@ -11,35 +11,35 @@ use lib.Seq.{take-at, drop-at, getD-drop, take-add, length-take-le}
 use borrow.Author.Tests.{le-leb, lt-leb, leb-true}
 use Rattle.buffer.proofs.Lists.{drop-step}
 use Rattle.buffer.proofs.Choices.{then-is, else-is}
-use Rattle.frame.specs.Text.{Bytes, number, numberOf, textOf, readText}
-use Rattle.frame.specs.declared.text.Text.the-variants.{Whole, Broken}
+use Rattle.frame.specs.Text.{Bytes, numberBytes, numberOf, textOf, readText}
+use Rattle.frame.specs.declared.prefixed.Text.the-variants.{Whole, Broken}
 
-pub length-number : (w n : ℕ) → length (number w n) ≡ w
-unfolding number
+pub length-number : (w n : ℕ) → length (numberBytes w n) ≡ w
+unfolding numberBytes
 length-number zero n = refl
 length-number (suc w) n = ap suc (length-number w (n % 256 ^ w))
 
 pub length-textOf : (w : ℕ) (t : List ℕ) → length (textOf w t) ≡ w + length t
 unfolding textOf
-length-textOf w t = length-append (number w (length t)) t ∙ ap (λ (k : ℕ). k + length t) (length-number w (length t))
+length-textOf w t = length-append (numberBytes w (length t)) t ∙ ap (λ (k : ℕ). k + length t) (length-number w (length t))
 
 some : (w : ℕ) → 0 < 256 ^ w
 some w = one-le-pow w 256 (omega arith)
 
 -- a number that fits its bytes is their number
-pub number-value : (w n : ℕ) → n < 256 ^ w → numberOf (number w n) ≡ n
-unfolding number numberOf
+pub number-value : (w n : ℕ) → n < 256 ^ w → numberOf (numberBytes w n) ≡ n
+unfolding numberBytes numberOf
 number-value zero n h = omega arith
 number-value (suc w) n h =
     rw (length-number w (n % 256 ^ w), number-value w (n % 256 ^ w) (mod-lt n (some w))) (div-add-mod' n (256 ^ w))
 
 -- the numbers of one and of two bytes
-pub number-one : (n : ℕ) → number 1 n ≡ n ∷ []
-unfolding number
+pub number-one : (n : ℕ) → numberBytes 1 n ≡ n ∷ []
+unfolding numberBytes
 number-one n = ap (λ (b : ℕ). b ∷ []) (div-one n)
 
-pub number-two : (n : ℕ) → number 2 n ≡ n / 256 ∷ n % 256 ∷ []
-unfolding number
+pub number-two : (n : ℕ) → numberBytes 2 n ≡ n / 256 ∷ n % 256 ∷ []
+unfolding numberBytes
 number-two n = ap (λ (b : ℕ). n / 256 ∷ b ∷ []) (div-one (n % 256))
 
 -- a number's bytes are those it is made of
@@ -52,8 +52,8 @@ value-below [] h = omega arith
 value-below (b ∷ s) h =
     rw (pow-suc 256 (length s)) (below-next b (numberOf s) (256 ^ length s) (h 0) (value-below s (λ i. h (suc i))))
 
-pub value-number : (s : List ℕ) → Bytes s → number (length s) (numberOf s) ≡ s
-unfolding number numberOf Bytes
+pub value-number : (s : List ℕ) → Bytes s → numberBytes (length s) (numberOf s) ≡ s
+unfolding numberBytes numberOf Bytes
 value-number [] h = refl
 value-number (b ∷ s) h =
     let p : ℕ = 256 ^ length s in
@@ -112,14 +112,14 @@ value-two s at h = rw (drop-step s at 0 (omega arith), drop-step s (at + 1) 0 h)
 
 -- what is written is read, whatever stands behind it
 module _ (w : ℕ) (t rest : List ℕ) where
-  apart : textOf w t ++ rest ≡ number w (length t) ++ (t ++ rest)
+  apart : textOf w t ++ rest ≡ numberBytes w (length t) ++ (t ++ rest)
   unfolding textOf
-  apart = append-assoc (number w (length t)) t rest
+  apart = append-assoc (numberBytes w (length t)) t rest
 
   pub text-read : length t < 256 ^ w → readText w (textOf w t ++ rest) ≡ Whole (length t)
   text-read h =
       let e : numberOf (take w (textOf w t ++ rest)) ≡ length t =
-      rw (apart, take-at (number w (length t)) (t ++ rest) w (length-number w (length t))) (number-value w (length t) h)
+      rw (apart, take-at (numberBytes w (length t)) (t ++ rest) w (length-number w (length t))) (number-value w (length t) h)
       in
       let l : length (textOf w t ++ rest) ≡ w + length t + length rest = length-append (textOf w t) rest ∙ ap (λ (k : ℕ). k + length rest) (length-textOf w t) in
       let k : w + length t ≤ length (textOf w t ++ rest) = omega arith in
@@ -127,7 +127,7 @@ module _ (w : ℕ) (t rest : List ℕ) where
 
   pub text-found : take (length t) (drop w (textOf w t ++ rest)) ≡ t
   text-found =
-      rw (apart, drop-at (number w (length t)) (t ++ rest) w (length-number w (length t))) (take-at t rest (length t) refl)
+      rw (apart, drop-at (numberBytes w (length t)) (t ++ rest) w (length-number w (length t))) (take-at t rest (length t) refl)
 
 -- what is read as a text is the writing of it, and what stands behind
 pub text-back : (w : ℕ) (s : List ℕ) (n : ℕ) → Bytes s → readText w s ≡ Whole n → s ≡ textOf w (take n (drop w s)) ++ drop (w + n) s
@@ -136,8 +136,8 @@ text-back w s n h e =
     let told = read-told w s n e in
     let lw : length (take w s) ≡ w = length-take-le w s (let k = told .1 in omega arith) in
     let ln : length (take n (drop w s)) ≡ n = length-take-le n (drop w s) (rw (length-drop w s) (let k = told .1 in omega arith)) in
-    let front : number w n ≡ take w s = rw (lw, told .0) at (value-number (take w s) (bytes-take w s h)) in
-    let both : take w s ++ take n (drop w s) ≡ number w (length (take n (drop w s))) ++ take n (drop w s) = rw (ln, front) refl in
+    let front : numberBytes w n ≡ take w s = rw (lw, told .0) at (value-number (take w s) (bytes-take w s h)) in
+    let both : take w s ++ take n (drop w s) ≡ numberBytes w (length (take n (drop w s))) ++ take n (drop w s) = rw (ln, front) refl in
     sym (take-append-drop (w + n) s) ∙ ap (λ (l : List ℕ). l ++ drop (w + n) s) (take-add w n s ∙ both)
 
 -- a text is the bytes of its length and then its own

@@ -2,8 +2,8 @@
 use Prim.Native.Nat.{ℕ}
 use mathlib.Core.List.{List, [], _∷_}
 use Rattle.frame.specs.Text.{textOf, readText}
-use Rattle.frame.specs.declared.text.Text.{Text}
-use Rattle.frame.specs.declared.text.Text.the-variants.{Whole, Broken as NoText}
+use Rattle.frame.specs.declared.prefixed.Text.{Text}
+use Rattle.frame.specs.declared.prefixed.Text.the-variants.{Whole, Broken as NoText}
 use Rattle.frame.specs.declared.framed.Framed.{Framed}
 use Rattle.frame.specs.declared.framed.Framed.the-variants.{Frame, Broken, End}
 

@@ -4,17 +4,17 @@ use mathlib.Core.Bool.{cond}
 use mathlib.Core.List.{List, [], _∷_, _++_}
 use lib.Dec.{leb}
 use lib.ListN.{length, take, getD}
-use Rattle.frame.specs.declared.text.Text.{Text}
-use Rattle.frame.specs.declared.text.Text.the-variants.{Whole, Broken}
+use Rattle.frame.specs.declared.prefixed.Text.{Text}
+use Rattle.frame.specs.declared.prefixed.Text.the-variants.{Whole, Broken}
 
 -- a list of bytes: each element is below 256
 unfoldable pub Bytes : List ℕ → Type 0
 Bytes s = (i : ℕ) → getD s i 0 < 256
 
 -- n in `width` bytes, the highest first, for an n below 256 ^ width
-unfoldable pub number : ℕ → ℕ → List ℕ
-number zero n = []
-number (suc width) n = n / 256 ^ width ∷ number width (n % 256 ^ width)
+unfoldable pub numberBytes : ℕ → ℕ → List ℕ
+numberBytes zero n = []
+numberBytes (suc width) n = n / 256 ^ width ∷ numberBytes width (n % 256 ^ width)
 
 -- the number that bytes stand for, the highest first
 unfoldable pub numberOf : List ℕ → ℕ
@@ -23,7 +23,7 @@ numberOf (b ∷ s) = b * 256 ^ length s + numberOf s
 
 -- a text behind its length
 unfoldable pub textOf : ℕ → List ℕ → List ℕ
-textOf width t = number width (length t) ++ t
+textOf width t = numberBytes width (length t) ++ t
 
 -- what the first bytes are: a whole text, of the length that its first `width` bytes say, or broken
 unfoldable pub readText : ℕ → List ℕ → Text

@@ -1,8 +1,8 @@
 // Frames of one text, as the report's 11, 13 and 14 and the fault's 1E are: a byte for the kind, then a long text.
-use super::text::Text;
-use super::text::long_text;
-use super::text::long_text_size;
-use super::text::write_long_text;
+use super::prefixed::Text;
+use super::prefixed::long_text;
+use super::prefixed::long_text_size;
+use super::prefixed::write_long_text;
 use buffer::push_byte;
 ghost use mathlib.Core.Path.{_≡_};
 ghost use Prim.Native.Nat.{ℕ, _≤_, _<_, _^_};

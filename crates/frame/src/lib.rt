@@ -2,7 +2,7 @@
 mod framed;
 mod hex;
 mod house;
-mod text;
+mod prefixed;
 
 pub use framed::Framed;
 pub use framed::frame_size;
@@ -13,10 +13,10 @@ pub use house::House;
 pub use house::Lined;
 pub use house::read_line;
 pub use house::write_line;
-pub use text::Text;
-pub use text::long_text;
-pub use text::long_text_size;
-pub use text::short_text;
-pub use text::short_text_size;
-pub use text::write_long_text;
-pub use text::write_short_text;
+pub use prefixed::Text;
+pub use prefixed::long_text;
+pub use prefixed::long_text_size;
+pub use prefixed::short_text;
+pub use prefixed::short_text_size;
+pub use prefixed::write_long_text;
+pub use prefixed::write_short_text;

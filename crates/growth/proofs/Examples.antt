@@ -4,7 +4,7 @@ use mathlib.Core.Path.{_≡_, refl}
 use mathlib.Core.Bool.{true, false}
 use mathlib.Core.List.{List, [], _∷_, _++_}
 use Rattle.buffer.specs.Compare.{order}
-use Rattle.frame.specs.Text.{number, textOf}
+use Rattle.frame.specs.Text.{numberBytes, textOf}
 use Rattle.image.specs.Frames.{node, flag, absent, text, perhaps, encode}
 use Rattle.image.specs.Limits.{allShown, isName, isNote, isShort, definable, fair}
 use Rattle.image.specs.Reading.{span, perhapsIn, nodeLengths, definitionLengths, nodeFirst, flagFirst, headFirst, nodeIn, flagIn, readFirst}
@@ -29,5 +29,5 @@ table :
     × (takes (command 0x61) (long ++ command 0x62) ≡ false)
     × (takes (command 0x61) (0x01 ∷ 0x00 ∷ []) ≡ false)
     × (takes (command 0x61) [] ≡ false)
-unfolding takes oneFrame command long checkTree judge items itemsFrom encode perhaps text textOf number readFirst headFirst nodeFirst flagFirst nodeLengths definitionLengths span nodeIn flagIn perhapsIn fair definable isShort isName isNote allShown obeys follows after rises order
+unfolding takes oneFrame command long checkTree judge items itemsFrom encode perhaps text textOf numberBytes readFirst headFirst nodeFirst flagFirst nodeLengths definitionLengths span nodeIn flagIn perhapsIn fair definable isShort isName isNote allShown obeys follows after rises order
 table = (refl, refl, refl, refl, refl, refl, refl, refl)

@@ -2,7 +2,7 @@
 use mathlib.Core.Path.{_≡_, refl}
 use mathlib.Core.List.{List, [], _∷_}
 use Rattle.buffer.specs.Compare.{sameBytes}
-use Rattle.frame.specs.Text.{number as numberIn, textOf}
+use Rattle.frame.specs.Text.{numberBytes, textOf}
 use Rattle.frame.specs.Framed.{frameOf}
 use Rattle.image.specs.Frames.{Frame, node, flag, absent, present}
 use Rattle.tree.specs.Subtrees.{upTo, onFrom, subtree}
@@ -30,5 +30,5 @@ table :
     × (helpOf frames (ascii "start" ∷ []) ≡ unknown (ascii "start"))
     × (helpOf frames [] ≡ wordless)
     × (bytesOf (unknown (ascii "start")) ≡ 0x1e ∷ 0 ∷ 5 ∷ ascii "start")
-unfolding frames ascii sameBytes numberIn textOf frameOf upTo onFrom subtree blanks padded shortThen shownAs entry flagRow nodeRow rows titled spaced lists about helpText followed helpIn helpOf
+unfolding frames ascii sameBytes numberBytes textOf frameOf upTo onFrom subtree blanks padded shortThen shownAs entry flagRow nodeRow rows titled spaced lists about helpText followed helpIn helpOf
 table = (refl, refl, refl, refl, refl, refl)

@@ -24,8 +24,8 @@ use Rattle.lookup.specs.Nodes.{findNode}
 use Rattle.lookup.specs.Subtrees.{PartHolds}
 use Rattle.lookup.specs.declared.seek.Spot.the-variants.{At as SpotAt, Nothing as NoSpot}
 use Rattle.lookup.specs.declared.look.Sought.the-variants.{Node, Upper}
-use Rattle.lookup.specs.declared.node.Part.{Part}
-use Rattle.lookup.specs.declared.node.Part.the-variants.{Between, Nowhere}
+use Rattle.lookup.specs.declared.node.Subtree.{Subtree}
+use Rattle.lookup.specs.declared.node.Subtree.the-variants.{Between, Nowhere}
 use Rattle.lookup.proofs.Subtrees.{find-holds}
 use Rattle.layout.proofs.Words.{NextTold, next-told, next-nothing, words-none}
 use Rattle.help.specs.Paths.{found, lost, onSubtree, followed, between, FoundAt, LostAt}
@@ -146,7 +146,7 @@ module _ (image line : List ℕ) where
         pub in-rest : place + stop ≤ length line
         in-rest = let f = told .fits in let l = ap length lent ∙ length-drop place line in let h = way .in-line in omega arith
 
-        module _ (sub word : List ℕ) (a : sub ≡ between image begin end) (b : word ≡ between s «from» stop) (p : Part) (c : p ≡ findNode sub depth word) where
+        module _ (sub word : List ℕ) (a : sub ≡ between image begin end) (b : word ≡ between s «from» stop) (p : Subtree) (c : p ≡ findNode sub depth word) where
           is-found : p ≡ findNode (flat (way .frames)) depth word
           is-found = c ∙ rw (a ∙ way .holds)
 

@@ -1,9 +1,9 @@
 // The call: help for the words of a line, or the first refusal in the order of the standard.
 use super::path::Followed;
 use super::path::follow;
+use buffer::part;
 use frame::frame_size;
 use frame::write_frame;
-use image::part;
 use ink::Shown;
 use layout::show_help;
 use text::Word;

@@ -1,7 +1,7 @@
 // Following words through a tree: the first names a node of depth 0, each further one a child of the node before.
-use image::part;
-use image::rest;
-use lookup::Part;
+use buffer::part;
+use buffer::rest;
+use lookup::Subtree;
 use lookup::find_node;
 use text::Word;
 use text::next_word;
@@ -38,7 +38,7 @@ pub fn follow(image: &[u8], line: &[u8]) -> Followed
         };
         let subtree = part(image, start, end - start);
         let word = part(s, from, stop - from);
-        let Part::Between {
+        let Subtree::Between {
             start: first,
             end: last,
         } = find_node(subtree, depth, word)

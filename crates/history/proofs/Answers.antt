@@ -7,10 +7,10 @@ use lib.ListN.{length}
 use borrow.Author.Tests.{lt-ltb, le-ltb, eq-eqb, ne-eqb}
 use Rattle.buffer.proofs.Choices.{then-is, else-is}
 use Rattle.text.specs.Decoding.{wellFormedLength}
-use Rattle.history.specs.Entries.{wellFormed}
+use Rattle.text.specs.Decoding.{wellFormed}
 use Rattle.history.specs.Slots.{good}
 use Rattle.history.specs.Answer.{addAnswer, historyBy, slotsBy, entriesAfter, Addition}
-use Rattle.history.specs.declared.past.History.{History}
+use Rattle.history.specs.declared.stepping.History.{History}
 use Rattle.history.specs.declared.adding.Added.{Added}
 use Rattle.history.specs.declared.adding.Added.the-variants.{Done, BadState, TooLong, IllFormed}
 

@@ -10,23 +10,18 @@ use lib.Seq.{take-add, drop-drop, getD-drop, length-take-le}
 use borrow.Author.Tests.{eq-eqb, ne-eqb, lt-ltb, le-ltb, le-leb}
 use Rattle.buffer.proofs.Choices.{then-is, else-is, true-is-not-false}
 use Rattle.buffer.proofs.Lists.{drop-step}
+use Rattle.buffer.proofs.Zeros.{zero-bytes}
 use Rattle.buffer.proofs.Lending.{rest-lent}
 use Rattle.buffer.proofs.Ordering.{same-append, same-behind, same-as, same-is}
 use Rattle.buffer.specs.Compare.{sameBytes}
-use Rattle.buffer.specs.Most.{greatest}
+use Rattle.buffer.specs.Greatest.{greatest}
 use Rattle.text.proofs.Pieces.{pieces-none}
 use Rattle.text.specs.Apart.{blank, allWhite}
 use Rattle.history.specs.Entries.{mostEntries, usable, sound}
-use Rattle.history.specs.Slots.{zeros, slot, run, layout, entry, entriesOf, good}
+use Rattle.buffer.specs.Lend.{zeros}
+use Rattle.history.specs.Slots.{slot, run, layout, entry, entriesOf, good}
 use Rattle.history.specs.Steps.{unused, goodSlot, slotBefore, judged}
 use Rattle.history.proofs.Layouts.{length-slot, length-entries, entry-slot}
-
--- all zero
-pub zero-bytes : (t : List ℕ) → sameBytes (zeros (length t)) t ≡ eqb (greatest t) 0
-unfolding zeros sameBytes greatest
-zero-bytes [] = refl
-zero-bytes (zero ∷ t) = zero-bytes t ∙ let e : greatest t ≡ max 0 (greatest t) = omega arith in ap (λ (n : ℕ). eqb n 0) e
-zero-bytes (suc x ∷ t) = else-is _ _ _ (ne-eqb 0 (suc x) (λ e. omega arith)) ∙ sym (ne-eqb (max (suc x) (greatest t)) 0 (λ e. omega arith))
 
 -- every element is a byte
 abbrev pub Bytes : List ℕ → Type 0

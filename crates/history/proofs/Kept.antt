@@ -11,12 +11,13 @@ use Rattle.buffer.proofs.Choices.{then-is, else-is, true-is-not-false}
 use Rattle.buffer.proofs.Ordering.{is-same}
 use Rattle.buffer.specs.Compare.{sameBytes}
 use Rattle.text.specs.Apart.{blank}
-use Rattle.history.specs.Entries.{mostEntries, newestIs, isNew, withRoom, added, wellFormed, usable, sound}
+use Rattle.text.specs.Decoding.{wellFormed}
+use Rattle.history.specs.Entries.{mostEntries, newestIs, isNew, withRoom, added, usable, sound}
 use Rattle.history.specs.Slots.{layout, entriesOf, good}
 use Rattle.history.specs.Steps.{back, recalledAt, onward}
-use Rattle.history.specs.declared.past.History.{History}
-use Rattle.history.specs.declared.past.Recalled.the-variants.{Entry, Nothing}
-use Rattle.history.specs.declared.past.Step.{Step}
+use Rattle.history.specs.declared.stepping.History.{History}
+use Rattle.history.specs.declared.stepping.Recalled.the-variants.{Entry, Nothing}
+use Rattle.history.specs.declared.stepping.Step.{Step}
 use Rattle.history.proofs.Layouts.{Short, none, more, length-layout, entries-layout}
 use Rattle.history.proofs.Judging.{usable-some}
 use Rattle.history.proofs.States.{holds, Good, good-has}

@@ -8,7 +8,7 @@ use lib.ListN.{length}
 use Rattle.history.specs.Entries.{sound}
 use Rattle.history.specs.Slots.{good}
 use Rattle.history.specs.Answer.{Emptied, entriesAfter, Offered, addAnswer, historyBy, slotsBy, Addition}
-use Rattle.history.specs.declared.past.History.{History}
+use Rattle.history.specs.declared.stepping.History.{History}
 use Rattle.history.specs.declared.adding.Added.{Added}
 use Rattle.history.specs.declared.adding.Added.the-variants.{Done, BadState, TooLong, IllFormed}
 use Rattle.history.proofs.Layouts.{none}

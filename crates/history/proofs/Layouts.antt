@@ -6,20 +6,12 @@ use native.Mathlib.Omega.{arith}
 use lib.ListN.{length, take, drop, set, getD, replicate, length-append, length-replicate, replicate-append-replicate, length-drop}
 use lib.Seq.{take-at, drop-at, take-append-seam, length-take-le, getD-append-add, getD-drop}
 use Rattle.buffer.proofs.Lists.{drop-end}
+use Rattle.buffer.proofs.Zeros.{length-zeros, drop-zeros}
 use Rattle.buffer.proofs.Lending.{copy-step, copy-end, length-overAt, overAt-front, overAt-nothing, overAt-byte, overAt-both}
 use Rattle.buffer.proofs.Writing.{pushed-both}
 use Rattle.buffer.specs.Write.{over, overAt, Pushed}
-use Rattle.history.specs.Slots.{zeros, slot, run, layout, entry, entriesOf}
-
-pub length-zeros : (n : ℕ) → length (zeros n) ≡ n
-unfolding zeros
-length-zeros n = length-replicate {A = ℕ} n 0
-
-pub drop-zeros : (k n : ℕ) → drop k (zeros n) ≡ zeros (n - k)
-unfolding zeros
-drop-zeros zero n = let e : n ≡ n - 0 = omega arith in ap (λ (j : ℕ). replicate j 0) e
-drop-zeros (suc k) zero = let e : 0 ≡ 0 - suc k = omega arith in ap (λ (j : ℕ). replicate j 0) e
-drop-zeros (suc k) (suc n) = let e : n - k ≡ suc n - suc k = omega arith in drop-zeros k n ∙ ap (λ (j : ℕ). replicate j 0) e
+use Rattle.buffer.specs.Lend.{zeros}
+use Rattle.history.specs.Slots.{slot, run, layout, entry, entriesOf}
 
 -- a slot has 256 bytes, if its text has at most 255
 pub length-slot : (e : List ℕ) → length e ≤ 255 → length (slot e) ≡ 256

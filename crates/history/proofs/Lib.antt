@@ -1,7 +1,7 @@
 -- The laws of the crate `history` that belong to no one function.
 pub mod Layouts
 pub mod Judging
-pub mod Stepping
+pub mod Steps
 pub mod Newest
 pub mod States
 pub mod Answers

@@ -14,7 +14,7 @@ use Rattle.buffer.proofs.Ordering.{same-is}
 use Rattle.history.specs.Entries.{mostEntries, isNew, withRoom, added, sound}
 use Rattle.history.specs.Slots.{slot, layout, entry, entriesOf, entryAt, good}
 use Rattle.history.specs.Answer.{atEnd, entriesIn, entriesAfter, Offered}
-use Rattle.history.specs.declared.past.History.{History}
+use Rattle.history.specs.declared.stepping.History.{History}
 use Rattle.history.proofs.Layouts.{Short, none, more, layout-short, layout-more, layout-full, length-entries}
 
 -- a chain of tests of which all hold

@@ -6,9 +6,10 @@ use mathlib.Core.List.{List, []}
 use lib.Dec.{ltb}
 use lib.ListN.{length}
 use Rattle.text.specs.Decoding.{wellFormedLength}
-use Rattle.history.specs.Entries.{added, wellFormed}
+use Rattle.text.specs.Decoding.{wellFormed}
+use Rattle.history.specs.Entries.{added}
 use Rattle.history.specs.Slots.{entriesOf, layout, good}
-use Rattle.history.specs.declared.past.History.{History}
+use Rattle.history.specs.declared.stepping.History.{History}
 use Rattle.history.specs.declared.adding.Added.{Added}
 use Rattle.history.specs.declared.adding.Added.the-variants.{Done, BadState, TooLong, IllFormed}
 

@@ -5,7 +5,7 @@ use mathlib.Core.List.{List, [], _∷_, _++_}
 use lib.Dec.{ltb, eqb}
 use lib.ListN.{length, drop}
 use Rattle.buffer.specs.Compare.{sameBytes}
-use Rattle.text.specs.Decoding.{wellFormedLength}
+use Rattle.text.specs.Decoding.{wellFormed}
 use Rattle.text.specs.Apart.{blank}
 
 -- how many entries a history has at most
@@ -29,10 +29,6 @@ withRoom es = cond (ltb (length es) mostEntries) es (drop 1 es)
 -- the entries after a text was offered; the place is then their count
 unfoldable pub added : List ℕ → List (List ℕ) → List (List ℕ)
 added text es = cond (isNew text es) (withRoom es ++ (text ∷ [])) es
-
--- a well-formed text: its longest well-formed prefix is all of it
-unfoldable pub wellFormed : List ℕ → Bool
-wellFormed text = eqb (wellFormedLength text) (length text)
 
 -- a text that a history may hold: well-formed and not blank
 unfoldable pub usable : List ℕ → Bool

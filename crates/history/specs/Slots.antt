@@ -5,10 +5,8 @@ use mathlib.Core.List.{List, [], _∷_, _++_}
 use lib.Dec.{ltb, leb, eqb}
 use lib.ListN.{length, take, drop, getD, replicate}
 use Rattle.buffer.specs.Compare.{sameBytes}
+use Rattle.buffer.specs.Lend.{zeros}
 use Rattle.history.specs.Entries.{mostEntries, sound}
-
-unfoldable pub zeros : ℕ → List ℕ
-zeros n = replicate n 0
 
 -- one entry in its slot
 unfoldable pub slot : List ℕ → List ℕ

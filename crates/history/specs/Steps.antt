@@ -5,13 +5,13 @@ use mathlib.Core.List.{List, []}
 use lib.Dec.{ltb, eqb}
 use lib.ListN.{take, drop, getD}
 use Rattle.buffer.specs.Compare.{sameBytes}
-use Rattle.buffer.specs.Most.{greatest}
+use Rattle.buffer.specs.Greatest.{greatest}
 use Rattle.history.specs.Entries.{usable}
 use Rattle.history.specs.Slots.{entry}
-use Rattle.history.specs.declared.past.History.{History}
-use Rattle.history.specs.declared.past.Recalled.{Recalled}
-use Rattle.history.specs.declared.past.Recalled.the-variants.{Entry, Nothing}
-use Rattle.history.specs.declared.past.Step.{Step}
+use Rattle.history.specs.declared.stepping.History.{History}
+use Rattle.history.specs.declared.stepping.Recalled.{Recalled}
+use Rattle.history.specs.declared.stepping.Recalled.the-variants.{Entry, Nothing}
+use Rattle.history.specs.declared.stepping.Step.{Step}
 
 -- Up: at place 0 nothing; otherwise the place steps back, and the entry there is recalled
 unfoldable pub back : History → Step

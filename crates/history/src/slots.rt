@@ -3,7 +3,8 @@ ghost use Prim.Native.Nat.{_+_, _-_, _≤_};
 ghost use mathlib.Core.Path.{_≡_};
 ghost use lib.ListN.{length, drop, getD};
 ghost use Rattle.buffer.specs.Write.{over, overAt};
-ghost use Rattle.history.specs.Slots.{zeros, slot, entryAt};
+ghost use Rattle.buffer.specs.Lend.{zeros};
+ghost use Rattle.history.specs.Slots.{slot, entryAt};
 use buffer::push;
 use buffer::push_byte;
 

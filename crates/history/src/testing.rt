@@ -7,9 +7,9 @@ ghost use Rattle.buffer.specs.Compare.{sameBytes};
 ghost use Rattle.history.specs.Entries.{usable};
 ghost use Rattle.history.specs.Slots.{good};
 ghost use Rattle.history.specs.Steps.{goodSlot, slotBefore, judged};
-use super::past::History;
 use super::slots::wide;
-use buffer::most;
+use super::stepping::History;
+use buffer::greatest_byte;
 use buffer::same_throughout;
 use text::is_blank;
 use text::well_formed_prefix;
@@ -21,7 +21,7 @@ fn is_usable(text: &[u8]) -> bool
     if is_blank(text) {
         return false;
     }
-    if most(text) < 0x80 {
+    if greatest_byte(text) < 0x80 {
         return true;
     }
     well_formed_prefix(text) == text.len()
@@ -38,7 +38,7 @@ fn is_good_slot(slots: &[u8], at: usize) -> bool
     if !is_usable(&slots[start..end]) {
         return false;
     }
-    most(&slots[end..next]) == 0
+    greatest_byte(&slots[end..next]) == 0
 }
 
 // Whether the slot at a place is the same as the one before it.
@@ -71,7 +71,7 @@ fn are_good(slots: &[u8], count: usize) -> bool
         k += 1;
         at += 256;
     }
-    most(&slots[at..]) == 0
+    greatest_byte(&slots[at..]) == 0
 }
 
 // Whether a state is good.

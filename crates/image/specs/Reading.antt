@@ -90,11 +90,6 @@ strictly s End = End
 unfoldable pub frameFirst : List ℕ → Head
 frameFirst s = strictly s (headFirst s)
 
--- a byte that was read, 0 past the end
-pub record ByteAt (s : List ℕ) (at r : ℕ) : Type 0 where
-  pub byte : r ≡ getD s at 0
-  pub small : r < 256
-
 -- lengths that are bytes
 pub record Small (texts : Lengths) : Type 0 where
   pub name : texts .name < 256

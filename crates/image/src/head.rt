@@ -1,6 +1,6 @@
 // The head of a frame: its kind, its numbers and the lengths of its texts. What the texts hold is not looked at.
-use super::lend::byte_at;
-use super::lend::rest;
+use buffer::byte_at;
+use buffer::rest;
 ghost use mathlib.Core.Path.{_≡_};
 ghost use Prim.Native.Nat.{_≤_};
 ghost use lib.ListN.{drop};

@@ -1,10 +1,10 @@
 // The Rust's `show_help` and `show_available_commands`: each text is measured, then written if there is room.
 use super::word::put_words;
+use buffer::part;
+use buffer::rest;
 use image::Head;
 use image::Lengths;
 use image::head_of;
-use image::part;
-use image::rest;
 use ink::Shown;
 use ink::put;
 use rows::Listing;

@@ -1,6 +1,6 @@
 // The words of a line, one behind the other.
-use image::part;
-use image::rest;
+use buffer::part;
+use buffer::rest;
 use ink::put;
 use text::Word;
 use text::next_word;

@@ -20,7 +20,7 @@ use Rattle.lookup.specs.Nodes.{orEnd, endAfter, endBy, subtreeEnd, partA
 use Rattle.lookup.specs.declared.seek.Spot.{Spot}
 use Rattle.lookup.specs.declared.seek.Spot.the-variants.{At, Nothing}
 use Rattle.lookup.specs.declared.look.Sought.the-variants.{Node, Upper}
-use Rattle.lookup.specs.declared.node.Part.the-variants.{Between}
+use Rattle.lookup.specs.declared.node.Subtree.the-variants.{Between}
 
 -- the frame at a place of bytes is one that was wanted
 pub record FrameAt (want : Frame → Bool) (s : List ℕ) (k : ℕ) : Type 0 where

@@ -18,7 +18,7 @@ use Rattle.lookup.specs.Nodes.{orEnd, subtreeEnd, findNode}
 use Rattle.lookup.specs.declared.seek.Spot.{Spot}
 use Rattle.lookup.specs.declared.seek.Spot.the-variants.{At, Nothing}
 use Rattle.lookup.specs.declared.look.Sought.the-variants.{Node, Upper}
-use Rattle.lookup.specs.declared.node.Part.the-variants.{Between, Nowhere}
+use Rattle.lookup.specs.declared.node.Subtree.the-variants.{Between, Nowhere}
 
 module _ (image : List ℕ) (start depth : ℕ) where
   pub end-none : (head : Head) → head ≡ headFirst (drop start image) → OneOf (1 ∷ 2 ∷ 3 ∷ 4 ∷ []) (tagOf the-type head) → length image ≡ subtreeEnd image start depth

@@ -9,8 +9,8 @@ use Rattle.lookup.specs.Searches.{wanted, endedBy}
 use Rattle.lookup.specs.declared.seek.Spot.{Spot}
 use Rattle.lookup.specs.declared.seek.Spot.the-variants.{At, Nothing}
 use Rattle.lookup.specs.declared.look.Sought.the-variants.{Node, Upper}
-use Rattle.lookup.specs.declared.node.Part.{Part}
-use Rattle.lookup.specs.declared.node.Part.the-variants.{Between, Nowhere}
+use Rattle.lookup.specs.declared.node.Subtree.{Subtree}
+use Rattle.lookup.specs.declared.node.Subtree.the-variants.{Between, Nowhere}
 
 -- a spot, or the end if there is none
 abbrev pub orEnd : List ℕ → Spot → ℕ
@@ -32,10 +32,10 @@ endBy image start depth ended = length image
 unfoldable pub subtreeEnd : List ℕ → ℕ → ℕ → ℕ
 subtreeEnd image start depth = endBy image start depth (readFirst (drop start image))
 
-abbrev pub partAt : List ℕ → ℕ → Spot → Part
+abbrev pub partAt : List ℕ → ℕ → Spot → Subtree
 partAt image depth (At start) = Between start (subtreeEnd image start depth)
 partAt image depth Nothing = Nowhere
 
 -- the subtree of the first node of that depth and name
-unfoldable pub findNode : List ℕ → ℕ → List ℕ → Part
+unfoldable pub findNode : List ℕ → ℕ → List ℕ → Subtree
 findNode image depth name = partAt image depth (spot (wanted (Node depth) name) (endedBy (Node depth)) image 0)

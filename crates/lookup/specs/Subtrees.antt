@@ -8,8 +8,8 @@ use Rattle.buffer.specs.Compare.{sameBytes}
 use Rattle.image.specs.Frames.{Frame}
 use Rattle.tree.specs.Images.{flat}
 use Rattle.tree.specs.Forest.{Forest, bare, grown}
-use Rattle.lookup.specs.declared.node.Part.{Part}
-use Rattle.lookup.specs.declared.node.Part.the-variants.{Between, Nowhere}
+use Rattle.lookup.specs.declared.node.Subtree.{Subtree}
+use Rattle.lookup.specs.declared.node.Subtree.the-variants.{Between, Nowhere}
 
 -- the first tree of that name among siblings, alone
 unfoldable pub treeNamed : List ℕ → Forest → Forest
@@ -18,6 +18,6 @@ treeNamed name (grown h n description usage definitions below after) =
     cond (sameBytes n name) (grown h n description usage definitions below bare) (treeNamed name after)
 
 -- a part of an image that holds these frames and nothing else
-abbrev pub PartHolds : List ℕ → List Frame → Part → Type 0
+abbrev pub PartHolds : List ℕ → List Frame → Subtree → Type 0
 PartHolds image frames Nowhere = frames ≡ []
 PartHolds image frames (Between start end) = (start ≤ end) × (end ≤ length image) × (take (end - start) (drop start image) ≡ flat frames)

@@ -10,6 +10,6 @@ pub use definition::definition_of;
 pub use definition::next_flag;
 pub use definition::next_option;
 pub use definition::option_of;
-pub use node::Part;
+pub use node::Subtree;
 pub use node::find_node;
 pub use seek::Spot;

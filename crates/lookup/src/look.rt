@@ -1,9 +1,9 @@
 // One frame of a search: whether it is what is sought, to be passed, or the end of the search.
+use buffer::part;
 use buffer::same;
 use image::Head;
 use image::Lengths;
 use image::head_of;
-use image::part;
 ghost use mathlib.Core.Path.{_≡_};
 ghost use Prim.Native.Nat.{ℕ, _≤_};
 ghost use mathlib.Core.List.{List};

@@ -2,14 +2,14 @@
 use super::look::Sought;
 use super::seek::Spot;
 use super::seek::seek;
+use buffer::part;
 use image::Head;
 use image::head_at;
-use image::part;
 ghost use mathlib.Core.Path.{_≡_};
 ghost use Rattle.lookup.specs.Nodes.{subtreeEnd, findNode};
 
 // A part of an image, from a node to the end of its subtree, or that there is none.
-pub enum Part {
+pub enum Subtree {
     Between { start: usize, end: usize },
     Nowhere,
 }
@@ -34,13 +34,13 @@ fn subtree_end(image: &[u8], start: usize, depth: usize) -> usize
 }
 
 // The subtree of the first node of that depth and name: in an image a command, in a part a child of its node.
-pub fn find_node(image: &[u8], depth: usize, name: &[u8]) -> Part
+pub fn find_node(image: &[u8], depth: usize, name: &[u8]) -> Subtree
     ensures { λ r. ⌜ r ≡ findNode (now (image .entry)) depth (now (name .entry)) ⌝ }
 {
     let Spot::At(start) = seek(image, 0, Sought::Node { depth }, name) else {
-        return Part::Nowhere;
+        return Subtree::Nowhere;
     };
-    Part::Between {
+    Subtree::Between {
         start,
         end: subtree_end(image, start, depth),
     }

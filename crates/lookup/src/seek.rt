@@ -2,7 +2,7 @@
 use super::look::Look;
 use super::look::Sought;
 use super::look::look_first;
-use image::rest;
+use buffer::rest;
 ghost use mathlib.Core.Path.{_≡_};
 ghost use Rattle.lookup.specs.Searches.{wanted, endedBy};
 ghost use Rattle.lookup.specs.Spots.{spot};

@@ -10,11 +10,11 @@ use Rattle.ink.specs.Ascii.{ascii}
 use Rattle.ink.proofs.Inking.{cond-most}
 use Rattle.message.specs.Messages.{before, behind, message, illFormed, goodbye, clearScreen}
 use Rattle.message.specs.Debug.{hexDigits, codeText, debugByte, debugBytes, unknownHelp}
-use Rattle.message.specs.declared.told.Told.{Told}
-use Rattle.message.specs.declared.told.Told.the-variants.{UnknownCommand, UnknownOption, MissingValue, MissingRequired, NoHandler}
+use Rattle.message.specs.declared.error.ParseError.{ParseError}
+use Rattle.message.specs.declared.error.ParseError.the-variants.{UnknownCommand, UnknownOption, MissingValue, MissingRequired, NoHandler}
 
 -- what stands around the text that a message names
-around : (told : Told) → length (before told) + length (behind told) ≤ 70
+around : (told : ParseError) → length (before told) + length (behind told) ≤ 70
 unfolding ascii
 around UnknownCommand = omega arith
 around UnknownOption = omega arith
@@ -22,7 +22,7 @@ around MissingValue = omega arith
 around MissingRequired = omega arith
 around NoHandler = omega arith
 
-pub message-most : (told : Told) (text : List ℕ) → length (message told text) ≤ 70 + length text
+pub message-most : (told : ParseError) (text : List ℕ) → length (message told text) ≤ 70 + length text
 unfolding message
 message-most told text =
     let a = length-append (before told ++ text) (behind told) in

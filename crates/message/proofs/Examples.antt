@@ -5,7 +5,7 @@ use Rattle.frame.specs.Hex.{digitOf}
 use Rattle.ink.specs.Ascii.{ascii}
 use Rattle.message.specs.Messages.{message}
 use Rattle.message.specs.Debug.{hexDigits, codeText, debugByte, debugBytes, unknownHelp}
-use Rattle.message.specs.declared.told.Told.the-variants.{UnknownCommand, MissingValue, NoHandler}
+use Rattle.message.specs.declared.error.ParseError.the-variants.{UnknownCommand, MissingValue, NoHandler}
 
 messages :
     (message UnknownCommand (ascii "foo") ≡ ascii "Error: Unknown command 'foo'\nType 'help' to see available commands\n")

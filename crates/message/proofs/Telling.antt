@@ -5,16 +5,16 @@ use native.Mathlib.Omega.{arith}
 use lib.ListN.{length}
 use Rattle.ink.specs.Ascii.{ascii}
 use Rattle.message.specs.Messages.{before, behind}
-use Rattle.message.specs.declared.told.Told.{Told}
-use Rattle.message.specs.declared.told.Told.the-variants.{UnknownCommand, UnknownOption, MissingValue, MissingRequired, NoHandler}
+use Rattle.message.specs.declared.error.ParseError.{ParseError}
+use Rattle.message.specs.declared.error.ParseError.the-variants.{UnknownCommand, UnknownOption, MissingValue, MissingRequired, NoHandler}
 
-pub before-is : (told known : Told) → told ≡ known → before known ≡ before told
+pub before-is : (told known : ParseError) → told ≡ known → before known ≡ before told
 before-is told known e = rw e
 
-pub behind-is : (told known : Told) → told ≡ known → behind known ≡ behind told
+pub behind-is : (told known : ParseError) → told ≡ known → behind known ≡ behind told
 behind-is told known e = rw e
 
-pub before-most : (told : Told) → length (before told) ≤ 40
+pub before-most : (told : ParseError) → length (before told) ≤ 40
 unfolding ascii
 before-most UnknownCommand = omega arith
 before-most UnknownOption = omega arith

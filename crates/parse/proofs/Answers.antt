@@ -16,8 +16,8 @@ use Rattle.tree.specs.declared.check.Checked.{Checked}
 use Rattle.tree.specs.declared.check.Checked.the-variants.{Good}
 use Rattle.tree.specs.Subtrees.{subtree}
 use Rattle.tree.specs.Commands.{Reached, onSubtree, descend}
-use Rattle.scan.specs.Meanings.{definitionsOf}
-use Rattle.scan.specs.Arguments.{Found, noneFound, args, Stand, go, wait, unknownOption, missingValue}
+use Rattle.arguments.specs.Meanings.{definitionsOf}
+use Rattle.arguments.specs.Arguments.{Found, noneFound, args, Stand, go, wait, unknownOption, missingValue}
 use Rattle.parse.specs.Commands.{missingRequired, Outcome, parsed, fault, onMissing, outcomeOf, concluded, parseIn, parseWords, parseLine}
 use Rattle.parse.specs.Answer.{outcomeAnswer, outcomeLeaves, onChecked, parseAnswer, parseLeaves, Parsing}
 use Rattle.parse.specs.declared.answer.Parsed.{Parsed}

@@ -21,16 +21,16 @@ use Rattle.frame.proofs.Texts.{length-textOf}
 use Rattle.frame.proofs.Frames.{length-frameOf}
 use Rattle.table.specs.Map.{Map, onOrder, put}
 use Rattle.report.specs.Report.{optionFrame, flagFrame, reportOf}
-use Rattle.words.specs.Tokens.{framesOf as wordFrames}
+use Rattle.words.specs.Tokens.{wordFrames}
 use Rattle.image.specs.Frames.{Frame, node, option, flag}
 use Rattle.tree.specs.Subtrees.{subtree}
 use Rattle.tree.specs.Commands.{Reached, onSubtree, descend}
 use Rattle.lookup.specs.Searches.{isNode}
 use Rattle.lookup.specs.Definitions.{hasKey, hasShort, flagWith, optionWith}
 use Rattle.lookup.proofs.Few.{node-short, option-short, flag-short, Few, few-up, few-subtree}
-use Rattle.scan.specs.Meanings.{definitionsOf, firstName, Means, aFlag, anOption, nothing, flagElse, meaning, onMeans, isOption}
-use Rattle.scan.specs.Forms.{Form, valued, long, shorts, positional, beforeEquals, longForm, formOf, dash}
-use Rattle.scan.specs.Arguments.{Found, noneFound, Stand, go, wait, unknownOption, missingValue, withOption, withFlag, withPositional, shortStep, shortSteps, formStep, wordStep, args}
+use Rattle.arguments.specs.Meanings.{definitionsOf, firstName, Means, aFlag, anOption, nothing, flagElse, meaning, onMeans, isOption}
+use Rattle.arguments.specs.Forms.{Form, valued, long, shorts, positional, beforeEquals, longForm, formOf, dash}
+use Rattle.arguments.specs.Arguments.{Found, noneFound, Stand, go, wait, unknownOption, missingValue, withOption, withFlag, withPositional, shortStep, shortSteps, formStep, wordStep, args}
 use Rattle.parse.specs.Commands.{isMissing, missingRequired, Outcome, parsed, fault, onMissing, outcomeOf, concluded, parseIn}
 use Rattle.parse.specs.Answer.{toldIn}
 use Rattle.parse.proofs.Answers.{descent-keeps}

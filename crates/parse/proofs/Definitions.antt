@@ -24,7 +24,7 @@ use Rattle.tree.proofs.Items.{items-broken, items-none, frames-read, frames-end
 use Rattle.tree.specs.Subtrees.{upTo}
 use Rattle.tree.specs.Commands.{NodeFirst}
 use Rattle.lookup.specs.Searches.{isNode}
-use Rattle.scan.specs.Meanings.{definitionsOf, definitionsAt}
+use Rattle.arguments.specs.Meanings.{definitionsOf, definitionsAt}
 use Rattle.parse.specs.Commands.{lacking, isMissing, missingRequired}
 
 -- the frames of bytes, by what they begin with

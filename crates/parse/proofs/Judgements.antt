@@ -33,14 +33,14 @@ use Rattle.tree.specs.declared.command.Found.{Found as Command}
 use Rattle.lookup.specs.Searches.{isNode}
 use Rattle.lookup.specs.Subtrees.{treeNamed}
 use Rattle.lookup.proofs.Lookups.{subtree-named, child-named, named-orderly}
-use Rattle.scan.specs.Meanings.{definitionsOf, definitionsAt}
-use Rattle.scan.specs.Arguments.{Found, noneFound, Stand, go, args}
-use Rattle.scan.specs.Held.{stored, foundOf, standBy, standOf, Scanned}
-use Rattle.scan.specs.declared.standing.Progress.{Progress}
-use Rattle.scan.specs.declared.standing.Progress.the-variants.{Going}
-use Rattle.scan.specs.declared.standing.Scan.{Scan}
-use Rattle.scan.proofs.Steps.{stand-by}
-use Rattle.scan.proofs.Room.{options-few, flags-few, args-same}
+use Rattle.arguments.specs.Meanings.{definitionsOf, definitionsAt}
+use Rattle.arguments.specs.Arguments.{Found, noneFound, Stand, go, args}
+use Rattle.arguments.specs.Held.{stored, foundOf, standBy, standOf, Scanned}
+use Rattle.arguments.specs.declared.standing.Progress.{Progress}
+use Rattle.arguments.specs.declared.standing.Progress.the-variants.{Going}
+use Rattle.arguments.specs.declared.standing.Scan.{Scan}
+use Rattle.arguments.proofs.Steps.{stand-by}
+use Rattle.arguments.proofs.Room.{options-few, flags-few, args-same}
 use Rattle.parse.specs.Commands.{missingRequired, Outcome, parsed, fault, onMissing, outcomeOf, concluded, parseIn, parseWords, emptyCommand}
 use Rattle.parse.specs.Held.{outcomeBy, outcomeIn, numberOf, Judging}
 use Rattle.parse.specs.declared.judging.Verdict.{Verdict}

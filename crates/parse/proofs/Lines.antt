@@ -16,7 +16,7 @@ use Rattle.frame.proofs.Frames.{length-frameOf}
 use Rattle.frame.proofs.Series.{AllShort, texts-runs}
 use Rattle.text.specs.Decoding.{wellFormedLength}
 use Rattle.text.proofs.Prefix.{prefix-fits}
-use Rattle.words.specs.Tokens.{wordsOf, framesOf as wordFrames}
+use Rattle.words.specs.Tokens.{wordsOf, wordFrames}
 use Rattle.words.specs.Answer.{written, answerFor, leavesBy, leavesFor, Tokenized}
 use Rattle.words.specs.declared.tokenizer.Tokens.{Tokens}
 use Rattle.words.specs.declared.tokenizer.Tokens.the-variants.{Words, LineTooLong as TooLong, IllFormed as Ill, NoRoom as TooShort}

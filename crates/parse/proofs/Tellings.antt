@@ -15,7 +15,7 @@ use Rattle.report.specs.Report.{reportOf, faultOf, dashed, reportAnswer, leaves
 use Rattle.report.specs.declared.answer.Reported.{Reported}
 use Rattle.report.specs.declared.answer.Reported.the-variants.{Report as Whole, NoRoom as TooShort}
 use Rattle.table.specs.Held.{partOf}
-use Rattle.scan.specs.Arguments.{Found}
+use Rattle.arguments.specs.Arguments.{Found}
 use Rattle.parse.specs.Commands.{Outcome, parsed, fault}
 use Rattle.parse.specs.Answer.{toldIn, faultAnswer, numbered, answeredBy, namedAs, outcomeAnswer, outcomeLeaves, Telling}
 use Rattle.parse.specs.Held.{outcomeBy, numberOf, dashesOf, textOf}

@@ -10,8 +10,8 @@ use Rattle.image.specs.Frames.{Frame, node, option, flag}
 use Rattle.tree.specs.Images.{framesOf}
 use Rattle.tree.specs.Subtrees.{subtree}
 use Rattle.tree.specs.Commands.{Reached, onSubtree, descend}
-use Rattle.scan.specs.Meanings.{definitionsOf, nameOf}
-use Rattle.scan.specs.Arguments.{Found, noneFound, Insert, Stand, go, wait, unknownOption, missingValue, args}
+use Rattle.arguments.specs.Meanings.{definitionsOf, nameOf}
+use Rattle.arguments.specs.Arguments.{Found, noneFound, Insert, Stand, go, wait, unknownOption, missingValue, args}
 
 -- an option that is required and whose name is no key
 abbrev pub lacking : ℕ → List ℕ → Map → Bool

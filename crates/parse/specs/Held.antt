@@ -9,8 +9,8 @@ use Rattle.table.specs.Held.{partOf}
 use Rattle.image.specs.Frames.{Frame}
 use Rattle.tree.specs.Images.{framesOf}
 use Rattle.tree.specs.Trails.{partAt, Within}
-use Rattle.scan.specs.Arguments.{Found}
-use Rattle.scan.specs.Held.{toldOf, foundOf}
+use Rattle.arguments.specs.Arguments.{Found}
+use Rattle.arguments.specs.Held.{toldOf, foundOf}
 use Rattle.parse.specs.Commands.{Outcome, parsed, fault, emptyCommand}
 use Rattle.parse.specs.declared.required.Required.{Required}
 use Rattle.parse.specs.declared.required.Required.the-variants.{Fine as AllThere, Missing}

@@ -1,6 +1,6 @@
 // The fault of a verdict: its number, and its text in two parts, dashes and what stands behind them.
 use super::judging::Verdict;
-use image::part;
+use buffer::part;
 ghost use mathlib.Core.Path.{_≡_};
 ghost use Prim.Native.Nat.{_<_};
 ghost use Rattle.parse.specs.Commands.{emptyCommand};

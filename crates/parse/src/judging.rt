@@ -1,15 +1,15 @@
 // What a line says, before anything is written: a verdict on its words, with all that a report needs.
 use super::required::Required;
 use super::required::validate_required_options;
+use arguments::FaultText;
+use arguments::Progress;
+use arguments::Scan;
+use arguments::parse_args;
 use frame::Framed;
 use frame::read_frame;
 use image::Head;
 use image::head_of;
-use scan::Progress;
-use scan::Scan;
-use scan::Told;
-use scan::parse_args;
-use table::Part;
+use table::Span;
 use tree::Found;
 use tree::Place;
 ghost use mathlib.Core.Path.{_≡_};
@@ -22,8 +22,8 @@ ghost use Rattle.tree.specs.Rules.{checkTree};
 ghost use Rattle.tree.specs.declared.check.Checked.the-variants.{Good};
 ghost use Rattle.tree.specs.Commands.{Reached, reachedBy, NodeFirst};
 ghost use Rattle.tree.specs.Trails.{partAt, Within, Descended, Leads};
-ghost use Rattle.scan.specs.Meanings.{definitionsAt};
-ghost use Rattle.scan.specs.Held.{stored, foundOf, standOf};
+ghost use Rattle.arguments.specs.Meanings.{definitionsAt};
+ghost use Rattle.arguments.specs.Held.{stored, foundOf, standOf};
 ghost use Rattle.parse.specs.Commands.{outcomeOf, concluded, parseWords};
 ghost use Rattle.parse.specs.Held.{outcomeBy, Judging};
 
@@ -31,10 +31,10 @@ ghost use Rattle.parse.specs.Held.{outcomeBy, Judging};
 pub enum Verdict {
     Fine,
     NoWords,
-    UnknownCommand(Part),
-    UnknownOption(Told),
-    MissingValue(Told),
-    MissingRequired(Part),
+    UnknownCommand(Span),
+    UnknownOption(FaultText),
+    MissingValue(FaultText),
+    MissingRequired(Span),
 }
 
 pub struct Judged {
@@ -86,7 +86,7 @@ fn judge_arguments<'a>(
     words: &'a [u8],
     image: &'a [u8],
     place: Place,
-    first: Part,
+    first: Span,
     rest: &mut [u8],
 ) -> Judged
     requires { ⌜ (length (now words) ≤ 4096) × (length (now image) ≤ 32768) × (length (now words) ≤ length (now rest)) × Within (now words) (now image) place × NodeFirst (framesOf (partAt (now image) place)) ⌝ }
@@ -120,7 +120,7 @@ pub fn judge<'a>(words: &'a [u8], image: &'a [u8], found: Found, rest: &mut [u8]
     let Framed::Frame { kind: _, length } = read_frame(words, 0) else {
         return without_command(Verdict::NoWords);
     };
-    let first = Part { start: 3, length };
+    let first = Span { start: 3, length };
     let Found::At(place) = found else {
         return without_command(Verdict::UnknownCommand(first));
     };

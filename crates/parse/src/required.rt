@@ -1,19 +1,19 @@
 // `validate_required_options`: the first required option whose name is no key.
+use buffer::part;
 use image::Head;
 use image::head_at;
-use image::part;
-use table::Part;
+use table::Span;
 use table::Table;
 ghost use mathlib.Core.Path.{_≡_};
 ghost use Rattle.table.specs.Held.{mapOf};
-ghost use Rattle.scan.specs.Meanings.{definitionsAt};
+ghost use Rattle.arguments.specs.Meanings.{definitionsAt};
 ghost use Rattle.parse.specs.Commands.{lacking, missingRequired};
 ghost use Rattle.parse.specs.Held.{requiredBy};
 
 pub enum Required {
     Fine,
     // The place of its name in the command's part of the image.
-    Missing(Part),
+    Missing(Span),
 }
 
 // Whether an option of that name is missing.
@@ -51,7 +51,7 @@ pub fn validate_required_options<'a>(
             } => {
                 let name = part(node, at + 4, texts.name);
                 if is_missing(words, node, required, name, options) {
-                    return Required::Missing(Part {
+                    return Required::Missing(Span {
                         start: at + 4,
                         length: texts.name,
                     });

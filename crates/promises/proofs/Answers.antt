@@ -41,7 +41,7 @@ use Rattle.shell.specs.Answer.{named, saidAnswer, saidLeaves, runAnswer, runLea
 use Rattle.shell.specs.declared.answer.Ran.{Ran}
 use Rattle.shell.specs.declared.answer.Ran.the-variants.{BadTree as BadFrameRan, NoRoom as NoRoomRan}
 use Rattle.shell.proofs.Numbers.{Fitting, texts-fit}
-use Rattle.promises.proofs.Tables.{Told, told, row, first, lacks, either, split, telling}
+use Rattle.promises.proofs.Tables.{Answered, told, row, first, lacks, either, split, telling}
 
 -- a line over 1,024 bytes, and one that is ill-formed
 abbrev pub tooLong : List ℕ → Bool
@@ -51,7 +51,7 @@ abbrev pub illFormed : List ℕ → Bool
 illFormed line = ltb (wellFormedLength line) (length line)
 
 -- TOKENIZE: 2, 3, 9
-unfoldable pub tokenizeTable : List ℕ → List ℕ → Told (List ℕ)
+unfoldable pub tokenizeTable : List ℕ → List ℕ → Answered (List ℕ)
 tokenizeTable line out =
     first
     (row 2 (tooLong line) (min (length line) 65535) out
@@ -66,7 +66,7 @@ tokenize-tells line out r left t =
     telling tokensNumber tokensValue _ _ _ _ (t .answer) (t .bytes)
     ∙ either tells (tooLong line) _ _ _ _ refl (either tells (illFormed line) _ _ _ _ refl (either tells (lacks (written line) out) _ _ _ _ refl refl))
   where
-    tells : Tokens → Told (List ℕ)
+    tells : Tokens → Answered (List ℕ)
     tells x = told (tokensNumber x) (tokensValue x) (leavesBy x (written line) out)
 
 -- QUOTE: 10, 2, 9. The number of the first bad word, from 0; where there is none, the line of the words.
@@ -78,7 +78,7 @@ abbrev pub badWord : Judged → ℕ
 badWord (bad n) = n
 badWord (fine words) = 0
 
-unfoldable pub quoteTable : List ℕ → List ℕ → Told (List ℕ)
+unfoldable pub quoteTable : List ℕ → List ℕ → Answered (List ℕ)
 quoteTable words out =
     first
     (row 10 (isBad (judge (listed words))) (badWord (judge (listed words))) out
@@ -91,7 +91,7 @@ pub quote-tells : (words out : List ℕ) (r : Quoted) (left : List ℕ) → Quot
 unfolding quoteTable first quoteAnswer quoteLeaves lineOf lineAnswer
 quote-tells words out r left t = telling quotedNumber quotedValue _ _ _ _ (t .answer) (t .bytes) ∙ by (judge (listed words)) refl
   where
-    tells : List ℕ → Quoted → Told (List ℕ)
+    tells : List ℕ → Quoted → Answered (List ℕ)
     tells line x = told (quotedNumber x) (quotedValue x) (quotedLeaves x line out)
 
     by : (j : Judged) → judge (listed words) ≡ j → tells (lineOf words) (quoteAnswer words (length out)) ≡ quoteTable words out
@@ -103,7 +103,7 @@ abbrev pub isBadTree : Checked → Bool
 isBadTree Good = false
 isBadTree (BadFrame n) = true
 
-unfoldable pub checkTable : List ℕ → Told (Unit {0})
+unfoldable pub checkTable : List ℕ → Answered (Unit {0})
 checkTable image =
     first
     (row 1 (ltb 32768 (length image)) 0 tt
@@ -115,7 +115,7 @@ pub check-tells : (image : List ℕ) (r : Checked) → r ≡ checkTree image →
 unfolding checkTable first checkTree
 check-tells image r e = ap tells e ∙ either tells (ltb 32768 (length image)) _ _ _ _ refl (by (judgeTree start 0 (items image)))
   where
-    tells : Checked → Told (Unit {0})
+    tells : Checked → Answered (Unit {0})
     tells c = told (treeNumber c) (treeValue c) tt
 
     by : (c : Checked) → tells c ≡ cond (isBadTree c) (told 1 (treeValue c) tt) (told 0 0 tt)
@@ -137,7 +137,7 @@ abbrev pub isFault : ℕ → Outcome → Bool
 isFault n (parsed path arguments) = false
 isFault n (fault number told) = eqb number n
 
-abbrev pub outcomeTable : Outcome → List ℕ → Told (List ℕ)
+abbrev pub outcomeTable : Outcome → List ℕ → Answered (List ℕ)
 outcomeTable o out =
     first
     (row 9 (lacks (toldIn o) out) (length (toldIn o)) out
@@ -148,7 +148,7 @@ outcomeTable o out =
     ∷ [])
     (told 0 (length (toldIn o)) (over (toldIn o) out))
 
-unfoldable pub parseTable : List ℕ → List ℕ → List ℕ → Told (List ℕ)
+unfoldable pub parseTable : List ℕ → List ℕ → List ℕ → Answered (List ℕ)
 parseTable image line out =
     first
     (row 1 (isBadTree (checkTree image)) (treeValue (checkTree image)) out
@@ -184,7 +184,7 @@ parse-tells image line out r left t =
     (split tells (lacks (toldIn o) out) (NoRoom (length (toldIn o))) (namedAs o (length (toldIn o))) out (over (toldIn o) out) _ _ refl
     (fault-tells o (length (toldIn o)) (over (toldIn o) out) (numbered image line)))))
   where
-    tells : Parsed → List ℕ → Told (List ℕ)
+    tells : Parsed → List ℕ → Answered (List ℕ)
     tells x l = told (parsedNumber x) (parsedValue x) l
 
 -- HELP: 1, 2, 3, 14, 4 (frame 1E), 9, which is asked before 4 as in parse
@@ -197,7 +197,7 @@ abbrev pub noWords : List (List ℕ) → Bool
 noWords [] = true
 noWords (w ∷ words) = false
 
-abbrev pub replyTable : Reply → List (List ℕ) → List ℕ → Told (List ℕ)
+abbrev pub replyTable : Reply → List (List ℕ) → List ℕ → Answered (List ℕ)
 replyTable reply words out =
     first
     (row 14 (noWords words) 0 out
@@ -206,7 +206,7 @@ replyTable reply words out =
     ∷ [])
     (told 0 (length (bytesOf reply)) (over (bytesOf reply) out))
 
-unfoldable pub helpTable : List ℕ → List ℕ → List ℕ → Told (List ℕ)
+unfoldable pub helpTable : List ℕ → List ℕ → List ℕ → Answered (List ℕ)
 helpTable image line out =
     first
     (row 1 (isBadTree (checkTree image)) (treeValue (checkTree image)) out
@@ -215,7 +215,7 @@ helpTable image line out =
     ∷ [])
     (replyTable (helpLine image line) (wordsBetween line) out)
 
-abbrev helpTells : List ℕ → List ℕ → Helped → Told (List ℕ)
+abbrev helpTells : List ℕ → List ℕ → Helped → Answered (List ℕ)
 helpTells bytes out x = told (helpedNumber x) (helpedValue x) (helpedLeaves x bytes out)
 
 led-tells : (w : List ℕ) (words : List (List ℕ)) (led : Led) (out : List ℕ)
@@ -234,7 +234,7 @@ pub help-tells : (image line out : List ℕ) (r : Helped) (left : List ℕ) → 
 unfolding helpTable first helpAnswer helpLeaves answerIn helpLine
 help-tells image line out r left t = telling helpedNumber helpedValue _ _ _ _ (t .answer) (t .bytes) ∙ by (checkTree image) refl
   where
-    tells : Helped → Told (List ℕ)
+    tells : Helped → Answered (List ℕ)
     tells x = helpTells (bytesOf (helpLine image line)) out x
 
     by : (c : Checked) → checkTree image ≡ c → tells (helpAnswer image line (length out)) ≡ helpTable image line out
@@ -252,17 +252,17 @@ pub record Ended : Type 0 where
   pub beside : ℕ
   pub buffer : List ℕ
 
-abbrev endedBy : Ran → List ℕ → Told Ended
+abbrev endedBy : Ran → List ℕ → Answered Ended
 endedBy r left = told (ranNumber r) (ranValue r) (record { kind = kind r; beside = beside r; buffer = left })
 
 -- what is said, by its kind
-abbrev pub saidTold : Said → List ℕ → Told Ended
+abbrev pub saidTold : Said → List ℕ → Answered Ended
 saidTold silence out = told 0 0 (record { kind = 0; beside = 0; buffer = out })
 saidTold (text number bytes) out = told 0 (length bytes) (record { kind = 1; beside = number; buffer = over bytes out })
 saidTold farewell out = told 0 (length goodbye) (record { kind = 2; beside = 0; buffer = over goodbye out })
 saidTold (handed handler frames) out = told 0 (length frames) (record { kind = 3; beside = handler; buffer = over frames out })
 
-unfoldable pub runTable : List ℕ → List ℕ → List ℕ → Told Ended
+unfoldable pub runTable : List ℕ → List ℕ → List ℕ → Answered Ended
 runTable image line out =
     let said : Said = saidOf (framesOf image) line in
     let kept : Ended = record { kind = 0; beside = 0; buffer = out } in

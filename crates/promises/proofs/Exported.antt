@@ -8,27 +8,27 @@ use native.Mathlib.Omega.{arith}
 use lib.Dec.{eqb}
 use lib.ListN.{length}
 use Rattle.text.specs.Apart.{trimmed, wordsBetween}
-use Rattle.words.specs.Tokens.{wordsOf, framesOf as wordFrames}
+use Rattle.words.specs.Tokens.{wordsOf, wordFrames}
 use Rattle.words.specs.declared.tokenizer.Tokens.{Tokens}
 use Rattle.words.specs.Answer.{number as wordsNumber, value as wordsValue}
 use Rattle.history.specs.Answer.{entriesIn, entriesAfter, historyBy, Addition, number as addNumber, value as addValue}
-use Rattle.history.specs.declared.past.History.{History}
+use Rattle.history.specs.declared.stepping.History.{History}
 use Rattle.history.specs.declared.adding.Added.{Added}
 use Rattle.history.specs.declared.adding.Added.the-variants.{Done, BadState as BadHistory, TooLong, IllFormed}
 use Rattle.editor.specs.declared.line.Mode.the-variants.{Typing}
-use Rattle.editor.specs.declared.drawing.Key.{Key}
+use Rattle.editor.specs.declared.drawing.KeyAnswer.{KeyAnswer}
 use Rattle.editor.specs.declared.drawing.Pressed.{Pressed}
 use Rattle.editor.specs.declared.drawing.Pressed.the-variants.{Shown, Entered, Dropped, BadState, BadPrompt, NoRoom}
 use Rattle.editor.specs.Line.{limit}
 use Rattle.editor.specs.Answer.{stateOf, goodPrompt, refused, number as keyNumber, value as keyValue, kind as keyKind, beside as keyBeside}
 use Rattle.editor.proofs.Seats.{good-parts}
-use Rattle.saved.specs.State.{savedOf, editorIn, historyIn, goodSaved}
-use Rattle.saved.specs.Calls.{Beginning, turnIn, number as begunNumber, value as begunValue}
-use Rattle.saved.specs.declared.calls.Begun.{Begun}
-use Rattle.saved.specs.declared.calls.Begun.the-variants.{Ready, NoRoom as NoSpace, BadState as NoState}
-use Rattle.saved.proofs.Savings.{held-saved, history-saved}
-use Rattle.saved.proofs.ByValue.{keyFor, key-by-value, key-saved, add-by-value, add-saved}
-use Rattle.saved.proofs.Lasting.{good-saved-parts, Reached, begun, by-key as key-reached, by-add as add-reached}
+use Rattle.state.specs.State.{savedOf, editorIn, historyIn, goodSaved}
+use Rattle.state.specs.Calls.{Beginning, turnIn, number as begunNumber, value as begunValue}
+use Rattle.state.specs.declared.calls.Begun.{Begun}
+use Rattle.state.specs.declared.calls.Begun.the-variants.{Ready, NoRoom as NoSpace, BadState as NoState}
+use Rattle.state.proofs.Savings.{held-saved, history-saved}
+use Rattle.state.proofs.ByValue.{keyFor, key-by-value, key-saved, add-by-value, add-saved}
+use Rattle.state.proofs.Lasting.{good-saved-parts, Reached, begun, by-key as key-reached, by-add as add-reached}
 use Rattle.tree.specs.Rules.{checkTree}
 use Rattle.tree.specs.declared.check.Checked.the-variants.{Good}
 use Rattle.parse.specs.Answer.{number as parseNumber, value as parseValue}
@@ -41,10 +41,10 @@ use Rattle.shell.specs.declared.answer.Ran.{Ran}
 use Rattle.shell.specs.declared.answer.Ran.the-variants.{NoRoom as RunNoRoom}
 use Rattle.shell.specs.declared.builtin.Builtin.the-variants.{Help}
 use Rattle.shell.proofs.Answers.{naming}
-use Rattle.abi.specs.Packed.{answered, plain}
-use Rattle.abi.specs.Calls.{WordsCall, QuoteCall, FreshCall, KeyCall, keyTold, AddCall, TreeCall, ParseCall, HelpCall, RunCall, runTold}
-use Rattle.abi.proofs.Packing.{value-back, number-back, kind-back, second-back}
-use Rattle.abi.proofs.Behind.{words-behind, quote-behind, fresh-behind, key-behind, add-behind, tree-behind, parse-behind, help-behind, run-behind}
+use Rattle.rissemat.specs.Packed.{answered, plain}
+use Rattle.rissemat.specs.Calls.{WordsCall, QuoteCall, FreshCall, KeyCall, keyTold, AddCall, TreeCall, ParseCall, HelpCall, RunCall, runTold}
+use Rattle.rissemat.proofs.Packing.{value-back, number-back, kind-back, second-back}
+use Rattle.rissemat.proofs.Behind.{words-behind, quote-behind, fresh-behind, key-behind, add-behind, tree-behind, parse-behind, help-behind, run-behind}
 use Rattle.rust.specs.Tree.{Commands}
 use Rattle.rust.specs.Parser.{tokenize, Result, parse}
 use Rattle.rust.specs.Help.{showHelp}
@@ -53,7 +53,7 @@ use Rattle.rust.specs.History.{CommandHistory, addCommand}
 use Rattle.rust.specs.Loop.{Shell, rustKey}
 use Rattle.rust.specs.Same.{original, shellOf, Seen, quiet, output, handed, ended, crashed, seenOf, QuotedAsIs}
 use Rattle.rust.specs.Calls.{Writes, PressesAs, resultNumber, parseBytes, helpBytes, HelpsAs, seenBytes, Says, Fair, SameAsRust}
-use Rattle.promises.proofs.Tables.{Told, told}
+use Rattle.promises.proofs.Tables.{Answered, told}
 use Rattle.promises.proofs.Answers.{tooLong, illFormed, tokenizeTable, tokenize-tells, quoteTable, quote-tells, checkTable, check-tells, parseTable, parse-tells, helpTable, help-tells, Ended, runTable, run-tells}
 use Rattle.promises.proofs.KeyAnswers.{Keyed, keyed, pressTable, press-tells, savedAddTable, saved-add-tells, beginTable, begin-tells}
 use Rattle.promises.proofs.Lasting.{never-bad, full-line-saved}
@@ -67,22 +67,22 @@ module _ (number value kind second : ℕ) (n : number < 256) (k : kind < 256) wh
   read-back = (value-back number value kind second n k, number-back number value kind second n k, kind-back number value kind second n k, second-back number value kind second n k)
 
 -- DEMAND 1, the tables: what a table tells, as 64 bits and in the buffers. Most calls have one kind of answer and no second value.
-pub record Packs {L : Type 0} (t : Told L) (p : ℕ) (left : L) : Type 0 where
+pub record Packs {L : Type 0} (t : Answered L) (p : ℕ) (left : L) : Type 0 where
   pub answer : p ≡ plain (t .number) (t .value)
   pub bytes : left ≡ t .left
 
 -- a key has its kind, and the length of the line that it submits as second value
-pub record PacksKey {L : Type 0} (t : Told (Keyed L)) (p : ℕ) (left : L) : Type 0 where
+pub record PacksKey {L : Type 0} (t : Answered (Keyed L)) (p : ℕ) (left : L) : Type 0 where
   pub answer : p ≡ answered (t .number) (t .value) (t .left .kind) (t .left .submitted)
   pub bytes : left ≡ t .left .held
 
 -- running a line has its kind; the number beside a text stands where a refusal's does, and a handler is the second value
-pub record PacksRun (t : Told Ended) (p : ℕ) (left : List ℕ) : Type 0 where
+pub record PacksRun (t : Answered Ended) (p : ℕ) (left : List ℕ) : Type 0 where
   pub answer : p ≡ answered (cond (eqb (t .left .kind) 1) (t .left .beside) (t .number)) (t .value) (t .left .kind) (cond (eqb (t .left .kind) 3) (t .left .beside) 0)
   pub bytes : left ≡ t .left .buffer
 
-packs : {L : Type 0} (n v : ℕ) (left : L) (t : Told L) (p : ℕ) → told n v left ≡ t → p ≡ plain n v → Packs t p left
-packs n v left t p e f = record { answer = f ∙ ap (λ (x : Told _). plain (x .number) (x .value)) e; bytes = ap (λ (x : Told _). x .left) e }
+packs : {L : Type 0} (n v : ℕ) (left : L) (t : Answered L) (p : ℕ) → told n v left ≡ t → p ≡ plain n v → Packs t p left
+packs n v left t p e f = record { answer = f ∙ ap (λ (x : Answered _). plain (x .number) (x .value)) e; bytes = ap (λ (x : Answered _). x .left) e }
 
 -- each call tells its table
 pub record TellTables : Type 0 where
@@ -97,19 +97,19 @@ pub record TellTables : Type 0 where
   pub help : (image line out : List ℕ) (p : ℕ) (left : List ℕ) → HelpCall image line out p left → Packs (helpTable image line out) p left
   pub run : (image line out : List ℕ) (p : ℕ) (left : List ℕ) → RunCall image line out p left → PacksRun (runTable image line out) p left
 
-packs-key : {L : Type 0} (r : Pressed) (left : L) (t : Told (Keyed L)) (p : ℕ) → told (keyNumber r) (keyValue r) (keyed (keyKind r) (keyBeside r) left) ≡ t → p ≡ keyTold r → PacksKey t p left
+packs-key : {L : Type 0} (r : Pressed) (left : L) (t : Answered (Keyed L)) (p : ℕ) → told (keyNumber r) (keyValue r) (keyed (keyKind r) (keyBeside r) left) ≡ t → p ≡ keyTold r → PacksKey t p left
 unfolding keyTold
 packs-key r left t p e f =
-    record { answer = f ∙ ap (λ (x : Told (Keyed _)). answered (x .number) (x .value) (x .left .kind) (x .left .submitted)) e; bytes = ap (λ (x : Told (Keyed _)). x .left .held) e }
+    record { answer = f ∙ ap (λ (x : Answered (Keyed _)). answered (x .number) (x .value) (x .left .kind) (x .left .submitted)) e; bytes = ap (λ (x : Answered (Keyed _)). x .left .held) e }
 
-packs-run : (r : Ran) (left : List ℕ) (t : Told Ended) (p : ℕ) → told (runNumber r) (runValue r) (record { kind = runKind r; beside = runBeside r; buffer = left }) ≡ t → p ≡ runTold r → PacksRun t p left
+packs-run : (r : Ran) (left : List ℕ) (t : Answered Ended) (p : ℕ) → told (runNumber r) (runValue r) (record { kind = runKind r; beside = runBeside r; buffer = left }) ≡ t → p ≡ runTold r → PacksRun t p left
 unfolding runTold
 packs-run r left t p e f =
     record {
       answer =
           f
-          ∙ ap (λ (x : Told Ended). answered (cond (eqb (x .left .kind) 1) (x .left .beside) (x .number)) (x .value) (x .left .kind) (cond (eqb (x .left .kind) 3) (x .left .beside) 0)) e;
-      bytes = ap (λ (x : Told Ended). x .left .buffer) e;
+          ∙ ap (λ (x : Answered Ended). answered (cond (eqb (x .left .kind) 1) (x .left .beside) (x .number)) (x .value) (x .left .kind) (cond (eqb (x .left .kind) 3) (x .left .beside) 0)) e;
+      bytes = ap (λ (x : Answered Ended). x .left .buffer) e;
     }
 
 pub tell-tables : TellTables
@@ -260,7 +260,7 @@ module _ (state slots prompt : List ℕ) (byte : ℕ) (line screen : List ℕ) (
   key-as-rust c good zero =
       let b = key-behind state slots prompt byte line screen p state′ slots′ line′ screen′ c in
       let is = good-saved-parts state slots good in
-      let k : Key = keyFor state (turnIn state slots prompt byte) (b .0) in
+      let k : KeyAnswer = keyFor state (turnIn state slots prompt byte) (b .0) in
       let saved : state′ ≡ savedOf (k .editor) (k .history) = key-saved state slots prompt byte line screen (b .0) state′ slots′ line′ screen′ (b .1) (is .0) in
       let d = key (editorIn state) (historyIn state) slots prompt byte line screen k slots′ line′ screen′
       (key-by-value state slots prompt byte line screen (b .0) state′ slots′ line′ screen′ (b .1) (is .0)) (taken-key (b .0) p (b .2) zero) (is .1) in

@@ -13,10 +13,10 @@ use Rattle.frame.specs.declared.house.House.{House}
 use Rattle.frame.specs.declared.house.House.the-variants.{Unended}
 use Rattle.frame.specs.declared.house.Lined.{Lined}
 use Rattle.frame.specs.declared.house.Lined.the-variants.{Written, Short}
-use Rattle.promises.proofs.Tables.{Told, told, row, first, lacks, either, split, telling}
+use Rattle.promises.proofs.Tables.{Answered, told, row, first, lacks, either, split, telling}
 
 -- READ_LINE: a line that is not ended, has no digit, over 1,024 or an odd number of them, or another byte among them, is of no such form; then 9
-unfoldable pub readTable : List ℕ → List ℕ → Told (List ℕ)
+unfoldable pub readTable : List ℕ → List ℕ → Answered (List ℕ)
 readTable line out =
     let digits : List ℕ = digitsOf line in
     first
@@ -41,15 +41,15 @@ read-line-tells line out r left t =
     (either tells (ltb (firstBad digits) (length digits)) _ _ _ _ refl
     (either tells (ltb (length out) (length digits / 2)) _ _ _ _ refl refl)))))
   where
-    tells : House → Told (List ℕ)
+    tells : House → Answered (List ℕ)
     tells x = told (number x) (value x) (leftBy x (unhex (digitsOf line)) out)
 
-    turned : (b : Bool) (x : House) (t : Told (List ℕ)) → tells x ≡ t → tells (cond b x Unended) ≡ cond (not b) (told 0x2F 0 out) t
+    turned : (b : Bool) (x : House) (t : Answered (List ℕ)) → tells x ≡ t → tells (cond b x Unended) ≡ cond (not b) (told 0x2F 0 out) t
     turned true x t e = e
     turned false x t e = refl
 
 -- WRITE_LINE: 9
-unfoldable pub writeTable : List ℕ → List ℕ → Told (List ℕ)
+unfoldable pub writeTable : List ℕ → List ℕ → Answered (List ℕ)
 writeTable frame out = first (row 9 (lacks (houseLine frame) out) (length (houseLine frame)) out ∷ []) (told 0 (length (houseLine frame)) (over (houseLine frame) out))
 
 pub write-line-tells : (frame out : List ℕ) (r : Lined) (left : List ℕ) → HouseWritten frame out r left → told (lineNumber r) (lineValue r) left ≡ writeTable frame out

@@ -7,29 +7,29 @@ use lib.Dec.{ltb}
 use lib.ListN.{length}
 use Rattle.buffer.specs.Write.{over}
 use Rattle.text.specs.Decoding.{wellFormedLength}
-use Rattle.history.specs.Entries.{wellFormed}
+use Rattle.text.specs.Decoding.{wellFormed}
 use Rattle.history.specs.Slots.{layout, good}
 use Rattle.history.specs.Answer.{atEnd, entriesAfter, addAnswer, historyBy, slotsBy, Addition, number as addedNumber, value as addedValue}
-use Rattle.history.specs.declared.past.History.{History}
+use Rattle.history.specs.declared.stepping.History.{History}
 use Rattle.history.specs.declared.adding.Added.{Added}
 use Rattle.history.specs.declared.adding.Added.the-variants.{Done, BadState as BadHistory, TooLong, IllFormed}
 use Rattle.screen.specs.Redraw.{redraw, greatest, roomAnswer, Redraw, leavesBy as drawnLeaves, number as drawnNumber, value as drawnValue}
 use Rattle.screen.specs.declared.line.Redrawn.{Redrawn}
 use Rattle.editor.specs.declared.line.Editor.{Editor}
-use Rattle.editor.specs.declared.drawing.Key.{Key}
+use Rattle.editor.specs.declared.drawing.KeyAnswer.{KeyAnswer}
 use Rattle.editor.specs.declared.drawing.Pressed.{Pressed}
 use Rattle.editor.specs.declared.drawing.Pressed.the-variants.{BadState, BadPrompt, NoRoom}
 use Rattle.editor.specs.Line.{limit, freshEditor, goodLine}
 use Rattle.editor.specs.Keys.{Kind, shows, enters, drops, Turn, turnOf}
 use Rattle.editor.specs.Answer.{stateOf, editorOf, historyOf, slotsOf, goodState, goodPrompt, taken, turnAnswer, keyAnswer, refused, Pressing, number as pressedNumber, value as pressedValue, kindNumber, kind as pressedKind, beside as pressedBeside}
 use Rattle.editor.proofs.Called.{counted}
-use Rattle.saved.specs.State.{savedOf, isState, editorIn, historyIn, goodSaved}
-use Rattle.saved.specs.Calls.{beginAnswer, isReady, Beginning, turnIn, pressAnswer, savedAfter, SavedKey, savedAnswer, stateBy, SavedAdd, number as begunNumber, value as begunValue}
-use Rattle.saved.specs.declared.calls.Begun.{Begun}
-use Rattle.promises.proofs.Tables.{Told, told, Row, row, first, lacks, either, telling, pair}
+use Rattle.state.specs.State.{savedOf, isState, editorIn, historyIn, goodSaved}
+use Rattle.state.specs.Calls.{beginAnswer, isReady, Beginning, turnIn, pressAnswer, savedAfter, SavedKey, savedAnswer, stateBy, SavedAdd, number as begunNumber, value as begunValue}
+use Rattle.state.specs.declared.calls.Begun.{Begun}
+use Rattle.promises.proofs.Tables.{Answered, told, Row, row, first, lacks, either, telling, pair}
 
 -- ADD_COMMAND: 12, 13, 3. A refusal keeps the record and the slots.
-unfoldable pub addTable : History → List ℕ → List ℕ → Told (History × List ℕ)
+unfoldable pub addTable : History → List ℕ → List ℕ → Answered (History × List ℕ)
 addTable h slots text =
     first
     (row 12 (not (good (h .count) (h .place) slots)) 0 (h, slots)
@@ -45,7 +45,7 @@ add-tells h slots text r a left t =
     telling addedNumber addedValue _ _ (r, left) _ (t .answer) (pair (t .state) (t .bytes))
     ∙ by (good (h .count) (h .place) slots) (ltb 255 (length text)) (wellFormed text)
   where
-    tells : Added → Told (History × List ℕ)
+    tells : Added → Answered (History × List ℕ)
     tells x = told (addedNumber x) (addedValue x) (historyBy x h (entriesAfter h slots text), slotsBy x slots (entriesAfter h slots text))
 
     by : (g l w : Bool) → tells (cond g (cond l (TooLong (length text)) (cond w Done (IllFormed (wellFormedLength text)))) BadHistory)
@@ -56,7 +56,7 @@ add-tells h slots text r a left t =
     by false l w = refl
 
 -- CLEAR_LINE_AND_REDRAW: 9. A length needed that is above the greatest number of 64 bits is given as that one.
-unfoldable pub redrawTable : List ℕ → List ℕ → Told (List ℕ)
+unfoldable pub redrawTable : List ℕ → List ℕ → Answered (List ℕ)
 redrawTable bytes out = first (row 9 (lacks bytes out) (min (length bytes) greatest) out ∷ []) (told 0 (length bytes) (over bytes out))
 
 pub redraw-tells : (prompt content : List ℕ) (cursor : ℕ) (out : List ℕ) (r : Redrawn) (left : List ℕ) → Redraw prompt content cursor out r left
@@ -65,7 +65,7 @@ unfolding redrawTable first roomAnswer
 redraw-tells prompt content cursor out r left t =
     telling drawnNumber drawnValue _ _ _ _ (t .answer) (t .bytes) ∙ either tells (lacks (redraw prompt content cursor) out) _ _ _ _ refl refl
   where
-    tells : Redrawn → Told (List ℕ)
+    tells : Redrawn → Answered (List ℕ)
     tells x = told (drawnNumber x) (drawnValue x) (drawnLeaves x (redraw prompt content cursor) out)
 
 -- KEY: 12, 11, 9, a line buffer under 255 first, at every key. What a key holds and is lent:
@@ -105,17 +105,17 @@ keyRefusals is prompt t line screen kept =
     ∷ []
 
 -- the value of a key that is taken is the number of bytes that it shows
-abbrev pub keyRows : {L : Type 0} → Bool → List ℕ → Turn → List ℕ → List ℕ → L → L → Told (Keyed L)
+abbrev pub keyRows : {L : Type 0} → Bool → List ℕ → Turn → List ℕ → List ℕ → L → L → Answered (Keyed L)
 keyRows is prompt t line screen kept after =
     first (keyRefusals is prompt t line screen kept) (told 0 (length (t .screen)) (keyed (kindNumber (t .kind)) (length (t .submitted)) after))
 
-unfoldable pub keyTable : Seat → List ℕ → ℕ → Told (Keyed Seat)
+unfoldable pub keyTable : Seat → List ℕ → ℕ → Answered (Keyed Seat)
 keyTable s prompt byte =
     let t : Turn = turnOf prompt (stateOf (s .editor) (s .history) (s .slots)) byte in
     keyRows (goodState (s .editor) (s .history) (s .slots)) prompt t (s .line) (s .screen) s (seatAfter t (s .line) (s .screen))
 
 -- a key's answer tells what its rows tell: a refusal keeps all
-abbrev keyTells : {L : Type 0} → L → L → Pressed → Told (Keyed L)
+abbrev keyTells : {L : Type 0} → L → L → Pressed → Answered (Keyed L)
 keyTells kept after x = told (pressedNumber x) (pressedValue x) (keyed (pressedKind x) (pressedBeside x) (cond (refused x) kept after))
 
 key-rows : {L : Type 0} (is : Bool) (prompt : List ℕ) (t : Turn) (line screen : List ℕ) (kept after : L)
@@ -139,7 +139,7 @@ key-rows is prompt t line screen kept after counts =
     by true false l s k = refl
     by false p l s k = refl
 
-pub key-tells : (s : Seat) (prompt : List ℕ) (byte : ℕ) (k : Key) (slots line screen : List ℕ)
+pub key-tells : (s : Seat) (prompt : List ℕ) (byte : ℕ) (k : KeyAnswer) (slots line screen : List ℕ)
     → Pressing (s .editor) (s .history) (s .slots) prompt byte (s .line) (s .screen) k slots line screen
     → told (pressedNumber (k .answer)) (pressedValue (k .answer))
     (keyed (pressedKind (k .answer)) (pressedBeside (k .answer)) (record { editor = k .editor; history = k .history; slots = slots; line = line; screen = screen }))
@@ -170,7 +170,7 @@ Lent = List ℕ × List ℕ × List ℕ × List ℕ
 abbrev pub lentAfter : Turn → List ℕ → List ℕ → Lent
 lentAfter t line screen = (savedAfter (t .after), slotsOf (t .after), over (t .submitted) line, over (t .screen) screen)
 
-unfoldable pub pressTable : List ℕ → List ℕ → List ℕ → ℕ → List ℕ → List ℕ → Told (Keyed Lent)
+unfoldable pub pressTable : List ℕ → List ℕ → List ℕ → ℕ → List ℕ → List ℕ → Answered (Keyed Lent)
 pressTable state slots prompt byte line screen =
     let t : Turn = turnIn state slots prompt byte in keyRows (goodSaved state slots) prompt t line screen (state, slots, line, screen) (lentAfter t line screen)
 
@@ -194,7 +194,7 @@ press-tells state slots prompt byte line screen r state′ slots′ line′ scre
     chosen false x y p q v w = parts p q v w
 
 -- ADD on a saved state: 12 also for a bad line, 13, 3
-unfoldable pub savedAddTable : List ℕ → List ℕ → List ℕ → Told (List ℕ × List ℕ)
+unfoldable pub savedAddTable : List ℕ → List ℕ → List ℕ → Answered (List ℕ × List ℕ)
 savedAddTable state slots text =
     let es : List (List ℕ) = entriesAfter (historyIn state) slots text in
     first
@@ -212,7 +212,7 @@ saved-add-tells state slots text r state′ slots′ p =
     ∙ ap tells (p .answer)
     ∙ by (isState state) (goodLine (editorIn state)) (good (historyIn state .count) (historyIn state .place) slots) (ltb 255 (length text)) (wellFormed text)
   where
-    tells : Added → Told (List ℕ × List ℕ)
+    tells : Added → Answered (List ℕ × List ℕ)
     tells x =
         told (addedNumber x) (addedValue x)
         (stateBy x state (length (entriesAfter (historyIn state) slots text)), slotsBy x slots (entriesAfter (historyIn state) slots text))
@@ -227,7 +227,7 @@ saved-add-tells state slots text r state′ slots′ p =
     by false g h l w = refl
 
 -- BEGIN: 9 for a buffer that is too short, the state's first; then 12 for one that is too long, since another length is no state's
-unfoldable pub beginTable : List ℕ → List ℕ → Told (List ℕ × List ℕ)
+unfoldable pub beginTable : List ℕ → List ℕ → Answered (List ℕ × List ℕ)
 beginTable state slots =
     first
     (row 9 (ltb (length state) 260) 260 (state, slots)
@@ -246,5 +246,5 @@ begin-tells state slots r state′ slots′ p =
     ∙ either tells (ltb (length state) 260) _ _ _ _ refl
     (either tells (ltb (length slots) 25600) _ _ _ _ refl (either tells (ltb 260 (length state)) _ _ _ _ refl (either tells (ltb 25600 (length slots)) _ _ _ _ refl refl)))
   where
-    tells : Begun → Told (List ℕ × List ℕ)
+    tells : Begun → Answered (List ℕ × List ℕ)
     tells x = told (begunNumber x) (begunValue x) (cond (isReady x) (savedOf freshEditor (atEnd 0)) state, cond (isReady x) (layout []) slots)

@@ -11,10 +11,10 @@ use Rattle.tree.specs.declared.check.Checked.the-variants.{Good, BadFrame}
 use Rattle.growth.specs.Growth.{admits}
 use Rattle.history.specs.Slots.{layout}
 use Rattle.history.specs.Answer.{atEnd}
-use Rattle.history.specs.declared.past.History.{History}
+use Rattle.history.specs.declared.stepping.History.{History}
 use Rattle.editor.specs.declared.line.Mode.the-variants.{Typing}
 use Rattle.editor.specs.declared.line.Editor.{Editor}
-use Rattle.editor.specs.declared.drawing.Key.{Key}
+use Rattle.editor.specs.declared.drawing.KeyAnswer.{KeyAnswer}
 use Rattle.editor.specs.declared.drawing.Pressed.{Pressed}
 use Rattle.editor.specs.declared.drawing.Pressed.the-variants.{Dropped}
 use Rattle.editor.specs.Line.{limit, freshEditor}
@@ -23,13 +23,13 @@ use Rattle.editor.specs.Answer.{stateOf, goodState, goodPrompt, refused, Pressi
 use Rattle.editor.proofs.Fine.{fine-of, fine-good, turn-fine, stays-good}
 use Rattle.editor.proofs.Called.{dropped, typing-back}
 use Rattle.editor.proofs.Lasting.{Reached as ReachedByValue, by-fresh, never-reached-bad as never-reached-bad-by-value}
-use Rattle.saved.specs.State.{editorIn, goodSaved}
-use Rattle.saved.specs.Calls.{SavedKey}
-use Rattle.saved.proofs.Lasting.{Reached, never-reached-bad}
-use Rattle.saved.proofs.ByValue.{dropped-saved}
+use Rattle.state.specs.State.{editorIn, goodSaved}
+use Rattle.state.specs.Calls.{SavedKey}
+use Rattle.state.proofs.Lasting.{Reached, never-reached-bad}
+use Rattle.state.proofs.ByValue.{dropped-saved}
 use Rattle.session.specs.Prints.{prompt}
 use Rattle.session.specs.Lines.{Form, tree, keys, formless, lineForm}
-use Rattle.session.specs.Calls.{fresh, withState, tookBy, onLine, TakingLine, imageOf, turnIn, treeBefore, most, Kept, PressingKey}
+use Rattle.session.specs.Calls.{fresh, withState, tookBy, onLine, TakingLine, imageOf, turnIn, treeBefore, keyRoom, Kept, PressingKey}
 use Rattle.session.specs.declared.standing.Session.{Session}
 use Rattle.session.specs.declared.taking.Took.{Took}
 use Rattle.session.specs.declared.taking.Taken.the-variants.{Over, NoRoom as NoBuffer}
@@ -43,7 +43,7 @@ never-bad = never-reached-bad
 pub never-bad-by-value : (e : Editor) (h : History) (slots : List ℕ) → ReachedByValue e h slots → goodState e h slots ≡ true
 never-bad-by-value = never-reached-bad-by-value
 
-module _ (e : Editor) (h : History) (slots prompt : List ℕ) (byte : ℕ) (line screen : List ℕ) (k : Key) (slots₁ line₁ screen₁ : List ℕ)
+module _ (e : Editor) (h : History) (slots prompt : List ℕ) (byte : ℕ) (line screen : List ℕ) (k : KeyAnswer) (slots₁ line₁ screen₁ : List ℕ)
     (first : Pressing e h slots prompt byte line screen k slots₁ line₁ screen₁) where
   -- the same by value: a good state stays good, whatever the key and its answer
   pub stays : goodState e h slots ≡ true → goodState (k .editor) (k .history) slots₁ ≡ true
@@ -57,7 +57,7 @@ module _ (e : Editor) (h : History) (slots prompt : List ℕ) (byte : ℕ) (line
   -- (the same of a saved state: `full-line-saved`; of `rissemat_key`: Exported)
 
   -- TYPING BACK: from every state, after two keys that are taken, neither of them ESC
-  pub back-to-typing : (prompt′ : List ℕ) (byte′ : ℕ) (line′ screen′ : List ℕ) (k′ : Key) (slots₂ line₂ screen₂ : List ℕ)
+  pub back-to-typing : (prompt′ : List ℕ) (byte′ : ℕ) (line′ screen′ : List ℕ) (k′ : KeyAnswer) (slots₂ line₂ screen₂ : List ℕ)
       → Pressing (k .editor) (k .history) slots₁ prompt′ byte′ line′ screen′ k′ slots₂ line₂ screen₂
       → refused (k .answer) ≡ false → refused (k′ .answer) ≡ false → (byte ≡ 0x1B → ⊥) → (byte′ ≡ 0x1B → ⊥) → k′ .editor .mode ≡ Typing
   back-to-typing prompt′ byte′ line′ screen′ k′ slots₂ line₂ screen₂ second =
@@ -111,7 +111,7 @@ line-good h slots line image frame image′ frame′ r t g =
 
 key-good : (h : Session) (image slots : List ℕ) (byte : ℕ) (out : List ℕ) (r : SessionKey) (slots′ out′ : List ℕ) → PressingKey h image slots byte out r slots′ out′
     → goodState (h .editor) (h .history) slots ≡ true → goodState (r .session .editor) (r .session .history) slots′ ≡ true
-key-good h image slots byte out r slots′ out′ p g = by (ltb (length out) most) (treeBefore byte (imageOf h image)) refl refl
+key-good h image slots byte out r slots′ out′ p g = by (ltb (length out) keyRoom) (treeBefore byte (imageOf h image)) refl refl
   where
     after : Session → List ℕ → Bool
     after x l = goodState (x .editor) (x .history) l
@@ -119,11 +119,11 @@ key-good h image slots byte out r slots′ out′ p g = by (ltb (length out) mos
     stays-so : Kept h slots out r slots′ out′ → after (r .session) slots′ ≡ true
     stays-so k = ap (λ (x : Session). after x slots′) (k .session) ∙ ap (after h) (k .held) ∙ g
 
-    by : (b : Bool) (c : Checked) → ltb (length out) most ≡ b → treeBefore byte (imageOf h image) ≡ c → after (r .session) slots′ ≡ true
-    by true c e f = stays-so (p .short (ltb-true (length out) most e) .1)
-    by false (BadFrame n) e f = stays-so (p .badTree (ltb-false (length out) most e) n f .1)
+    by : (b : Bool) (c : Checked) → ltb (length out) keyRoom ≡ b → treeBefore byte (imageOf h image) ≡ c → after (r .session) slots′ ≡ true
+    by true c e f = stays-so (p .short (ltb-true (length out) keyRoom e) .1)
+    by false (BadFrame n) e f = stays-so (p .badTree (ltb-false (length out) keyRoom e) n f .1)
     by false Good e f =
-        let d = p .pressed (ltb-false (length out) most e) f g in
+        let d = p .pressed (ltb-false (length out) keyRoom e) f g in
         let s : State = turnIn h slots byte .after in
         ap (λ (x : Session). after x slots′) (d .session) ∙ ap (after (withState h s)) (d .held)
         ∙ fine-good s (turn-fine prompt (stateOf (h .editor) (h .history) slots) byte (fine-of (h .editor) (h .history) slots g))

@@ -10,22 +10,22 @@ use Rattle.buffer.specs.Compare.{order, sameBytes}
 use Rattle.text.specs.Unicode.{encode, encodeAll}
 use Rattle.text.specs.Decoding.{leastSecond, greatestSecond, within, decodeTwo, decodeThree, decodeFour, table, decodeFirst, piecesFrom, piecesOf, codesOf, codesIn, wellFormedLength}
 use Rattle.text.specs.Space.{whiteSpace, among, isWhiteSpace}
-use Rattle.frame.specs.Text.{number, textOf}
-use Rattle.words.specs.Tokens.{turnOf, tokensFrom, tokens, wordsOf, framesOf}
+use Rattle.frame.specs.Text.{numberBytes, textOf}
+use Rattle.words.specs.Tokens.{roleOf, tokensFrom, tokens, wordsOf, wordFrames}
 use Rattle.words.specs.Answer.{written, Tokenized, number as tokensNumber, value as tokensValue}
 use Rattle.words.specs.declared.tokenizer.Tokens.{Tokens}
 use Rattle.image.specs.Frames.{absent, present, Frame, node, option, flag, text, perhaps, encode as encodeFrame}
 use Rattle.image.specs.Limits.{allShown, isName, isNote, isShort, definable, fair}
 use Rattle.image.specs.Reading.{span, perhapsIn, nodeLengths, definitionLengths, nodeFirst, optionFirst, flagFirst, headFirst, nodeIn, optionIn, flagIn, readFirst}
-use Rattle.tree.specs.Images.{itemsFrom, items, framesIn, framesOf as framesOfImage, flat}
+use Rattle.tree.specs.Images.{itemsFrom, items, framesIn, framesOf, flat}
 use Rattle.tree.specs.Rules.{rises, follows, obeys, after, judge, checkTree}
 use Rattle.tree.specs.declared.check.Checked.the-variants.{Good}
 use Rattle.lookup.specs.Searches.{keyed}
 use Rattle.tree.specs.Subtrees.{upTo, onFrom, subtree}
 use Rattle.table.specs.Map.{put, has}
-use Rattle.scan.specs.Meanings.{definitionsOf, firstName, meaning, isOption}
-use Rattle.scan.specs.Forms.{beforeEquals, longForm, formOf}
-use Rattle.scan.specs.Arguments.{withOption, withFlag, withPositional, shortSteps, args}
+use Rattle.arguments.specs.Meanings.{definitionsOf, firstName, meaning, isOption}
+use Rattle.arguments.specs.Forms.{beforeEquals, longForm, formOf}
+use Rattle.arguments.specs.Arguments.{withOption, withFlag, withPositional, shortSteps, args}
 use Rattle.parse.specs.Commands.{isMissing, missingRequired, Outcome, parsed, fault, concluded, parseIn, parseWords, parseLine}
 use Rattle.tree.specs.Commands.{descend}
 use Rattle.parse.specs.Answer.{Parsing, number as parsedNumber, value as parsedValue}
@@ -78,7 +78,7 @@ marked =
     ∷ []
 
 pub M1-to-M14 : All Holds marked
-unfolding marked setTree ascii wordsOf tokens tokensFrom turnOf encodeAll encode codesIn codesOf piecesOf piecesFrom decodeFirst table decodeTwo decodeThree decodeFour within leastSecond greatestSecond isWhiteSpace among whiteSpace parseWords parseIn concluded descend subtree onFrom upTo definitionsOf args formOf longForm beforeEquals shortSteps meaning firstName isOption keyed withOption withFlag withPositional put has order sameBytes missingRequired isMissing
+unfolding marked setTree ascii wordsOf tokens tokensFrom roleOf encodeAll encode codesIn codesOf piecesOf piecesFrom decodeFirst table decodeTwo decodeThree decodeFour within leastSecond greatestSecond isWhiteSpace among whiteSpace parseWords parseIn concluded descend subtree onFrom upTo definitionsOf args formOf longForm beforeEquals shortSteps meaning firstName isOption keyed withOption withFlag withPositional put has order sameBytes missingRequired isMissing
 M1-to-M14 = (refl, (refl, (refl, (refl, (refl, (refl, (refl, (refl, (refl, (refl, (refl, (refl, (refl, (refl, tt))))))))))))))
 
 -- AS CALLED: `tokenize` and `parse` answer each line so, and refuse it only with 9, where what they tell does not fit
@@ -86,7 +86,7 @@ abbrev pub Called : Row → Type 0
 Called (splits line words) =
     (out left : List ℕ) (r : Tokens) → Tokenized line out r left
     → told (tokensNumber r) (tokensValue r) left
-    ≡ first (row 9 (lacks (framesOf words) out) (length (framesOf words)) out ∷ []) (told 0 (length (framesOf words)) (over (framesOf words) out))
+    ≡ first (row 9 (lacks (wordFrames words) out) (length (wordFrames words)) out ∷ []) (told 0 (length (wordFrames words)) (over (wordFrames words) out))
 Called (says line outcome) =
     (out left : List ℕ) (r : Parsed) → Parsing (flat setTree) line out r left → told (parsedNumber r) (parsedValue r) left ≡ outcomeTable outcome out
 
@@ -101,18 +101,18 @@ all-fair = ((refl, refl), ((refl, refl), ((refl, refl), ((refl, refl), ((refl, r
 
 -- the image of the node `set`
 set-good : checkTree (flat setTree) ≡ Good
-unfolding setTree ascii order number textOf text perhaps encodeFrame allShown isName isNote isShort definable fair span perhapsIn nodeLengths definitionLengths nodeFirst optionFirst flagFirst headFirst nodeIn optionIn flagIn readFirst itemsFrom items flat rises follows obeys after judge checkTree
+unfolding setTree ascii order numberBytes textOf text perhaps encodeFrame allShown isName isNote isShort definable fair span perhapsIn nodeLengths definitionLengths nodeFirst optionFirst flagFirst headFirst nodeIn optionIn flagIn readFirst itemsFrom items flat rises follows obeys after judge checkTree
 set-good = refl
 
-set-frames : framesOfImage (flat setTree) ≡ setTree
-unfolding setTree ascii number textOf text perhaps encodeFrame span perhapsIn nodeLengths definitionLengths nodeFirst optionFirst flagFirst headFirst nodeIn optionIn flagIn readFirst itemsFrom items flat framesIn framesOfImage
+set-frames : framesOf (flat setTree) ≡ setTree
+unfolding setTree ascii numberBytes textOf text perhaps encodeFrame span perhapsIn nodeLengths definitionLengths nodeFirst optionFirst flagFirst headFirst nodeIn optionIn flagIn readFirst itemsFrom items flat framesIn framesOf
 set-frames = refl
 
 called : (r : Row) → Fair r → Holds r → Called r
 unfolding tokenizeTable parseTable first written parseLine
 called (splits line words) f h = λ out left r t.
     tokenize-tells line out r left t ∙ else-is _ _ _ (f .0) ∙ else-is _ _ _ (f .1)
-    ∙ ap (λ (ws : List (List ℕ)). cond (lacks (framesOf ws) out) (told 9 (length (framesOf ws)) out) (told 0 (length (framesOf ws)) (over (framesOf ws) out))) h
+    ∙ ap (λ (ws : List (List ℕ)). cond (lacks (wordFrames ws) out) (told 9 (length (wordFrames ws)) out) (told 0 (length (wordFrames ws)) (over (wordFrames ws) out))) h
 called (says line outcome) f h = λ out left r t.
     let same : parseLine (flat setTree) line ≡ outcome = ap (λ (fs : List Frame). parseWords fs (wordsOf line)) set-frames ∙ h in
     parse-tells (flat setTree) line out r left t

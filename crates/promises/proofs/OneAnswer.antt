@@ -17,21 +17,21 @@ use Rattle.quote.specs.declared.quoter.Quoted.{Quoted}
 use Rattle.quote.proofs.Answers.{one-answer as one-quote}
 use Rattle.history.specs.Slots.{layout}
 use Rattle.history.specs.Answer.{atEnd, entriesAfter, slotsBy, Addition}
-use Rattle.history.specs.declared.past.History.{History}
+use Rattle.history.specs.declared.stepping.History.{History}
 use Rattle.history.specs.declared.adding.Added.{Added}
 use Rattle.history.proofs.Answers.{one-answer as one-add}
 use Rattle.screen.specs.Redraw.{Redraw}
 use Rattle.screen.specs.declared.line.Redrawn.{Redrawn}
 use Rattle.screen.proofs.Drawing.{one-answer as one-redraw}
 use Rattle.editor.specs.declared.line.Editor.{Editor}
-use Rattle.editor.specs.declared.drawing.Key.{Key}
+use Rattle.editor.specs.declared.drawing.KeyAnswer.{KeyAnswer}
 use Rattle.editor.specs.declared.drawing.Pressed.{Pressed}
 use Rattle.editor.specs.Answer.{refused, Pressing}
 use Rattle.editor.proofs.Always.{one-answer as one-key}
 use Rattle.editor.specs.Line.{freshEditor}
-use Rattle.saved.specs.State.{savedOf, historyIn}
-use Rattle.saved.specs.Calls.{isReady, Beginning, SavedKey, stateBy, SavedAdd}
-use Rattle.saved.specs.declared.calls.Begun.{Begun}
+use Rattle.state.specs.State.{savedOf, historyIn}
+use Rattle.state.specs.Calls.{isReady, Beginning, SavedKey, stateBy, SavedAdd}
+use Rattle.state.specs.declared.calls.Begun.{Begun}
 use Rattle.parse.specs.Answer.{Parsing}
 use Rattle.parse.specs.declared.answer.Parsed.{Parsed}
 use Rattle.parse.proofs.Answers.{one-answer as one-parse}
@@ -44,7 +44,7 @@ use Rattle.shell.proofs.Answers.{one-answer as one-run}
 use Rattle.ink.specs.Answer.{Showing}
 use Rattle.ink.specs.declared.show.Shown.{Shown}
 use Rattle.ink.proofs.Inking.{one-answer as one-show}
-use Rattle.abi.specs.Calls.{WordsCall, QuoteCall, FreshCall, KeyCall, AddCall, TreeCall, ParseCall, HelpCall, RunCall}
+use Rattle.rissemat.specs.Calls.{WordsCall, QuoteCall, FreshCall, KeyCall, AddCall, TreeCall, ParseCall, HelpCall, RunCall}
 use Rattle.tree.specs.declared.walk.Walk.{Walk}
 use Rattle.tree.specs.declared.walk.Step.{Step}
 use Rattle.growth.specs.Growth.{Grows}
@@ -112,7 +112,7 @@ pub add-command : (h : History) (slots text : List ℕ) (r r′ : History) (told
     → (told ≡ told′) × (r ≡ r′) × (left ≡ left′)
 add-command = one-add
 
-pub key : (e : Editor) (h : History) (slots prompt : List ℕ) (byte : ℕ) (line screen : List ℕ) (k k′ : Key) (a b c a′ b′ c′ : List ℕ)
+pub key : (e : Editor) (h : History) (slots prompt : List ℕ) (byte : ℕ) (line screen : List ℕ) (k k′ : KeyAnswer) (a b c a′ b′ c′ : List ℕ)
     → Pressing e h slots prompt byte line screen k a b c → Pressing e h slots prompt byte line screen k′ a′ b′ c′
     → (k .answer ≡ k′ .answer) × (k .editor ≡ k′ .editor) × (k .history ≡ k′ .history) × (a ≡ a′) × (b ≡ b′) × (c ≡ c′)
 key = one-key

@@ -22,9 +22,9 @@ use Rattle.tree.specs.declared.check.Checked.{Checked}
 use Rattle.tree.specs.declared.check.Checked.the-variants.{Good, BadFrame}
 use Rattle.lookup.specs.Definitions.{hasKey, hasShort}
 use Rattle.words.specs.Tokens.{wordsOf}
-use Rattle.scan.specs.Meanings.{definitionsOf, Means, aFlag, anOption, nothing, meaning, onMeans, isOption}
-use Rattle.scan.specs.Forms.{Form, valued, long, shorts, positional, formOf, dash}
-use Rattle.scan.specs.Arguments.{Found, noneFound, Stand, go, wait, unknownOption, missingValue, withOption, withFlag, withPositional, shortStep, shortSteps, formStep, wordStep, args}
+use Rattle.arguments.specs.Meanings.{definitionsOf, Means, aFlag, anOption, nothing, meaning, onMeans, isOption}
+use Rattle.arguments.specs.Forms.{Form, valued, long, shorts, positional, formOf, dash}
+use Rattle.arguments.specs.Arguments.{Found, noneFound, Stand, go, wait, unknownOption, missingValue, withOption, withFlag, withPositional, shortStep, shortSteps, formStep, wordStep, args}
 use Rattle.report.specs.Report.{reportOf}
 use Rattle.parse.specs.Commands.{missingRequired, Outcome, parsed, fault, onMissing, outcomeOf, concluded, parseIn, parseWords, parseLine}
 use Rattle.parse.specs.Answer.{toldIn, faultAnswer, namedAs, outcomeAnswer, outcomeLeaves, onChecked, parseAnswer, parseLeaves, Parsing}

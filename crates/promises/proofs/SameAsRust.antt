@@ -51,19 +51,19 @@ use Rattle.rust.proofs.Whole.{session-printed}
 use Rattle.rust.proofs.Calls.{splits-as, good-same, base-same, fs-same}
 use Rattle.session.specs.Prints.{prompt, keyPrints, keyEnds}
 use Rattle.session.specs.Lines.{Standing, pressKeys, session}
-use Rattle.session.specs.Calls.{imageOf, isEnter, most, PressingKey}
+use Rattle.session.specs.Calls.{imageOf, isEnter, keyRoom, PressingKey}
 use Rattle.session.specs.declared.standing.Session.{Session}
 use Rattle.session.specs.declared.pressing.Pressing.{Pressing as Press}
 use Rattle.history.specs.Slots.{good}
 use Rattle.history.specs.Answer.{entriesIn, Addition}
 use Rattle.history.specs.Steps.{back, onward}
-use Rattle.history.specs.declared.past.History.{History}
+use Rattle.history.specs.declared.stepping.History.{History}
 use Rattle.history.specs.declared.adding.Added.the-variants.{Done}
 use Rattle.screen.specs.Decimal.{decimal, valueOf}
 use Rattle.screen.specs.Redraw.{redraw}
 use Rattle.screen.proofs.Numerals.{Digits, decimal-one, decimal-value, decimal-digits, decimal-lead}
 use Rattle.editor.specs.declared.line.Editor.{Editor}
-use Rattle.editor.specs.declared.drawing.Key.{Key}
+use Rattle.editor.specs.declared.drawing.KeyAnswer.{KeyAnswer}
 use Rattle.editor.specs.Keys.{State, turnOf}
 use Rattle.editor.specs.Answer.{stateOf, goodState, refused, Pressing}
 use Rattle.editor.proofs.Fine.{Fine}
@@ -91,7 +91,7 @@ redraws = same-redraw
 -- THE LINE EDITOR (001, with 002's previous, next and clear_line_and_redraw): a key that is taken in a good state does what one turn of the Rust's loop does. It leaves the loop's line,
 -- cursor, mode and history, shows the bytes that the loop writes first, and at Enter gives back the line that the loop runs, with its length; what the loop does besides, running that line
 -- and the prompt after it, is the caller's. `PressesAs` says so over the loop's events, which stand in its order.
-pub key : (e : Editor) (h : History) (slots prompt : List ℕ) (byte : ℕ) (line screen : List ℕ) (k : Key) (slots′ line′ screen′ : List ℕ)
+pub key : (e : Editor) (h : History) (slots prompt : List ℕ) (byte : ℕ) (line screen : List ℕ) (k : KeyAnswer) (slots′ line′ screen′ : List ℕ)
     → Pressing e h slots prompt byte line screen k slots′ line′ screen′ → refused (k .answer) ≡ false → goodState e h slots ≡ true
     → PressesAs prompt (rustKey prompt (shellOf (stateOf e h slots)) byte) line screen (shellOf (stateOf (k .editor) (k .history) slots′)) (k .answer) line′ screen′
 key = presses-as
@@ -132,7 +132,7 @@ whole-session = session-printed
 
 -- and so does the call: what `press` leaves, with room and in a good state, are the loop's state and the house lines of those frames
 pub press : (h : Session) (image slots : List ℕ) (byte : ℕ) (out : List ℕ) (r : Press) (slots′ out′ : List ℕ) → PressingKey h image slots byte out r slots′ out′
-    → most ≤ length out → goodState (h .editor) (h .history) slots ≡ true → (f : Forest) → (isEnter byte ≡ true → StandsFor (imageOf h image) f)
+    → keyRoom ≤ length out → goodState (h .editor) (h .history) slots ≡ true → (f : Forest) → (isEnter byte ≡ true → StandsFor (imageOf h image) f)
     → (printable : ℕ → Bool) → EachQuoted printable (commandsOf f) (turnFrom (stateOf (h .editor) (h .history) slots) byte .events)
     → PrintsAs printable (commandsOf f) (turnFrom (stateOf (h .editor) (h .history) slots) byte) out (shellOf (stateOf (r .session .editor) (r .session .history) slots′)) (r .answer) out′
 press = press-printed

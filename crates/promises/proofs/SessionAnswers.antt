@@ -11,7 +11,7 @@ use Rattle.history.specs.Slots.{layout}
 use Rattle.editor.specs.Answer.{goodState}
 use Rattle.session.specs.Lines.{Standing, beginning, takeLine, pressKey}
 use Rattle.session.specs.Held.{Laid}
-use Rattle.session.specs.Calls.{fresh, TakingLine, imageOf, isEnter, treeBefore, most, Kept, PressingKey, RefusingLine}
+use Rattle.session.specs.Calls.{fresh, TakingLine, imageOf, isEnter, treeBefore, keyRoom, Kept, PressingKey, RefusingLine}
 use Rattle.session.specs.Answer.{number, value, lineNumber, lineValue}
 use Rattle.session.specs.declared.running.Printing.{Printing}
 use Rattle.session.specs.declared.standing.Session.{Session}
@@ -29,15 +29,15 @@ use Rattle.session.proofs.Followed.{Brings, line-held}
 
 -- PRESS: 9, then 1 at a 0D or a 0A, then 12; each keeps the session and every byte
 module _ (h : Session) (image slots : List ℕ) (byte : ℕ) (out : List ℕ) (r : Pressing) (slots′ out′ : List ℕ) (p : PressingKey h image slots byte out r slots′ out′) where
-  pub press-9 : length out < most → (number (r .answer) ≡ 9) × (value (r .answer) ≡ most) × Kept h slots out r slots′ out′
+  pub press-9 : length out < keyRoom → (number (r .answer) ≡ 9) × (value (r .answer) ≡ keyRoom) × Kept h slots out r slots′ out′
   press-9 e = (ap number (p .short e .0), ap value (p .short e .0), p .short e .1)
 
-  pub press-1 : most ≤ length out → (n : ℕ) → isEnter byte ≡ true → checkTree (imageOf h image) ≡ BadFrame n
+  pub press-1 : keyRoom ≤ length out → (n : ℕ) → isEnter byte ≡ true → checkTree (imageOf h image) ≡ BadFrame n
       → (number (r .answer) ≡ 1) × (value (r .answer) ≡ n) × Kept h slots out r slots′ out′
   unfolding treeBefore
   press-1 m n e f = let told = p .badTree m n (then-is _ _ _ e ∙ f) in (ap number (told .0), ap value (told .0), told .1)
 
-  pub press-12 : most ≤ length out → treeBefore byte (imageOf h image) ≡ Good → goodState (h .editor) (h .history) slots ≡ false
+  pub press-12 : keyRoom ≤ length out → treeBefore byte (imageOf h image) ≡ Good → goodState (h .editor) (h .history) slots ≡ false
       → (number (r .answer) ≡ 12) × (value (r .answer) ≡ 0) × Kept h slots out r slots′ out′
   press-12 m g e = let told = p .badState m g e in (ap number (told .0), ap value (told .0), told .1)
 
@@ -73,7 +73,7 @@ module _ (s : Standing) (h : Session) (image slots : List ℕ) (k : Holds s h im
       → Brings (takeLine s line) image slots r image′ frame′
   lines = line-held s h image slots k
 
-  pub keys : (byte : ℕ) (out : List ℕ) (r : Pressing) (slots′ out′ : List ℕ) → most ≤ length out → PressingKey h image slots byte out r slots′ out′
+  pub keys : (byte : ℕ) (out : List ℕ) (r : Pressing) (slots′ out′ : List ℕ) → keyRoom ≤ length out → PressingKey h image slots byte out r slots′ out′
       → Laid (pressKey s byte .prints) (pressKey s byte .ends) out (r .answer) out′ × Holds (pressKey s byte .after) (r .session) image slots′
   keys = key-held s h image slots k
 

@@ -7,24 +7,24 @@ use lib.Dec.{ltb}
 use lib.ListN.{length}
 
 -- what a call tells: the refusal's number in 01 (0: none), the value that goes with it, and what stands in each lent buffer and state
-pub record Told (L : Type 0) : Type 0 where
+pub record Answered (L : Type 0) : Type 0 where
   pub number : ℕ
   pub value : ℕ
   pub left : L
 
-abbrev pub told : {L : Type 0} → ℕ → ℕ → L → Told L
+abbrev pub told : {L : Type 0} → ℕ → ℕ → L → Answered L
 told number value left = record { number = number; value = value; left = left }
 
 -- a row: the number, when it is answered, the value, and what is left
 pub record Row (L : Type 0) : Type 0 where
   pub when : Bool
-  pub tells : Told L
+  pub tells : Answered L
 
 abbrev pub row : {L : Type 0} → ℕ → Bool → ℕ → L → Row L
 row number when value left = record { when = when; tells = told number value left }
 
 -- the first row that applies; if none does, nothing is refused
-unfoldable pub first : {L : Type 0} → List (Row L) → Told L → Told L
+unfoldable pub first : {L : Type 0} → List (Row L) → Answered L → Answered L
 first [] done = done
 first (r ∷ rows) done = cond (r .when) (r .tells) (first rows done)
 

@@ -21,9 +21,9 @@ use Rattle.text.specs.Apart.{ended}
 use Rattle.frame.specs.Text.{Bytes}
 use Rattle.frame.specs.Framed.{frameOf}
 use Rattle.frame.proofs.Frames.{frame-back, frame-within}
-use Rattle.words.specs.declared.turn.Turn.{Turn}
-use Rattle.words.specs.declared.turn.Turn.the-variants.{Take, Escape, Toggle, Gap}
-use Rattle.words.specs.Tokens.{turnOf, onTurn, tokensFrom, tokens, wordsOf, framesOf}
+use Rattle.words.specs.declared.role.Role.{Role}
+use Rattle.words.specs.declared.role.Role.the-variants.{Take, Escape, Toggle, Gap}
+use Rattle.words.specs.Tokens.{roleOf, onRole, tokensFrom, tokens, wordsOf, wordFrames}
 use Rattle.words.proofs.Kept.{Each, nothing, also, Good}
 use Rattle.quote.specs.Given.{Listed, done, broken, word, listedFrom, listed, goodWord, Judged, bad, fine, before, judge}
 use Rattle.quote.specs.Joined.{gap, joinedFrom, joined}
@@ -33,15 +33,15 @@ use Rattle.quote.specs.declared.given.Item.{Item}
 use Rattle.quote.specs.declared.given.Item.the-variants.{Word, Bad}
 use Rattle.quote.proofs.Listing.{good-some, good-formed, item-told, judge-first, judge-bad}
 
-tokens-step : (w : List ℕ) (quotes after : Bool) (code : ℕ) (codes : List ℕ) (t : Turn) → turnOf quotes after code ≡ t
+tokens-step : (w : List ℕ) (quotes after : Bool) (code : ℕ) (codes : List ℕ) (t : Role) → roleOf quotes after code ≡ t
     → tokensFrom w quotes after (code ∷ codes)
-    ≡ onTurn t (λ _. tokensFrom (w ++ (code ∷ [])) quotes false codes) (λ _. tokensFrom w quotes true codes) (λ _. tokensFrom w (not quotes) false codes)
+    ≡ onRole t (λ _. tokensFrom (w ++ (code ∷ [])) quotes false codes) (λ _. tokensFrom w quotes true codes) (λ _. tokensFrom w (not quotes) false codes)
     (λ _. ended w (tokensFrom [] quotes false codes))
 unfolding tokensFrom
 tokens-step w quotes after code codes t e =
     ap
-    (λ (x : Turn).
-    onTurn x (λ _. tokensFrom (w ++ (code ∷ [])) quotes false codes) (λ _. tokensFrom w quotes true codes) (λ _. tokensFrom w (not quotes) false codes)
+    (λ (x : Role).
+    onRole x (λ _. tokensFrom (w ++ (code ∷ [])) quotes false codes) (λ _. tokensFrom w quotes true codes) (λ _. tokensFrom w (not quotes) false codes)
     (λ _. ended w (tokensFrom [] quotes false codes)))
     e
 
@@ -54,28 +54,28 @@ not-special code e = by (eqb code 0x22) refl e
     by true p q = absurd (true-is-not-false q)
     by false p q = (p, q)
 
-turn-inside : (code : ℕ) → special code ≡ false → turnOf true false code ≡ Take
-unfolding turnOf
+turn-inside : (code : ℕ) → special code ≡ false → roleOf true false code ≡ Take
+unfolding roleOf
 turn-inside code e = let s = not-special code e in else-is _ _ _ (s .1) ∙ else-is _ _ _ (s .0)
 
-turn-outside : (code : ℕ) → special code ≡ false → isWhiteSpace code ≡ false → turnOf false false code ≡ Take
-unfolding turnOf
+turn-outside : (code : ℕ) → special code ≡ false → isWhiteSpace code ≡ false → roleOf false false code ≡ Take
+unfolding roleOf
 turn-outside code e f = let s = not-special code e in else-is _ _ _ (s .1) ∙ else-is _ _ _ (s .0) ∙ else-is _ _ _ f
 
-turn-after : (code : ℕ) → turnOf true true code ≡ Take
-unfolding turnOf
+turn-after : (code : ℕ) → roleOf true true code ≡ Take
+unfolding roleOf
 turn-after code = refl
 
-turn-backslash : turnOf true false 0x5C ≡ Escape
-unfolding turnOf
+turn-backslash : roleOf true false 0x5C ≡ Escape
+unfolding roleOf
 turn-backslash = refl
 
-turn-quote : (quotes : Bool) → turnOf quotes false 0x22 ≡ Toggle
-unfolding turnOf
+turn-quote : (quotes : Bool) → roleOf quotes false 0x22 ≡ Toggle
+unfolding roleOf
 turn-quote quotes = refl
 
-turn-space : turnOf false false 0x20 ≡ Gap
-unfolding turnOf isWhiteSpace among whiteSpace
+turn-space : roleOf false false 0x20 ≡ Gap
+unfolding roleOf isWhiteSpace among whiteSpace
 turn-space = refl
 
 -- a plain word is taken as it stands
@@ -282,23 +282,23 @@ nothing-fine : (ws : List (List ℕ)) → judge (listed []) ≡ fine ws → [] �
 unfolding listedFrom listed judge
 nothing-fine ws e = fine-is [] ws e
 
-nothing-framed : framesOf [] ≡ []
-unfolding framesOf
+nothing-framed : wordFrames [] ≡ []
+unfolding wordFrames
 nothing-framed = refl
 
-step-back : (s w rest : List ℕ) (ws : List (List ℕ)) → s ≡ frameOf 0x14 w ++ rest → (j : Judged) → ((vs : List (List ℕ)) → j ≡ fine vs → framesOf vs ≡ rest)
-    → before w j ≡ fine ws → framesOf ws ≡ s
-unfolding framesOf
+step-back : (s w rest : List ℕ) (ws : List (List ℕ)) → s ≡ frameOf 0x14 w ++ rest → (j : Judged) → ((vs : List (List ℕ)) → j ≡ fine vs → wordFrames vs ≡ rest)
+    → before w j ≡ fine ws → wordFrames ws ≡ s
+unfolding wordFrames
 step-back s w rest ws q (fine vs) h e = rw (sym (fine-is (w ∷ vs) ws e)) (ap (λ (l : List ℕ). frameOf 0x14 w ++ l) (h vs refl) ∙ sym q)
 step-back s w rest ws q (bad k) h e = absurd (not-fine (suc k) ws e)
 
-frames-within : (k : ℕ) (s : List ℕ) (ws : List (List ℕ)) → length s < k → Bytes s → judge (listed s) ≡ fine ws → framesOf ws ≡ s
+frames-within : (k : ℕ) (s : List ℕ) (ws : List (List ℕ)) → length s < k → Bytes s → judge (listed s) ≡ fine ws → wordFrames ws ≡ s
 frames-within zero s ws h b e = absurd (omega arith)
 frames-within (suc k) [] ws h b e = rw (sym (nothing-fine ws e)) nothing-framed
 frames-within (suc k) (a ∷ s) ws h b e = by (itemFirst (a ∷ s)) refl (λ t vs l c r. frames-within k t vs l c r)
   where
-    by : (i : Item) → itemFirst (a ∷ s) ≡ i → ((t : List ℕ) (vs : List (List ℕ)) → length t < k → Bytes t → judge (listed t) ≡ fine vs → framesOf vs ≡ t)
-        → framesOf ws ≡ a ∷ s
+    by : (i : Item) → itemFirst (a ∷ s) ≡ i → ((t : List ℕ) (vs : List (List ℕ)) → length t < k → Bytes t → judge (listed t) ≡ fine vs → wordFrames vs ≡ t)
+        → wordFrames ws ≡ a ∷ s
     by Bad q again = absurd (not-fine 0 ws (sym (judge-bad (a ∷ s) (omega arith) q) ∙ e))
     by (Word n size) q again =
         let t = item-told (a ∷ s) n size q .word in
@@ -308,12 +308,12 @@ frames-within (suc k) (a ∷ s) ws h b e = by (itemFirst (a ∷ s)) refl (λ t v
         step-back (a ∷ s) (take n (drop 3 (a ∷ s))) rest ws (frame-back (a ∷ s) 0x14 n b (t .head)) (judge (listed rest))
         (λ vs r. again rest vs (omega arith) (bytes-behind (a ∷ s) (3 + n) b) r) (sym (judge-first (a ∷ s) n t) ∙ e)
 
-pub frames-back : (words : List ℕ) (ws : List (List ℕ)) → Bytes words → judge (listed words) ≡ fine ws → framesOf ws ≡ words
+pub frames-back : (words : List ℕ) (ws : List (List ℕ)) → Bytes words → judge (listed words) ≡ fine ws → wordFrames ws ≡ words
 frames-back words ws b e = frames-within (suc (length words)) words ws (omega arith) b e
 
 pub written-back : (words : List ℕ) (ws : List (List ℕ)) → Bytes words → judge (listed words) ≡ fine ws → written (quoteLine ws) ≡ words
 unfolding written
-written-back words ws b e = ap framesOf (given-back words ws e) ∙ frames-back words ws b e
+written-back words ws b e = ap wordFrames (given-back words ws e) ∙ frames-back words ws b e
 
 -- The two calls together: where `quote` writes a line, `tokenize` of that line writes the frames that `quote` was given.
 pub call-back : (words out : List ℕ) (ws : List (List ℕ)) → Bytes words → judge (listed words) ≡ fine ws → length (quoteLine ws) ≤ 1024 → length words ≤ length out

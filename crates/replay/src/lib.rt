@@ -3,4 +3,4 @@ pub mod answer;
 pub mod hex;
 pub mod input;
 pub mod line;
-pub mod tree;
+pub mod planting;

@@ -1,6 +1,6 @@
 // Replays stored sessions of the original's loop: writes what the crate editor shows for the same keys, and the history that they leave.
+mod keys;
 mod sample;
-mod stream;
 
 fn main() {
     sample::all();

@@ -1,8 +1,8 @@
 // The stored sample: each line of the input is a session in hexadecimal, and is answered by a line with what the session prints.
 use crate::ways::WAYS;
 use crate::ways::replay_by;
+use buffer::part;
 use buffer::same;
-use image::part;
 use libc::STDOUT_FILENO;
 use replay::hex::read_hex;
 use replay::input::line_end;

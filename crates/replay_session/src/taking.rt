@@ -1,6 +1,6 @@
 // The loop of `console`: step over what is left of a piece, keep what is printed, and go on to the next piece when this one is taken and no key waits.
-use image::part;
-use image::rest;
+use buffer::part;
+use buffer::rest;
 use replay::line::put_all;
 use stream::Stream;
 use stream::finish;
@@ -15,14 +15,14 @@ ghost use Rattle.stream.specs.Bytes.{lineRoom};
 ghost use Rattle.stream.specs.Held.{busyWith, Sound};
 
 // A stream, how many bytes of its piece are taken, and how many are printed.
-pub struct Told {
+pub struct Taken {
     pub stream: Stream,
     pub took: usize,
     pub printed: usize,
 }
 
 // Whether nothing is left to do with a piece of so many bytes.
-fn is_done(told: Told, length: usize) -> bool {
+fn is_done(told: Taken, length: usize) -> bool {
     let stream = told.stream;
     if stream.over {
         return true;
@@ -35,21 +35,21 @@ fn is_done(told: Told, length: usize) -> bool {
 
 // A step over what is left of a piece.
 fn turn(
-    told: Told,
+    told: Taken,
     piece: &[u8],
     line: &mut [u8],
     image: &mut [u8],
     slots: &mut [u8],
     out: &mut [u8],
     answer: &mut [u8],
-) -> Told
+) -> Taken
     requires { ⌜ Sound (told .stream) (now line) (now image) (now slots) × (told .took ≤ length (now piece)) ⌝ }
     ensures { λ r. ⌜ Sound (r .stream) (now (line .exit)) (now (image .exit)) (now (slots .exit)) × (r .took ≤ length (now (piece .entry))) ⌝ }
 {
     let before = told.stream;
     let next = step(before, rest(piece, told.took), line, image, slots, out);
     let stream = next.stream;
-    Told {
+    Taken {
         stream,
         took: told.took + next.took,
         printed: put_all(part(out, 0, next.printed), answer, told.printed),
@@ -58,14 +58,14 @@ fn turn(
 
 // Takes a whole piece. A proved loop has to end, so its turns are counted down from a number that no piece uses up.
 fn take_piece(
-    told: Told,
+    told: Taken,
     piece: &[u8],
     line: &mut [u8],
     image: &mut [u8],
     slots: &mut [u8],
     out: &mut [u8],
     answer: &mut [u8],
-) -> Told
+) -> Taken
     requires { ⌜ Sound (told .stream) (now line) (now image) (now slots) × (told .took ≤ length (now piece)) ⌝ }
     ensures { λ r. ⌜ Sound (r .stream) (now (line .exit)) (now (image .exit)) (now (slots .exit)) ⌝ }
 {
@@ -115,7 +115,7 @@ pub fn take_all(
 ) -> usize
     requires { ⌜ (length (now line) ≡ lineRoom) × (length (now image) ≡ 32768) × (now slots ≡ layout []) × (0 < size) × (7 ≤ length (now out)) ⌝ }
 {
-    let mut told = Told {
+    let mut told = Taken {
         stream: Stream::start(),
         took: 0,
         printed: 0,
@@ -123,7 +123,7 @@ pub fn take_all(
     let mut at = 0;
     while at < session.len() {
         let stream = told.stream;
-        let next = Told {
+        let next = Taken {
             stream,
             took: 0,
             printed: told.printed,

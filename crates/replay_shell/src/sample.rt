@@ -1,12 +1,12 @@
 // The stored sample: a line of the input is a tree behind `=`, or a line to run under the last tree, and is answered by a line.
 use crate::answer::put_answer;
-use image::part;
+use buffer::part;
 use replay::hex::read_hex;
 use replay::input::line_end;
 use replay::input::read_input;
 use replay::line;
-use replay::tree::is_tree;
-use replay::tree::read_tree;
+use replay::planting::is_tree;
+use replay::planting::read_tree;
 
 // Writes a text and what is answered for it.
 fn answer(image: &[u8], text: &[u8]) {

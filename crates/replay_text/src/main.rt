@@ -1,13 +1,13 @@
 // Replays stored answers of Rust's own text functions: writes what the crate text answers for the same inputs.
+mod codes;
 mod parts;
 mod sample;
-mod table;
 mod white;
 
 fn main() {
-    table::one_byte();
-    table::two_bytes();
-    table::codes();
+    codes::one_byte();
+    codes::two_bytes();
+    codes::codes();
     white::list();
     sample::all();
 }

@@ -1,9 +1,9 @@
 // The trees of the crate trees as house lines, one frame a line, held against the files of trees/, which lie in this crate's data.
 ghost use Rattle.io.specs.Counts.{Counts};
+use buffer::part;
 use buffer::same;
 use image::Head;
 use image::head_at;
-use image::part;
 use replay::line;
 
 // The size of the frame at a place, 0 where there is none.

@@ -2,7 +2,7 @@
 use Prim.Native.Nat.{ℕ}
 use mathlib.Core.Path.{_≡_, refl}
 use mathlib.Core.List.{List, [], _∷_}
-use Rattle.frame.specs.Text.{number, textOf}
+use Rattle.frame.specs.Text.{numberBytes, textOf}
 use Rattle.frame.specs.Framed.{frameOf}
 use Rattle.frame.specs.Series.{runs}
 use Rattle.report.specs.Report.{optionFrame, flagFrame, reportOf, faultOf, dashed, reportAnswer}
@@ -27,7 +27,7 @@ m9 : reportOf (set ∷ []) ((config, x) ∷ []) ((long, []) ∷ []) []
     ∷ 0x12 ∷ 0x00 ∷ 0x06 ∷ 0x63 ∷ 0x6F ∷ 0x6E ∷ 0x66 ∷ 0x69 ∷ 0x67 ∷ 0x00 ∷ 0x01 ∷ 0x78
     ∷ 0x13 ∷ 0x00 ∷ 0x04 ∷ 0x6C ∷ 0x6F ∷ 0x6E ∷ 0x67
     ∷ []
-unfolding reportOf runs optionFrame flagFrame frameOf textOf number set config long x
+unfolding reportOf runs optionFrame flagFrame frameOf textOf numberBytes set config long x
 m9 = refl
 
 -- M14, `set -c x -`: the option, and the positional `-`
@@ -36,18 +36,18 @@ m14 : reportOf (set ∷ []) ((config, x) ∷ []) [] ((0x2D ∷ []) ∷ [])
     ∷ 0x12 ∷ 0x00 ∷ 0x06 ∷ 0x63 ∷ 0x6F ∷ 0x6E ∷ 0x66 ∷ 0x69 ∷ 0x67 ∷ 0x00 ∷ 0x01 ∷ 0x78
     ∷ 0x14 ∷ 0x00 ∷ 0x01 ∷ 0x2D
     ∷ []
-unfolding reportOf runs optionFrame flagFrame frameOf textOf number set config x
+unfolding reportOf runs optionFrame flagFrame frameOf textOf numberBytes set config x
 m14 = refl
 
 -- M10, `set -cl x`: the fault's text is `-c`; it takes five bytes, and four are no room
 m10 : faultOf (dashed 1 (0x63 ∷ [])) ≡ 0x1E ∷ 0x00 ∷ 0x02 ∷ 0x2D ∷ 0x63 ∷ []
-unfolding faultOf dashed frameOf textOf number
+unfolding faultOf dashed frameOf textOf numberBytes
 m10 = refl
 
 fits : reportAnswer (faultOf (dashed 1 (0x63 ∷ []))) 5 ≡ Report 5
-unfolding reportAnswer faultOf dashed frameOf textOf number
+unfolding reportAnswer faultOf dashed frameOf textOf numberBytes
 fits = refl
 
 short : reportAnswer (faultOf (dashed 1 (0x63 ∷ []))) 4 ≡ NoRoom 5
-unfolding reportAnswer faultOf dashed frameOf textOf number
+unfolding reportAnswer faultOf dashed frameOf textOf numberBytes
 short = refl

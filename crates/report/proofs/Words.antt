@@ -12,8 +12,8 @@ use Rattle.buffer.specs.Write.{Written}
 use Rattle.frame.specs.Text.{readText}
 use Rattle.frame.specs.Framed.{frameOf, frameFirst}
 use Rattle.frame.specs.Series.{textsIn, runs}
-use Rattle.frame.specs.declared.text.Text.{Text}
-use Rattle.frame.specs.declared.text.Text.the-variants.{Whole, Broken as NoText}
+use Rattle.frame.specs.declared.prefixed.Text.{Text}
+use Rattle.frame.specs.declared.prefixed.Text.the-variants.{Whole, Broken as NoText}
 use Rattle.frame.specs.declared.framed.Framed.{Framed}
 use Rattle.frame.specs.declared.framed.Framed.the-variants.{Frame}
 use Rattle.frame.proofs.framed.Framed.{the-type}

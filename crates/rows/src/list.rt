@@ -2,7 +2,7 @@
 use super::row::Listing;
 use super::row::listed_size;
 use super::row::put_row;
-use image::rest;
+use buffer::rest;
 use ink::put;
 ghost use mathlib.Core.Path.{_≡_};
 ghost use Prim.Native.Nat.{_+_, _*_, _<_, _≤_};

@@ -1,8 +1,8 @@
 // One row of a list: what a frame gives in it, and where the list ends.
+use buffer::part;
 use image::Head;
 use image::Lengths;
 use image::head_of;
-use image::part;
 use ink::put;
 use ink::put_byte;
 ghost use mathlib.Core.Path.{_≡_};

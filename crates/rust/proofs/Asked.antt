@@ -49,10 +49,10 @@ abbrev pub Whole : List ℕ → Type 0
 Whole w = encodeAll (codesIn w) ≡ w
 
 -- the Rust's `Debug` text of such a word is ours
-abbrev pub Told : (ℕ → Bool) → List ℕ → Type 0
-Told printable w = debugChars printable (codesIn w) ≡ debugBytes w
+abbrev pub AsIs : (ℕ → Bool) → List ℕ → Type 0
+AsIs printable w = debugChars printable (codesIn w) ≡ debugBytes w
 
-pub whole-told : (printable : ℕ → Bool) (w : List ℕ) → Whole w → allPrinted printable (codesIn w) ≡ true → Told printable w
+pub whole-told : (printable : ℕ → Bool) (w : List ℕ) → Whole w → allPrinted printable (codesIn w) ≡ true → AsIs printable w
 whole-told printable w e p = chars-same printable (codesIn w) p ∙ ap debugBytes e
 
 scalars-both : (a b : List ℕ) → Scalars a → Scalars b → Scalars (a ++ b)

@@ -11,7 +11,7 @@ use Rattle.buffer.specs.Write.{over}
 use Rattle.text.specs.Decoding.{wellFormedLength}
 use Rattle.text.specs.Apart.{wordsBetween}
 use Rattle.frame.specs.Framed.{frameOf}
-use Rattle.words.specs.Tokens.{wordsOf, framesOf as wordFrames}
+use Rattle.words.specs.Tokens.{wordsOf, wordFrames}
 use Rattle.words.specs.Answer.{written, answerFor as wordsAnswer, leavesBy as wordsLeft, leavesFor as wordsLeave, Tokenized}
 use Rattle.words.specs.declared.tokenizer.Tokens.{Tokens}
 use Rattle.words.specs.declared.tokenizer.Tokens.the-variants.{Words, NoRoom as WordsNoRoom}

@@ -9,7 +9,7 @@ use Rattle.text.specs.Decoding.{leastSecond, greatestSecond, within, decodeTwo,
 use Rattle.text.specs.Space.{whiteSpace, among, isWhiteSpace}
 use Rattle.text.specs.Apart.{behindRun, trimEnd, trimmed, wordsAfter, wordsBetween}
 use Rattle.frame.specs.Hex.{digitOf}
-use Rattle.frame.specs.Text.{number, textOf}
+use Rattle.frame.specs.Text.{numberBytes, textOf}
 use Rattle.frame.specs.Framed.{frameOf}
 use Rattle.frame.specs.Series.{runs as frameRuns}
 use Rattle.image.specs.Frames.{absent, present, option, flag}
@@ -113,5 +113,5 @@ sessions :
     ≡ screen (0x0A ∷ []) ∷ screen (ascii "Error: Input contains invalid UTF-8 characters\n") ∷ screen (ascii "axvisor:$ ") ∷ [])
     × (printedBy all tree (turnFrom (record { line = ascii "exit"; cursor = 4; mode = Typing; entries = []; place = 0 }) 0x0D .events) ≡ screen (0x0A ∷ []) ∷ screen (ascii "Goodbye!\n") ∷ exit ∷ [])
     × (endedBy all tree (turnFrom (record { line = ascii "exit"; cursor = 4; mode = Typing; entries = []; place = 0 }) 0x0D .events) ≡ true)
-unfolding forest tree ascii sameBytes order insertNode get someOf optionDefs flagDefs commandsOf all decodeFirst table decodeTwo decodeThree decodeFour leastSecond greatestSecond within piecesFrom piecesOf codesOf codesIn bytesAll encode encodeAll among whiteSpace isWhiteSpace behindRun trimEnd trimmed wordsAfter wordsBetween wellFormedLength closed tokenizeFrom tokenize insert containsKey deepest findCommand any find isOption isFlag isShortOption isShortFlag optionNameByShort flagNameByShort stripPrefix startsWith findEquals optionValue longName shortNames shortOrPositional long turn parseArgsFrom parseArgs validateRequired parseCommand parseTokens parse println leftIn join forEach forEachNode labelStr optionLine flagLine nodeLine helpLines nodeUnder showHelp availableLine showAvailableCommands isUtf8 utf8OrEmpty along nodeAt report handle executeCommand runCmdBytes digitOf hexIn escapeUnicode isPrintable escapeDebug debugChars debugError handleBuiltinCommands runLine enter textOf number frameOf frameRuns optionFrame flagFrame reportOf keysOf reportFor digitsIn decimal last pushed kept addCommand clearLineAndRedraw promptWithoutFs crlf other normal rustIn rustKey rustKeys shown printedBy endedBy
+unfolding forest tree ascii sameBytes order insertNode get someOf optionDefs flagDefs commandsOf all decodeFirst table decodeTwo decodeThree decodeFour leastSecond greatestSecond within piecesFrom piecesOf codesOf codesIn bytesAll encode encodeAll among whiteSpace isWhiteSpace behindRun trimEnd trimmed wordsAfter wordsBetween wellFormedLength closed tokenizeFrom tokenize insert containsKey deepest findCommand any find isOption isFlag isShortOption isShortFlag optionNameByShort flagNameByShort stripPrefix startsWith findEquals optionValue longName shortNames shortOrPositional long turn parseArgsFrom parseArgs validateRequired parseCommand parseTokens parse println leftIn join forEach forEachNode labelStr optionLine flagLine nodeLine helpLines nodeUnder showHelp availableLine showAvailableCommands isUtf8 utf8OrEmpty along nodeAt report handle executeCommand runCmdBytes digitOf hexIn escapeUnicode isPrintable escapeDebug debugChars debugError handleBuiltinCommands runLine enter textOf numberBytes frameOf frameRuns optionFrame flagFrame reportOf keysOf reportFor digitsIn decimal last pushed kept addCommand clearLineAndRedraw promptWithoutFs crlf other normal rustIn rustKey rustKeys shown printedBy endedBy
 sessions = (refl, refl, refl, refl, refl)

@@ -15,9 +15,9 @@ use Rattle.tree.specs.Subtrees.{subtree}
 use Rattle.tree.specs.Commands.{Reached, descend}
 use Rattle.ink.specs.Ascii.{ascii}
 use Rattle.message.specs.Messages.{message}
-use Rattle.message.specs.declared.told.Told.the-variants.{UnknownCommand as TellUnknown, UnknownOption as TellOption, MissingValue as TellValue, MissingRequired as TellRequired, NoHandler as TellHandler}
-use Rattle.scan.specs.Meanings.{definitionsOf}
-use Rattle.scan.specs.Arguments.{Found, noneFound, Stand, go, wait, unknownOption, missingValue, args}
+use Rattle.message.specs.declared.error.ParseError.the-variants.{UnknownCommand as TellUnknown, UnknownOption as TellOption, MissingValue as TellValue, MissingRequired as TellRequired, NoHandler as TellHandler}
+use Rattle.arguments.specs.Meanings.{definitionsOf}
+use Rattle.arguments.specs.Arguments.{Found, noneFound, Stand, go, wait, unknownOption, missingValue, args}
 use Rattle.parse.specs.Commands.{Outcome, parsed, fault, missingRequired, onMissing, outcomeOf, concluded, parseIn}
 use Rattle.parse.specs.Answer.{toldIn}
 use Rattle.shell.specs.Lines.{text, handed as handsOver, joined, faultMessage, handlerOf as handlerIn, carried, executeIn, execute}

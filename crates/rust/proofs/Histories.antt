@@ -16,9 +16,9 @@ use Rattle.history.specs.Entries.{mostEntries, newestIs, isNew, withRoom, added
 use Rattle.history.specs.Slots.{good}
 use Rattle.history.specs.Answer.{atEnd, entriesIn, entriesAfter, addAnswer, historyBy, slotsBy, Addition}
 use Rattle.history.specs.Steps.{back, recalledAt, onward}
-use Rattle.history.specs.declared.past.History.{History}
-use Rattle.history.specs.declared.past.Recalled.the-variants.{Entry, Nothing}
-use Rattle.history.specs.declared.past.Step.{Step}
+use Rattle.history.specs.declared.stepping.History.{History}
+use Rattle.history.specs.declared.stepping.Recalled.the-variants.{Entry, Nothing}
+use Rattle.history.specs.declared.stepping.Step.{Step}
 use Rattle.history.specs.declared.adding.Added.{Added}
 use Rattle.history.specs.declared.adding.Added.the-variants.{Done}
 use Rattle.history.proofs.Layouts.{length-entries, entries-layout}

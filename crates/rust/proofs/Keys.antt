@@ -16,8 +16,9 @@ use Rattle.buffer.specs.Write.{over}
 use Rattle.text.specs.Decoding.{wellFormedLength}
 use Rattle.text.specs.Apart.{blank}
 use Rattle.text.proofs.Prefix.{prefix-fits}
-use Rattle.history.specs.Entries.{wellFormed, usable, sound}
-use Rattle.history.specs.declared.past.History.{History}
+use Rattle.text.specs.Decoding.{wellFormed}
+use Rattle.history.specs.Entries.{usable, sound}
+use Rattle.history.specs.declared.stepping.History.{History}
 use Rattle.history.proofs.States.{holds, short-at}
 use Rattle.screen.specs.Decimal.{decimal}
 use Rattle.screen.specs.Redraw.{clearLine, moveBack, redraw}
@@ -25,7 +26,7 @@ use Rattle.screen.proofs.Drawing.{move-none, move-some}
 use Rattle.editor.specs.declared.line.Mode.{Mode}
 use Rattle.editor.specs.declared.line.Mode.the-variants.{Typing, Escape, Sequence}
 use Rattle.editor.specs.declared.line.Editor.{Editor}
-use Rattle.editor.specs.declared.drawing.Key.{Key}
+use Rattle.editor.specs.declared.drawing.KeyAnswer.{KeyAnswer}
 use Rattle.editor.specs.Line.{limit, inserted, erased, content}
 use Rattle.editor.specs.Keys.{State, Kind, shows, enters, drops, Turn, lineFeed, showing, redrawn, redrawing, inMode, withLine, atPlace, enter, erase, insert, typed, escaped, recalling, up, onPlace, down, right, left, sequenced, turnIn, turnOf}
 use Rattle.editor.specs.Answer.{stateOf, goodState, taken, refused, Pressing}
@@ -306,7 +307,7 @@ module _ (prompt : List ℕ) (t : Turn) where
   told-as drops e = refl
 
 -- a key that is taken in a good state does what one turn of the Rust's loop does
-module _ (e : Editor) (h : History) (slots prompt : List ℕ) (byte : ℕ) (line screen : List ℕ) (k : Key) (slots′ line′ screen′ : List ℕ)
+module _ (e : Editor) (h : History) (slots prompt : List ℕ) (byte : ℕ) (line screen : List ℕ) (k : KeyAnswer) (slots′ line′ screen′ : List ℕ)
     (p : Pressing e h slots prompt byte line screen k slots′ line′ screen′) (is : refused (k .answer) ≡ false) (g : goodState e h slots ≡ true) where
   turn : Turn
   turn = turnOf prompt (stateOf e h slots) byte

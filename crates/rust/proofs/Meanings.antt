@@ -11,7 +11,7 @@ use Rattle.buffer.specs.Compare.{sameBytes}
 use Rattle.image.specs.Frames.{Perhaps, absent, present, Frame, node, option, flag}
 use Rattle.lookup.specs.Searches.{keyed}
 use Rattle.lookup.specs.Definitions.{hasKey, hasShort, shortIs, flagWith, optionWith}
-use Rattle.scan.specs.Meanings.{firstName, Means, aFlag, anOption, nothing, flagElse, meaning}
+use Rattle.arguments.specs.Meanings.{firstName, Means, aFlag, anOption, nothing, flagElse, meaning}
 use Rattle.rust.specs.Std.{ifSome}
 use Rattle.rust.specs.Tree.{OptionDef, FlagDef, someOf, textOf, optionDefs, flagDefs}
 use Rattle.rust.specs.Parser.{any, find, isText, isChar}

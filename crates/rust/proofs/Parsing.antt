@@ -16,7 +16,7 @@ use Rattle.tree.proofs.Forests.{StandsFor}
 use Rattle.tree.specs.Subtrees.{subtree}
 use Rattle.tree.specs.Commands.{Reached, descend, onSubtree}
 use Rattle.ink.specs.Ascii.{ascii}
-use Rattle.scan.specs.Arguments.{noneFound, Stand, go, wait, unknownOption, missingValue, args}
+use Rattle.arguments.specs.Arguments.{noneFound, Stand, go, wait, unknownOption, missingValue, args}
 use Rattle.parse.specs.Commands.{Outcome, parsed, fault, isMissing, missingRequired, onMissing, outcomeOf, concluded, parseIn, parseWords, parseLine}
 use Rattle.rust.specs.Tree.{optionDefs, get, commandsOf}
 use Rattle.rust.specs.Parser.{ParsedCommand, MissingRequiredOption, ok, err, andThen, Command, deepest, findCommand, parseArgs, validateRequired, parseCommand, parseTokens, parse}

@@ -40,7 +40,7 @@ use Rattle.rust.proofs.Words.{tokenize-is}
 use Rattle.rust.proofs.Histories.{blank-is-empty}
 use Rattle.rust.proofs.Parsing.{frames-are}
 use Rattle.rust.proofs.Helping.{same-help, same-available}
-use Rattle.rust.proofs.Asked.{Each, Whole, Told, whole-told, help-whole}
+use Rattle.rust.proofs.Asked.{Each, Whole, AsIs, whole-told, help-whole}
 use Rattle.rust.proofs.Executing.{same-execute}
 
 -- HELP: the word that is unknown is one of those asked for
@@ -57,7 +57,7 @@ lost-told P v (w ∷ words) d frames each e = by (subtree d w frames) (λ below.
 error-bracketed : (e u before t behind end : List ℕ) → e ++ (u ++ before ++ t ++ behind) ++ end ≡ e ++ u ++ before ++ t ++ (behind ++ end)
 error-bracketed e u before t behind end = simp append-assoc
 
-error-is : (printable : ℕ → Bool) (v : List ℕ) → Told printable v → println (ascii "Error: " ++ debugError printable (UnknownCommand v)) ≡ unknownHelp v
+error-is : (printable : ℕ → Bool) (v : List ℕ) → AsIs printable v → println (ascii "Error: " ++ debugError printable (UnknownCommand v)) ≡ unknownHelp v
 unfolding println debugError unknownHelp ascii
 error-is printable v e = rw e (error-bracketed (ascii "Error: ") (ascii "UnknownCommand") (ascii "(\"") (debugBytes v) (ascii "\")") (ascii "\n"))
 

@@ -23,7 +23,7 @@ use Rattle.editor.proofs.Called.{held-state}
 use Rattle.session.specs.Prints.{Printed, shown, prompt, answered, leaves, turnPrints, keyPrints, turnEnds, keyEnds}
 use Rattle.session.specs.Lines.{Standing, inState, Course, behind, pressKey, pressKeys}
 use Rattle.session.specs.Held.{Laid}
-use Rattle.session.specs.Calls.{imageOf, isEnter, treeBefore, most, PressingKey}
+use Rattle.session.specs.Calls.{imageOf, isEnter, treeBefore, keyRoom, PressingKey}
 use Rattle.session.specs.declared.running.Printing.{Printing}
 use Rattle.session.specs.declared.standing.Session.{Session}
 use Rattle.session.specs.declared.pressing.Pressing.{Pressing}
@@ -223,7 +223,7 @@ laid-as : {a b : List Printed} {e g : Bool} (out : List ℕ) (r : Printing) (out
 laid-as out r out′ p q l = rw (← p, ← q) l
 
 module _ (h : Session) (image slots : List ℕ) (byte : ℕ) (out : List ℕ) (r : Pressing) (slots′ out′ : List ℕ) (p : PressingKey h image slots byte out r slots′ out′)
-    (room : most ≤ length out) (good : goodState (h .editor) (h .history) slots ≡ true) (f : Forest) (stands : isEnter byte ≡ true → StandsFor (imageOf h image) f) where
+    (room : keyRoom ≤ length out) (good : goodState (h .editor) (h .history) slots ≡ true) (f : Forest) (stands : isEnter byte ≡ true → StandsFor (imageOf h image) f) where
   tested : (b : Bool) → isEnter byte ≡ b → treeBefore byte (imageOf h image) ≡ Good
   unfolding treeBefore
   tested true e = then-is _ _ _ e ∙ forest-good (imageOf h image) f (stands e)

@@ -18,7 +18,7 @@ use Rattle.tree.specs.Subtrees.{upTo, subtree}
 use Rattle.lookup.specs.Searches.{isNode}
 use Rattle.lookup.specs.Subtrees.{treeNamed}
 use Rattle.lookup.proofs.Lookups.{subtree-named, child-named, named-orderly}
-use Rattle.scan.specs.Meanings.{definitionsOf}
+use Rattle.arguments.specs.Meanings.{definitionsOf}
 use Rattle.rust.specs.Tree.{CommandNode, commandNode, entry, insertNode, get, someOf, textOf, optionDefs, flagDefs, commandsOf}
 
 -- one tree of a forest: a node with its definitions and all below it

@@ -12,8 +12,8 @@ use Rattle.text.specs.Space.{isWhiteSpace}
 use Rattle.text.specs.Apart.{ended}
 use Rattle.text.proofs.Pieces.{encode-some}
 use Rattle.text.proofs.Prefix.{encode-append}
-use Rattle.words.specs.Tokens.{backslash, quote, turnOf, onTurn, tokensFrom, tokens, wordsOf}
-use Rattle.words.specs.declared.turn.Turn.the-variants.{Take, Escape, Toggle, Gap}
+use Rattle.words.specs.Tokens.{backslash, quote, roleOf, onRole, tokensFrom, tokens, wordsOf}
+use Rattle.words.specs.declared.role.Role.the-variants.{Take, Escape, Toggle, Gap}
 use Rattle.rust.specs.Parser.{closed, tokenizeFrom, tokenize}
 
 -- a word that ends is pushed, unless it is empty
@@ -65,7 +65,7 @@ module _ (ch : ℕ) (chars : List ℕ) (more : FromIs chars) (done : List (List 
       (tokenizeFrom done (encodeAll word ++ encode ch) quotes e chars))))
       ≡ done
       ++ map encodeAll
-      (onTurn (cond e Take (cond b Escape (cond q Toggle (cond quotes Take (cond w Gap Take)))))
+      (onRole (cond e Take (cond b Escape (cond q Toggle (cond quotes Take (cond w Gap Take)))))
       (λ _. tokensFrom (word ++ (ch ∷ [])) quotes false chars)
       (λ _. tokensFrom word quotes true chars)
       (λ _. tokensFrom word (not quotes) false chars)
@@ -79,7 +79,7 @@ module _ (ch : ℕ) (chars : List ℕ) (more : FromIs chars) (done : List (List 
   char-is false false false false false = take-is false
 
 from-is : (chars : List ℕ) → FromIs chars
-unfolding tokenizeFrom tokensFrom turnOf
+unfolding tokenizeFrom tokensFrom roleOf
 from-is [] done word quotes escape = closed-is done word
 from-is (ch ∷ chars) done word quotes escape =
     char-is ch chars (from-is chars) done word escape (eqb ch backslash) (eqb ch quote) quotes (isWhiteSpace ch)

@@ -11,7 +11,7 @@ use Rattle.text.specs.Apart.{wordsBetween}
 use Rattle.frame.specs.Framed.{frameOf}
 use Rattle.editor.specs.declared.drawing.Pressed.{Pressed}
 use Rattle.editor.specs.declared.drawing.Pressed.the-variants.{Shown, Entered, Dropped, BadState, BadPrompt, NoRoom as KeyNoRoom}
-use Rattle.words.specs.Tokens.{framesOf}
+use Rattle.words.specs.Tokens.{wordFrames}
 use Rattle.words.specs.declared.tokenizer.Tokens.{Tokens}
 use Rattle.words.specs.declared.tokenizer.Tokens.the-variants.{Words, NoRoom as WordsNoRoom}
 use Rattle.report.specs.Report.{faultOf}
@@ -58,7 +58,7 @@ pub record PressesAs (prompt : List ℕ) (turn : Loop) (line screen : List ℕ) 
 
 -- WORDS: a frame 14 for each token
 abbrev pub SplitsAs : List (List ℕ) → List ℕ → Tokens → List ℕ → Type 0
-SplitsAs tokens out r left = Writes (framesOf tokens) out left (r ≡ Words (length (framesOf tokens))) (r ≡ WordsNoRoom (length (framesOf tokens)))
+SplitsAs tokens out r left = Writes (wordFrames tokens) out left (r ≡ Words (length (wordFrames tokens))) (r ≡ WordsNoRoom (length (wordFrames tokens)))
 
 -- PARSE: the report of the command, or frame 1E with the error's text
 abbrev pub parseBytes : Result ParsedCommand → List ℕ

@@ -7,9 +7,9 @@ use mathlib.Core.Option.{Option, none, some}
 use lib.Dec.{eqb, ltb}
 use lib.ListN.{drop, getD}
 use Rattle.text.specs.Decoding.{codesIn}
-use Rattle.history.specs.declared.past.Recalled.{Recalled}
-use Rattle.history.specs.declared.past.Recalled.the-variants.{Entry, Nothing}
-use Rattle.history.specs.declared.past.Step.{Step}
+use Rattle.history.specs.declared.stepping.Recalled.{Recalled}
+use Rattle.history.specs.declared.stepping.Recalled.the-variants.{Entry, Nothing}
+use Rattle.history.specs.declared.stepping.Step.{Step}
 use Rattle.editor.specs.declared.line.Mode.{Mode}
 use Rattle.editor.specs.declared.line.Mode.the-variants.{Typing, Escape, Sequence}
 use Rattle.editor.specs.Keys.{State}

@@ -7,7 +7,7 @@ use Rattle.text.specs.Decoding.{leastSecond, greatestSecond, within, decodeTwo,
 use Rattle.text.specs.Space.{whiteSpace, among, isWhiteSpace, lowWhite, gap}
 use Rattle.text.specs.Apart.{runOf, behindRun, trimEnd, trimmed, allWhite, blank, wordsAfter, wordsBetween, nextWord}
 use Rattle.buffer.specs.Compare.{order, sameBytes}
-use Rattle.frame.specs.Text.{Bytes, number, numberOf, textOf, readText}
+use Rattle.frame.specs.Text.{Bytes, numberBytes, numberOf, textOf, readText}
 use Rattle.frame.specs.Framed.{frameOf, frameFirst}
 use Rattle.frame.specs.Series.{textsFrom, textsIn, runs}
 use Rattle.frame.specs.House.{houseLine, ended, digitsOf, readDigits, readHouse, houseLeaves, writeHouse, lineLeaves}
@@ -19,11 +19,11 @@ use Rattle.tree.specs.Images.{itemsFrom, items, framesIn, framesOf, flat}
 use Rattle.tree.specs.Rules.{rises, follows, obeys, after, judge, obeyAll, checkTree}
 use Rattle.lookup.specs.Subtrees.{treeNamed}
 use Rattle.tree.specs.Subtrees.{upTo, onFrom, subtree}
-use Rattle.words.specs.Tokens.{turnOf, tokensFrom, tokens, wordsOf, framesOf as framesOfWords}
+use Rattle.words.specs.Tokens.{roleOf, tokensFrom, tokens, wordsOf, wordFrames}
 use Rattle.table.specs.Map.{put, look, has, among as amongTable, putWithin}
-use Rattle.scan.specs.Meanings.{definitionsOf, definitionsAt, firstName, meaning, isOption}
-use Rattle.scan.specs.Forms.{beforeEquals, longForm, formOf}
-use Rattle.scan.specs.Arguments.{withOption, withFlag, withPositional, shortSteps, args}
+use Rattle.arguments.specs.Meanings.{definitionsOf, definitionsAt, firstName, meaning, isOption}
+use Rattle.arguments.specs.Forms.{beforeEquals, longForm, formOf}
+use Rattle.arguments.specs.Arguments.{withOption, withFlag, withPositional, shortSteps, args}
 use Rattle.report.specs.Report.{optionFrame, flagFrame, reportOf, faultOf, dashed, reportAnswer, reportLeaves}
 use Rattle.parse.specs.Commands.{isMissing, missingRequired, concluded, parseIn, parseWords, parseLine}
 use Rattle.tree.specs.Commands.{descend}
@@ -32,9 +32,10 @@ use Rattle.ink.specs.Ascii.{ascii}
 use Rattle.shell.specs.Lines.{builtinOf, beginsHelp, helpWords, faultMessage, joined, handlerOf, carried, executeIn, execute, otherSaid, lineSaid, saidOf}
 use Rattle.screen.specs.Decimal.{digitsIn, decimal, valueBehind, valueOf}
 use Rattle.screen.specs.Redraw.{moveBack, redraw, roomAnswer}
-use Rattle.history.specs.Entries.{mostEntries, newestIs, isNew, withRoom, added, wellFormed, usable, sound}
+use Rattle.text.specs.Decoding.{wellFormed}
+use Rattle.history.specs.Entries.{mostEntries, newestIs, isNew, withRoom, added, usable, sound}
 use Rattle.editor.specs.Line.{limit, padded, holding, lineOf, goodLine, inserted, erased, content}
-use Rattle.editor.specs.Keys.{redrawn, enter, erase, insert, typed, escaped, up, onPlace, down, right, left, sequenced, turnIn, turnOf as turnOfEditor, afterKeys}
+use Rattle.editor.specs.Keys.{redrawn, enter, erase, insert, typed, escaped, up, onPlace, down, right, left, sequenced, turnIn, turnOf, afterKeys}
 use Rattle.session.specs.Prints.{wide, frameOf as frameOfSession, linesOf, shown, prompt, answered, leaves, keyPrints, keyEnds}
 use Rattle.growth.specs.Growth.{oneFrame, takes}
 use Rattle.session.specs.Lines.{beginning, formOf as formOfSession, lineForm, takeForm, takeLine, pressKey, pressKeys, onTaking, lineCourse, session}
@@ -52,5 +53,5 @@ output =
     ++ ascii "2261787669736f723a2420\n"))))
 
 in-full : linesOf (session beginning input) ≡ output
-unfolding encode encodeAll leastSecond greatestSecond within decodeTwo decodeThree decodeFour table decodeFirst letter letterHead letterFirst piecesFrom piecesOf bytesAll codesOf codesIn wellFormedLength whiteSpace among isWhiteSpace lowWhite gap runOf behindRun trimEnd trimmed allWhite blank wordsAfter wordsBetween nextWord order sameBytes Bytes number numberOf textOf readText frameOf frameFirst textsFrom textsIn runs houseLine ended digitsOf readDigits readHouse houseLeaves writeHouse lineLeaves digitOf hexOf digitValue pairOf unhex firstBad text perhaps encodeImage span nodeLengths definitionLengths nodeFirst optionFirst flagFirst headFirst perhapsIn nodeIn optionIn flagIn definedIn frameFirstImage readFirst allShown isName isNote isShort definable fair itemsFrom items framesIn framesOf flat rises follows obeys after judge obeyAll checkTree upTo onFrom subtree treeNamed turnOf tokensFrom tokens wordsOf framesOfWords put look has amongTable putWithin definitionsOf definitionsAt firstName meaning isOption beforeEquals longForm formOf withOption withFlag withPositional shortSteps args optionFrame flagFrame reportOf faultOf dashed reportAnswer reportLeaves descend isMissing missingRequired concluded parseIn parseWords parseLine toldIn outcomeAnswer outcomeLeaves parseAnswer parseLeaves ascii builtinOf beginsHelp helpWords faultMessage joined handlerOf carried executeIn execute otherSaid lineSaid saidOf digitsIn decimal valueBehind valueOf moveBack redraw roomAnswer mostEntries newestIs isNew withRoom added wellFormed usable sound limit padded holding lineOf goodLine inserted erased content redrawn enter erase insert typed escaped up onPlace down right left sequenced turnIn turnOfEditor afterKeys wide frameOfSession linesOf shown prompt answered leaves keyPrints keyEnds formOfSession lineForm oneFrame takes takeForm takeLine pressKey pressKeys onTaking lineCourse session input output
+unfolding encode encodeAll leastSecond greatestSecond within decodeTwo decodeThree decodeFour table decodeFirst letter letterHead letterFirst piecesFrom piecesOf bytesAll codesOf codesIn wellFormedLength whiteSpace among isWhiteSpace lowWhite gap runOf behindRun trimEnd trimmed allWhite blank wordsAfter wordsBetween nextWord order sameBytes Bytes numberBytes numberOf textOf readText frameOf frameFirst textsFrom textsIn runs houseLine ended digitsOf readDigits readHouse houseLeaves writeHouse lineLeaves digitOf hexOf digitValue pairOf unhex firstBad text perhaps encodeImage span nodeLengths definitionLengths nodeFirst optionFirst flagFirst headFirst perhapsIn nodeIn optionIn flagIn definedIn frameFirstImage readFirst allShown isName isNote isShort definable fair itemsFrom items framesIn framesOf flat rises follows obeys after judge obeyAll checkTree upTo onFrom subtree treeNamed roleOf tokensFrom tokens wordsOf wordFrames put look has amongTable putWithin definitionsOf definitionsAt firstName meaning isOption beforeEquals longForm formOf withOption withFlag withPositional shortSteps args optionFrame flagFrame reportOf faultOf dashed reportAnswer reportLeaves descend isMissing missingRequired concluded parseIn parseWords parseLine toldIn outcomeAnswer outcomeLeaves parseAnswer parseLeaves ascii builtinOf beginsHelp helpWords faultMessage joined handlerOf carried executeIn execute otherSaid lineSaid saidOf digitsIn decimal valueBehind valueOf moveBack redraw roomAnswer mostEntries newestIs isNew withRoom added wellFormed usable sound limit padded holding lineOf goodLine inserted erased content redrawn enter erase insert typed escaped up onPlace down right left sequenced turnIn turnOf afterKeys wide frameOfSession linesOf shown prompt answered leaves keyPrints keyEnds formOfSession lineForm oneFrame takes takeForm takeLine pressKey pressKeys onTaking lineCourse session input output
 in-full = refl

@@ -29,7 +29,7 @@ use Rattle.editor.specs.Answer.{goodState}
 use Rattle.editor.proofs.Fine.{Fine}
 use Rattle.session.specs.Prints.{prompt, turnPrints, keyPrints, turnEnds, keyEnds}
 use Rattle.session.specs.Lines.{Form, tree, keys, formless, formOf, formBy, lineForm, Standing, withImage, withKeys as keyedNow, Taking, grown, pressing, refused, takeForm, takeLine}
-use Rattle.session.specs.Calls.{withWalk, withKeys, refusing, tookBy, imageBy, TakingLine, imageOf, isEnter, treeBefore, most, Kept, PressingKey, RefusingLine}
+use Rattle.session.specs.Calls.{withWalk, withKeys, refusing, tookBy, imageBy, TakingLine, imageOf, isEnter, treeBefore, keyRoom, Kept, PressingKey, RefusingLine}
 use Rattle.session.specs.declared.running.Printing.{Printing}
 use Rattle.session.specs.declared.running.Printing.the-variants.{BadTree, BadState, NoRoom}
 use Rattle.session.specs.declared.pressing.Pressing.{Pressing}
@@ -196,9 +196,9 @@ module _ (h : Session) (image slots : List ℕ) (byte : ℕ) (out : List ℕ) (r
   kept x m n = (m .0 ∙ sym (n .0), m .1 .session ∙ sym (n .1 .session), m .1 .held ∙ sym (n .1 .held), m .1 .bytes ∙ sym (n .1 .bytes))
 
   pub one-press : (r .answer ≡ q .answer) × (r .session ≡ q .session) × (l ≡ l′) × (o ≡ o′)
-  one-press = roomy (ltb (length out) most) refl
+  one-press = roomy (ltb (length out) keyRoom) refl
     where
-      state : most ≤ length out → treeBefore byte (imageOf h image) ≡ Good → (t : Bool) → goodState (h .editor) (h .history) slots ≡ t
+      state : keyRoom ≤ length out → treeBefore byte (imageOf h image) ≡ Good → (t : Bool) → goodState (h .editor) (h .history) slots ≡ t
           → (r .answer ≡ q .answer) × (r .session ≡ q .session) × (l ≡ l′) × (o ≡ o′)
       state m g true e =
           let x = a .pressed m g e in
@@ -206,10 +206,10 @@ module _ (h : Session) (image slots : List ℕ) (byte : ℕ) (out : List ℕ) (r
           (x .lines .answer ∙ sym (y .lines .answer), x .session ∙ sym (y .session), x .held ∙ sym (y .held), x .lines .bytes ∙ sym (y .lines .bytes))
       state m g false e = kept BadState (a .badState m g e) (b .badState m g e)
 
-      tested : most ≤ length out → (x : Checked) → treeBefore byte (imageOf h image) ≡ x → (r .answer ≡ q .answer) × (r .session ≡ q .session) × (l ≡ l′) × (o ≡ o′)
+      tested : keyRoom ≤ length out → (x : Checked) → treeBefore byte (imageOf h image) ≡ x → (r .answer ≡ q .answer) × (r .session ≡ q .session) × (l ≡ l′) × (o ≡ o′)
       tested m Good e = state m e (goodState (h .editor) (h .history) slots) refl
       tested m (BadFrame n) e = kept (BadTree n) (a .badTree m n e) (b .badTree m n e)
 
-      roomy : (t : Bool) → ltb (length out) most ≡ t → (r .answer ≡ q .answer) × (r .session ≡ q .session) × (l ≡ l′) × (o ≡ o′)
-      roomy true e = kept (NoRoom most) (a .short (ltb-true _ _ e)) (b .short (ltb-true _ _ e))
+      roomy : (t : Bool) → ltb (length out) keyRoom ≡ t → (r .answer ≡ q .answer) × (r .session ≡ q .session) × (l ≡ l′) × (o ≡ o′)
+      roomy true e = kept (NoRoom keyRoom) (a .short (ltb-true _ _ e)) (b .short (ltb-true _ _ e))
       roomy false e = tested (ltb-false _ _ e) (treeBefore byte (imageOf h image)) refl

@@ -10,7 +10,7 @@ use Rattle.tree.specs.declared.check.Checked.the-variants.{Good}
 use Rattle.growth.proofs.Standing.{Stands, start-stands, stands-good}
 use Rattle.history.specs.Slots.{layout, entriesOf}
 use Rattle.history.specs.Answer.{entriesIn}
-use Rattle.history.specs.declared.past.History.{History}
+use Rattle.history.specs.declared.stepping.History.{History}
 use Rattle.editor.specs.declared.line.Editor.{Editor}
 use Rattle.editor.specs.Line.{holding, lineOf}
 use Rattle.editor.specs.Keys.{State, Turn, freshState, turnOf, afterKeys}
@@ -20,7 +20,7 @@ use Rattle.editor.proofs.Called.{held-state}
 use Rattle.session.specs.Prints.{prompt, keyPrints, keyEnds}
 use Rattle.session.specs.Lines.{Standing, beginning, pressKey}
 use Rattle.session.specs.Held.{Laid}
-use Rattle.session.specs.Calls.{fresh, imageOf, turnIn, isEnter, treeBefore, most, PressingKey}
+use Rattle.session.specs.Calls.{fresh, imageOf, turnIn, isEnter, treeBefore, keyRoom, PressingKey}
 use Rattle.session.specs.declared.standing.Session.{Session}
 use Rattle.session.specs.declared.pressing.Pressing.{Pressing}
 
@@ -72,7 +72,7 @@ module _ (s : Standing) (h : Session) (image slots : List ℕ) (k : Holds s h im
       by false = refl
 
   -- a key prints what the definition says, and leads where it says: a key is never refused, whatever it is
-  pub key-held : (byte : ℕ) (out : List ℕ) (r : Pressing) (slots′ out′ : List ℕ) → most ≤ length out → PressingKey h image slots byte out r slots′ out′
+  pub key-held : (byte : ℕ) (out : List ℕ) (r : Pressing) (slots′ out′ : List ℕ) → keyRoom ≤ length out → PressingKey h image slots byte out r slots′ out′
       → Laid (pressKey s byte .prints) (pressKey s byte .ends) out (r .answer) out′ × Holds (pressKey s byte .after) (r .session) image slots′
   unfolding pressKey
   key-held byte out r slots′ out′ room p =

@@ -12,7 +12,7 @@ use Rattle.buffer.proofs.Choices.{then-is, else-is}
 use Rattle.tree.specs.Rules.{checkTree}
 use Rattle.tree.specs.declared.check.Checked.{Checked}
 use Rattle.tree.specs.declared.check.Checked.the-variants.{Good}
-use Rattle.history.specs.Entries.{wellFormed}
+use Rattle.text.specs.Decoding.{wellFormed}
 use Rattle.screen.specs.Decimal.{digitsIn, decimal}
 use Rattle.screen.specs.Redraw.{clearLine, moveBack, redraw}
 use Rattle.editor.specs.declared.line.Mode.{Mode}

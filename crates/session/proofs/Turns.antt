@@ -19,16 +19,16 @@ use Rattle.text.specs.Unicode.{encode, encodeAll}
 use Rattle.text.specs.Decoding.{table, decodeFirst, piecesFrom, piecesOf, codesOf, codesIn, wellFormedLength}
 use Rattle.frame.specs.House.{houseLine}
 use Rattle.ink.specs.Ascii.{ascii}
-use Rattle.history.specs.Entries.{wellFormed}
+use Rattle.text.specs.Decoding.{wellFormed}
 use Rattle.frame.proofs.Lines.{length-houseLine}
 use Rattle.image.specs.Frames.{Frame}
 use Rattle.tree.specs.Images.{framesOf}
 use Rattle.tree.specs.Rules.{checkTree}
 use Rattle.tree.specs.declared.check.Checked.{Checked}
 use Rattle.tree.specs.declared.check.Checked.the-variants.{Good, BadFrame}
-use Rattle.history.specs.declared.past.History.{History}
+use Rattle.history.specs.declared.stepping.History.{History}
 use Rattle.editor.specs.declared.line.Editor.{Editor}
-use Rattle.editor.specs.declared.drawing.Key.{Key}
+use Rattle.editor.specs.declared.drawing.KeyAnswer.{KeyAnswer}
 use Rattle.editor.specs.declared.drawing.Pressed.{Pressed}
 use Rattle.editor.specs.declared.drawing.Pressed.the-variants.{Shown, Entered, Dropped, BadState as BadKey, BadPrompt, NoRoom as NoScreen}
 use Rattle.editor.specs.Line.{limit}
@@ -39,7 +39,7 @@ use Rattle.editor.proofs.drawing.Pressed.{the-type}
 use Rattle.shell.specs.Lines.{Said, saidOf}
 use Rattle.session.specs.Prints.{badLine, frameOf, linesOf, shown, prompt, answered, leaves, turnPrints, keyPrints, turnEnds, keyEnds}
 use Rattle.session.specs.Held.{printing, Answers, Laid, Enters, Within, Tells}
-use Rattle.session.specs.Calls.{withState, withKey, imageOf, turnIn, treeBefore, most, PressingKey}
+use Rattle.session.specs.Calls.{withState, withKey, imageOf, turnIn, treeBefore, keyRoom, PressingKey}
 use Rattle.session.specs.declared.running.Printing.{Printing}
 use Rattle.session.specs.declared.running.Printing.the-variants.{Goes, Ends, BadTree, BadState, NoRoom}
 use Rattle.session.specs.declared.standing.Session.{Session}
@@ -56,7 +56,7 @@ module _ (s : List ℕ) (size : ℕ) (h : size ≤ 1023) (k : getD s 0 0 ≡ 0x2
       by [] e = absurd (omega arith)
       by (a ∷ x) e = ap (λ (b : ℕ). b ∷ take size x) e
 
-  pub shown-ready : (out frame : List ℕ) → most ≤ length out → frame ≡ take (size + 1) s → (0 + (2 * length frame + 1) ≤ length out) × (frame ≡ 0x22 ∷ drop 1 frame)
+  pub shown-ready : (out frame : List ℕ) → keyRoom ≤ length out → frame ≡ take (size + 1) s → (0 + (2 * length frame + 1) ≤ length out) × (frame ≡ 0x22 ∷ drop 1 frame)
   shown-ready out frame m f =
       let e = f ∙ shown-frame in
       let l = ap length f in
@@ -71,7 +71,7 @@ module _ (s : List ℕ) (size : ℕ) (h : size ≤ 1023) (k : getD s 0 0 ≡ 0x2
 feed-line : linesOf (shown lineFeed) ≡ houseLine (0x22 ∷ 0x0A ∷ [])
 feed-line = shown-some lineFeed (omega arith)
 
-module _ (out mid : List ℕ) (p : ℕ) (h : most ≤ length out) (w : Pushed (houseLine (0x22 ∷ 0x0A ∷ [])) out 0 p mid) where
+module _ (out mid : List ℕ) (p : ℕ) (h : keyRoom ≤ length out) (w : Pushed (houseLine (0x22 ∷ 0x0A ∷ [])) out 0 p mid) where
   fed : 0 + length (houseLine (0x22 ∷ 0x0A ∷ [])) ≤ length out
   fed = let l = length-houseLine (0x22 ∷ 0x0A ∷ []) in omega arith
 
@@ -137,7 +137,7 @@ unfolding prompt ascii
 prompt-size = omega arith
 
 -- a key of the editor, and what came of it
-module _ (h : Session) (slots line lent : List ℕ) (byte : ℕ) (k : Key) (slots′ line′ e : List ℕ)
+module _ (h : Session) (slots line lent : List ℕ) (byte : ℕ) (k : KeyAnswer) (slots′ line′ e : List ℕ)
     (p : KeyPressing (h .editor) (h .history) slots prompt byte line lent k slots′ line′ e) (full : length line ≡ 255) (wide : length lent ≡ 1023) where
   abbrev t : Turn
   t = turnIn h slots byte
@@ -228,7 +228,7 @@ module _ (h : Session) (slots line lent : List ℕ) (byte : ℕ) (k : Key) (slot
       parts x y = record { editor = x; history = y; walk = h .walk; keyed = h .keyed; lines = h .lines }
 
   -- the call's contract
-  module _ (image out left screen : List ℕ) (r : Printing) (behind : drop 1 screen ≡ e) (good : treeBefore byte (imageOf h image) ≡ Good) (room : most ≤ length out)
+  module _ (image out left screen : List ℕ) (r : Printing) (behind : drop 1 screen ≡ e) (good : treeBefore byte (imageOf h image) ≡ Good) (room : keyRoom ≤ length out)
       (told : Tells (k .answer) (imageOf h image) line′ screen out r left) where
     pub press-told : PressingKey h image slots byte out (record { session = withKey h k; answer = r }) slots′ left
     unfolding keyPrints keyEnds
@@ -253,7 +253,7 @@ module _ (h : Session) (slots line lent : List ℕ) (byte : ℕ) (k : Key) (slot
         by g drops l = l
 
 -- the buffers that came back from the editor, with the kind of the screen's frame before what is shown
-module _ (h : Session) (slots line s : List ℕ) (byte : ℕ) (k : Key) (slots′ line′ e : List ℕ) (full : length line ≡ 255) (wide : length s ≡ 1024)
+module _ (h : Session) (slots line s : List ℕ) (byte : ℕ) (k : KeyAnswer) (slots′ line′ e : List ℕ) (full : length line ≡ 255) (wide : length s ≡ 1024)
     (p : KeyPressing (h .editor) (h .history) slots prompt byte line (take (length (set s 0 0x22) - 1) (drop 1 (set s 0 0x22))) k slots′ line′ e) where
   lent : length (take (length (set s 0 0x22) - 1) (drop 1 (set s 0 0x22))) ≡ 1023
   lent = lent-size s e 0 1024 wide (omega arith)
@@ -266,7 +266,7 @@ module _ (h : Session) (slots line s : List ℕ) (byte : ℕ) (k : Key) (slots�
   press-ready image tree good same =
       (key-within h slots line _ byte k slots′ line′ e p full lent tree (ap (treeBefore byte) same ∙ good), returned-kind s e 0 1024 wide (omega arith))
 
-  pub press-done : (image tree out left : List ℕ) (next : Session) (r : Printing) → treeBefore byte (imageOf h image) ≡ Good → most ≤ length out → tree ≡ imageOf h image
+  pub press-done : (image tree out left : List ℕ) (next : Session) (r : Printing) → treeBefore byte (imageOf h image) ≡ Good → keyRoom ≤ length out → tree ≡ imageOf h image
       → next ≡ withKey h k → Tells (k .answer) tree line′ (putMid 1 (length (set s 0 0x22) - 1) (set s 0 0x22) e) out r left
       → PressingKey h image slots byte out (record { session = next; answer = r }) slots′ left
   press-done image tree out left next r good room same after told =
@@ -276,7 +276,7 @@ module _ (h : Session) (slots line s : List ℕ) (byte : ℕ) (k : Key) (slots�
 
 -- the refusals before a key is pressed: no room, and a bad tree
 module _ (h : Session) (image slots : List ℕ) (byte : ℕ) (out : List ℕ) where
-  pub press-short : length out < most → PressingKey h image slots byte out (record { session = h; answer = NoRoom most }) slots out
+  pub press-short : length out < keyRoom → PressingKey h image slots byte out (record { session = h; answer = NoRoom keyRoom }) slots out
   press-short l =
       record {
         short = λ m. (refl, record { session = refl; held = refl; bytes = refl });
@@ -285,7 +285,7 @@ module _ (h : Session) (image slots : List ℕ) (byte : ℕ) (out : List ℕ) wh
         pressed = λ m. absurd (omega arith);
       }
 
-  pub press-refused : (tree : List ℕ) → tree ≡ imageOf h image → (n : ℕ) (told : Checked) → told ≡ treeBefore byte tree → told ≡ BadFrame n → most ≤ length out
+  pub press-refused : (tree : List ℕ) → tree ≡ imageOf h image → (n : ℕ) (told : Checked) → told ≡ treeBefore byte tree → told ≡ BadFrame n → keyRoom ≤ length out
       → PressingKey h image slots byte out (record { session = h; answer = BadTree n }) slots out
   press-refused tree same n told e k room =
       let is : treeBefore byte (imageOf h image) ≡ BadFrame n = ap (treeBefore byte) (sym same) ∙ sym e ∙ k in

@@ -17,7 +17,7 @@ use Rattle.tree.specs.declared.check.Checked.the-variants.{Good, BadFrame}
 use Rattle.tree.specs.declared.walk.Walk.{Walk}
 use Rattle.growth.specs.Growth.{admits, passedBy}
 use Rattle.history.specs.Answer.{atEnd}
-use Rattle.editor.specs.declared.drawing.Key.{Key}
+use Rattle.editor.specs.declared.drawing.KeyAnswer.{KeyAnswer}
 use Rattle.editor.specs.Line.{freshEditor}
 use Rattle.editor.specs.Keys.{State, Turn, turnOf}
 use Rattle.editor.specs.Answer.{stateOf, editorOf, historyOf, slotsOf, goodState}
@@ -38,7 +38,7 @@ fresh = record { editor = freshEditor; history = atEnd 0; walk = startWalk; keye
 abbrev pub withState : Session → State → Session
 withState h s = record { editor = editorOf s; history = historyOf s; walk = h .walk; keyed = h .keyed; lines = h .lines }
 
-abbrev pub withKey : Session → Key → Session
+abbrev pub withKey : Session → KeyAnswer → Session
 withKey h k = record { editor = k .editor; history = k .history; walk = h .walk; keyed = h .keyed; lines = h .lines }
 
 abbrev pub withWalk : Session → Walk → Session
@@ -94,8 +94,8 @@ unfoldable pub treeBefore : ℕ → List ℕ → Checked
 treeBefore byte image = cond (isEnter byte) (checkTree image) Good
 
 -- how many bytes a key may print at most: the line feed, 65,536 bytes of a frame, the prompt
-abbrev pub most : ℕ
-most = 131101
+abbrev pub keyRoom : ℕ
+keyRoom = 131101
 
 -- a refusal keeps the session and every byte
 pub record Kept (h : Session) (slots out : List ℕ) (r : Pressing) (slots′ out′ : List ℕ) : Type 0 where
@@ -111,11 +111,11 @@ pub record Prints (h : Session) (frames : List Frame) (t : Turn) (out : List ℕ
 
 -- 9, then 1, then 12, or the key is taken
 pub record PressingKey (h : Session) (image slots : List ℕ) (byte : ℕ) (out : List ℕ) (r : Pressing) (slots′ out′ : List ℕ) : Type 0 where
-  pub short : length out < most → (r .answer ≡ NoRoom most) × Kept h slots out r slots′ out′
-  pub badTree : most ≤ length out → (n : ℕ) → treeBefore byte (imageOf h image) ≡ BadFrame n → (r .answer ≡ BadTree n) × Kept h slots out r slots′ out′
-  pub badState : most ≤ length out → treeBefore byte (imageOf h image) ≡ Good → goodState (h .editor) (h .history) slots ≡ false
+  pub short : length out < keyRoom → (r .answer ≡ NoRoom keyRoom) × Kept h slots out r slots′ out′
+  pub badTree : keyRoom ≤ length out → (n : ℕ) → treeBefore byte (imageOf h image) ≡ BadFrame n → (r .answer ≡ BadTree n) × Kept h slots out r slots′ out′
+  pub badState : keyRoom ≤ length out → treeBefore byte (imageOf h image) ≡ Good → goodState (h .editor) (h .history) slots ≡ false
       → (r .answer ≡ BadState) × Kept h slots out r slots′ out′
-  pub pressed : most ≤ length out → treeBefore byte (imageOf h image) ≡ Good → goodState (h .editor) (h .history) slots ≡ true
+  pub pressed : keyRoom ≤ length out → treeBefore byte (imageOf h image) ≡ Good → goodState (h .editor) (h .history) slots ≡ true
       → Prints h (framesOf (imageOf h image)) (turnIn h slots byte) out r slots′ out′
 
 -- the 2F of a line, which is the last that is printed

@@ -5,9 +5,9 @@ use super::printing::print_screen;
 use super::running::Printing;
 use super::running::run_line;
 use super::standing::Session;
-use editor::Key;
+use buffer::part;
+use editor::KeyAnswer;
 use editor::Pressed;
-use image::part;
 use tree::Checked;
 use tree::check_tree;
 ghost use mathlib.Core.Path.{_≡_};
@@ -19,7 +19,7 @@ ghost use Rattle.tree.specs.Rules.{checkTree};
 ghost use Rattle.tree.specs.declared.check.Checked.the-variants.{Good};
 ghost use Rattle.session.specs.Prints.{linesOf, shown};
 ghost use Rattle.session.specs.Held.{Within, Enters, Tells};
-ghost use Rattle.session.specs.Calls.{withKey, imageOf, treeBefore, most, PressingKey, RefusingLine};
+ghost use Rattle.session.specs.Calls.{withKey, imageOf, treeBefore, keyRoom, PressingKey, RefusingLine};
 
 // The session after a key, and what the key prints.
 pub struct Pressing {
@@ -29,7 +29,7 @@ pub struct Pressing {
 
 impl Session {
     // The same with the editor and the history that a key left.
-    fn after(self, key: Key) -> Session
+    fn after(self, key: KeyAnswer) -> Session
         ensures { λ r. ⌜ r ≡ withKey self key ⌝ }
     {
         let editor = key.editor;
@@ -47,7 +47,7 @@ impl Session {
 
 // Prints screen bytes of that size, which stand behind their frame's kind.
 fn print_shown(screen: &[u8], size: usize, out: &mut [u8]) -> usize
-    requires { ⌜ (size ≤ 1023) × (getD (now screen) 0 0 ≡ 0x22) × (most ≤ length (now out)) ⌝ }
+    requires { ⌜ (size ≤ 1023) × (getD (now screen) 0 0 ≡ 0x22) × (keyRoom ≤ length (now out)) ⌝ }
     ensures { λ r. ⌜ Pushed (linesOf (shown (take size (drop 1 (now (screen .entry)))))) (now (out .entry)) 0 r (now (out .exit)) ⌝ }
 {
     print_screen(part(screen, 0, size + 1), out, 0)
@@ -55,7 +55,7 @@ fn print_shown(screen: &[u8], size: usize, out: &mut [u8]) -> usize
 
 // Prints the line feed of Enter, and what running the line prints.
 fn print_entered(image: &[u8], line: &[u8], out: &mut [u8]) -> Printing
-    requires { ⌜ (checkTree (now image) ≡ Good) × (length (now line) ≤ 255) × (most ≤ length (now out)) ⌝ }
+    requires { ⌜ (checkTree (now image) ≡ Good) × (length (now line) ≤ 255) × (keyRoom ≤ length (now out)) ⌝ }
     ensures { λ r. ⌜ Enters (framesOf (now (image .entry))) (now (line .entry)) (now (out .entry)) r (now (out .exit)) ⌝ }
 {
     let at = print(b"\"\n", out, 0);
@@ -70,7 +70,7 @@ fn print_pressed(
     screen: &[u8],
     out: &mut [u8],
 ) -> Printing
-    requires { ⌜ Within (now image) answer × (getD (now screen) 0 0 ≡ 0x22) × (most ≤ length (now out)) ⌝ }
+    requires { ⌜ Within (now image) answer × (getD (now screen) 0 0 ≡ 0x22) × (keyRoom ≤ length (now out)) ⌝ }
     ensures { λ r. ⌜ Tells answer (now (image .entry)) (now (line .entry)) (now (screen .entry)) (now (out .entry)) r (now (out .exit)) ⌝ }
 {
     match answer {
@@ -101,7 +101,7 @@ fn press_with(
     screen: &mut [u8],
     out: &mut [u8],
 ) -> Pressing
-    requires { ⌜ (treeBefore byte (imageOf session (now image)) ≡ Good) × (length (now line) ≡ 255) × (length (now screen) ≡ 1024) × (most ≤ length (now out)) ⌝ }
+    requires { ⌜ (treeBefore byte (imageOf session (now image)) ≡ Good) × (length (now line) ≡ 255) × (length (now screen) ≡ 1024) × (keyRoom ≤ length (now out)) ⌝ }
     ensures { λ r. ⌜ PressingKey session (now (image .entry)) (now (slots .entry)) byte (now (out .entry)) r (now (slots .exit)) (now (out .exit)) ⌝ }
 {
     screen[0] = 0x22;

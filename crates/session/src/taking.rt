@@ -1,9 +1,9 @@
 // `take_line`: one house line, a frame of the tree or keys.
 use super::standing::Session;
+use buffer::part;
 use frame::House;
 use frame::read_line;
 use growth::add_frame;
-use image::part;
 ghost use mathlib.Core.Path.{_≡_};
 ghost use Prim.Native.Nat.{_<_};
 ghost use lib.ListN.{length};

@@ -12,7 +12,7 @@ use Rattle.text.specs.Decoding.{wellFormedLength}
 use Rattle.text.specs.Apart.{trimmed, blank, wordsBetween}
 use Rattle.text.proofs.Prefix.{prefix-fits}
 use Rattle.frame.specs.Text.{Bytes}
-use Rattle.words.specs.Tokens.{wordsOf, framesOf as wordFrames}
+use Rattle.words.specs.Tokens.{wordsOf, wordFrames}
 use Rattle.words.specs.Answer.{written}
 use Rattle.words.proofs.Standing.{written-most}
 use Rattle.image.specs.Frames.{Frame}
@@ -24,7 +24,7 @@ use Rattle.tree.specs.Subtrees.{subtree}
 use Rattle.tree.specs.Commands.{descend}
 use Rattle.lookup.proofs.Few.{Few, obey-few, few-subtree}
 use Rattle.message.specs.Messages.{message, illFormed, clearScreen}
-use Rattle.message.specs.declared.told.Told.the-variants.{NoHandler}
+use Rattle.message.specs.declared.error.ParseError.the-variants.{NoHandler}
 use Rattle.message.proofs.Bounds.{message-most, ill-formed-most, goodbye-most, clear-most, unknown-most}
 use Rattle.layout.specs.Texts.{spaced, availableText}
 use Rattle.layout.proofs.Bounds.{spaced-more, spaced-most, available-most}

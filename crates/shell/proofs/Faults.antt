@@ -20,7 +20,7 @@ use Rattle.report.specs.declared.answer.Reported.{Reported}
 use Rattle.ink.specs.Ascii.{ascii}
 use Rattle.ink.specs.Inks.{Inked, Countable}
 use Rattle.ink.proofs.Inking.{inked-nothing, inked-both, inked-as}
-use Rattle.message.specs.declared.told.Told.the-variants.{MissingRequired}
+use Rattle.message.specs.declared.error.ParseError.the-variants.{MissingRequired}
 use Rattle.layout.specs.Texts.{spaced}
 use Rattle.shell.specs.Lines.{faultMessage, joined}
 

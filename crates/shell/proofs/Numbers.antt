@@ -13,7 +13,7 @@ use Rattle.tree.specs.Subtrees.{subtree}
 use Rattle.tree.specs.Commands.{descend}
 use Rattle.message.specs.Messages.{message, illFormed, clearScreen}
 use Rattle.message.specs.Debug.{unknownHelp}
-use Rattle.message.specs.declared.told.Told.the-variants.{UnknownCommand, UnknownOption, MissingValue, MissingRequired, NoHandler}
+use Rattle.message.specs.declared.error.ParseError.the-variants.{UnknownCommand, UnknownOption, MissingValue, MissingRequired, NoHandler}
 use Rattle.help.specs.Answer.{Reply, said, unknown, wordless, helpOf}
 use Rattle.parse.specs.Commands.{Outcome, parseWords, parseLine}
 use Rattle.parse.proofs.Answers.{Numbered, report, four, five, six, seven, numbered}

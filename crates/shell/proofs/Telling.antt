@@ -12,10 +12,10 @@ use Rattle.tree.specs.Images.{framesOf}
 use Rattle.tree.specs.Commands.{reachedBy}
 use Rattle.tree.specs.Trails.{partAt}
 use Rattle.message.specs.Messages.{message}
-use Rattle.message.specs.declared.told.Told.{Told}
-use Rattle.message.specs.declared.told.Told.the-variants.{NoHandler}
-use Rattle.scan.specs.Arguments.{Found}
-use Rattle.scan.specs.Held.{foundOf}
+use Rattle.message.specs.declared.error.ParseError.{ParseError}
+use Rattle.message.specs.declared.error.ParseError.the-variants.{NoHandler}
+use Rattle.arguments.specs.Arguments.{Found}
+use Rattle.arguments.specs.Held.{foundOf}
 use Rattle.parse.specs.Commands.{parsed, parseWords}
 use Rattle.parse.specs.Answer.{toldIn}
 use Rattle.parse.specs.Held.{outcomeIn, numberOf, dashesOf, textOf}
@@ -57,12 +57,12 @@ module _ (words image rest : List ℕ) (j : Judged) (handler : ℕ) where
   found = foundOf words part rest (j .scan)
 
   -- A FAULT
-  module _ (number dashes : ℕ) (told : Told) (t : List ℕ) (n : number ≡ numberOf (j .verdict)) (some : numberOf (j .verdict) ≡ 0 → ⊥)
+  module _ (number dashes : ℕ) (told : ParseError) (t : List ℕ) (n : number ≡ numberOf (j .verdict)) (some : numberOf (j .verdict) ≡ 0 → ⊥)
       (d : dashes ≡ dashesOf (j .verdict)) (e : t ≡ textOf words part (j .verdict)) (m : told ≡ faultMessage number) where
     pub fault-carried : text number (message told (dashed dashes t)) ≡ carried handler (outcomeIn words image rest j)
     unfolding outcomeIn carried
     fault-carried =
-        ap (λ (x : Told). text number (message x (dashed dashes t))) m
+        ap (λ (x : ParseError). text number (message x (dashed dashes t))) m
         ∙ ap (λ (x : ℕ). text x (message (faultMessage x) (dashed dashes t))) n
         ∙ ap (λ (x : ℕ). text (numberOf (j .verdict)) (message (faultMessage (numberOf (j .verdict))) (dashed x t))) d
         ∙ ap (λ (x : List ℕ). text (numberOf (j .verdict)) (message (faultMessage (numberOf (j .verdict))) (dashed (dashesOf (j .verdict)) x))) e

@@ -14,8 +14,8 @@ use Rattle.tree.specs.Commands.{descend}
 use Rattle.ink.specs.Ascii.{ascii}
 use Rattle.message.specs.Messages.{message, illFormed, clearScreen}
 use Rattle.message.specs.Debug.{unknownHelp}
-use Rattle.message.specs.declared.told.Told.{Told}
-use Rattle.message.specs.declared.told.Told.the-variants.{UnknownCommand, UnknownOption, MissingValue, MissingRequired, NoHandler}
+use Rattle.message.specs.declared.error.ParseError.{ParseError}
+use Rattle.message.specs.declared.error.ParseError.the-variants.{UnknownCommand, UnknownOption, MissingValue, MissingRequired, NoHandler}
 use Rattle.layout.specs.Texts.{spaced, availableText}
 use Rattle.help.specs.Answer.{Reply, said, unknown, wordless, helpOf}
 use Rattle.parse.specs.Commands.{Outcome, parsed, fault, emptyCommand, parseIn}
@@ -59,7 +59,7 @@ helpSaid (unknown word) = text 4 (unknownHelp word)
 helpSaid wordless = silence
 
 -- the message of a fault by its number
-unfoldable pub faultMessage : ℕ → Told
+unfoldable pub faultMessage : ℕ → ParseError
 faultMessage number = cond (eqb number 4) UnknownCommand (cond (eqb number 5) UnknownOption (cond (eqb number 6) MissingValue MissingRequired))
 
 -- words joined by spaces

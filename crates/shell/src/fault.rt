@@ -1,10 +1,10 @@
 // The messages of what is wrong with a line: of a fault, and of a command without a handler.
+use buffer::rest;
 use frame::Framed;
 use frame::read_frame;
-use image::rest;
 use ink::Shown;
 use ink::put;
-use message::Told;
+use message::ParseError;
 use message::show_message;
 use report::write_fault;
 ghost use mathlib.Core.Path.{_≡_};
@@ -15,24 +15,24 @@ ghost use Rattle.report.specs.Report.{dashed};
 ghost use Rattle.ink.specs.Inks.{Inked};
 ghost use Rattle.ink.specs.Answer.{Showing};
 ghost use Rattle.message.specs.Messages.{message};
-ghost use Rattle.message.specs.declared.told.Told.the-variants.{NoHandler};
+ghost use Rattle.message.specs.declared.error.ParseError.the-variants.{NoHandler};
 ghost use Rattle.layout.specs.Texts.{spaced};
 ghost use Rattle.shell.specs.Lines.{faultMessage, joined};
 
 // The message of a fault by its number.
-pub fn told_of(number: u8) -> Told
+pub fn told_of(number: u8) -> ParseError
     ensures { λ r. ⌜ r ≡ faultMessage number ⌝ }
 {
     match number {
-        4 => Told::UnknownCommand,
-        5 => Told::UnknownOption,
-        6 => Told::MissingValue,
-        _ => Told::MissingRequired,
+        4 => ParseError::UnknownCommand,
+        5 => ParseError::UnknownOption,
+        6 => ParseError::MissingValue,
+        _ => ParseError::MissingRequired,
     }
 }
 
 // The message that names some dashes and a text: put together as the frame of a fault, and lent from behind its head.
-pub fn show_dashed(told: Told, dashes: usize, text: &[u8], out: &mut [u8]) -> Shown
+pub fn show_dashed(told: ParseError, dashes: usize, text: &[u8], out: &mut [u8]) -> Shown
     requires { ⌜ (dashes < 256) × (length (now text) ≤ 4096) ⌝ }
     ensures { λ r. ⌜ Showing (message told (dashed dashes (now (text .entry)))) (now (out .entry)) r (now (out .exit)) ⌝ }
 {
@@ -69,5 +69,5 @@ pub fn show_no_handler(path: &[u8], out: &mut [u8]) -> Shown
 {
     let mut words = [0u8; 4096];
     let end = put_path(path, &mut words);
-    show_message(Told::NoHandler, rest(&words[..end], 1), out)
+    show_message(ParseError::NoHandler, rest(&words[..end], 1), out)
 }

@@ -15,7 +15,7 @@ use Rattle.buffer.proofs.Lending.{rest-lent, rest-written}
 use Rattle.session.specs.Prints.{linesOf}
 use Rattle.session.specs.Lines.{Standing, pressKey}
 use Rattle.session.specs.Held.{Laid, printing as answering}
-use Rattle.session.specs.Calls.{most, PressingKey}
+use Rattle.session.specs.Calls.{keyRoom, PressingKey}
 use Rattle.session.specs.declared.running.Printing.{Printing}
 use Rattle.session.specs.declared.running.Printing.the-variants.{Goes, Ends}
 use Rattle.session.specs.declared.standing.Session.{Session}
@@ -42,9 +42,9 @@ other-never : (b : Bool) (n : ℕ) (x : Printing) → x ≡ answering b n → On
 other-never true n x e k = miss (2 ∷ 3 ∷ 4 ∷ []) 1 tt (rw e at k)
 other-never false n x e k = miss (2 ∷ 3 ∷ 4 ∷ []) 0 tt (rw e at k)
 
-module _ (h : Session) (image slots : List ℕ) (byte : ℕ) (out : List ℕ) (at : ℕ) (k : Holds (standingOf h image slots) h image slots) (room : at + most ≤ length out)
+module _ (h : Session) (image slots : List ℕ) (byte : ℕ) (out : List ℕ) (at : ℕ) (k : Holds (standingOf h image slots) h image slots) (room : at + keyRoom ≤ length out)
     (r : Pressing) (slots′ e : List ℕ) (p : PressingKey h image slots byte (take (length out - at) (drop at out)) r slots′ e) where
-  lent : most ≤ length (take (length out - at) (drop at out))
+  lent : keyRoom ≤ length (take (length out - at) (drop at out))
   lent = rw (rest-lent out at) (rw (length-drop at out) (omega arith))
 
   told : Laid (pressKey (standingOf h image slots) byte .prints) (pressKey (standingOf h image slots) byte .ends) (take (length out - at) (drop at out)) (r .answer) e
@@ -87,18 +87,18 @@ module _ (room : ℕ) (at : Standing) where
   press-none = refl
 
   module _ (byte : ℕ) (keys : List ℕ) where
-    press-full : room < most → pressSome room at (byte ∷ keys) ≡ record { prints = []; after = waits at (byte ∷ keys) }
+    press-full : room < keyRoom → pressSome room at (byte ∷ keys) ≡ record { prints = []; after = waits at (byte ∷ keys) }
     unfolding pressSome
-    press-full h = then-is _ _ _ (lt-ltb room most h)
+    press-full h = then-is _ _ _ (lt-ltb room keyRoom h)
 
-    press-ends : most ≤ room → pressKey at byte .ends ≡ true → pressSome room at (byte ∷ keys) ≡ record { prints = pressKey at byte .prints; after = closed }
+    press-ends : keyRoom ≤ room → pressKey at byte .ends ≡ true → pressSome room at (byte ∷ keys) ≡ record { prints = pressKey at byte .prints; after = closed }
     unfolding pressSome
-    press-ends h e = else-is _ _ _ (le-ltb room most h) ∙ then-is _ _ _ e
+    press-ends h e = else-is _ _ _ (le-ltb room keyRoom h) ∙ then-is _ _ _ e
 
-    press-goes : most ≤ room → pressKey at byte .ends ≡ false
+    press-goes : keyRoom ≤ room → pressKey at byte .ends ≡ false
         → pressSome room at (byte ∷ keys) ≡ printing (pressKey at byte .prints) (pressSome (room - size (pressKey at byte .prints)) (pressKey at byte .after) keys)
     unfolding pressSome
-    press-goes h e = else-is _ _ _ (le-ltb room most h) ∙ else-is _ _ _ e
+    press-goes h e = else-is _ _ _ (le-ltb room keyRoom h) ∙ else-is _ _ _ e
 
 -- the move that is still to be made, with the keys from a place on
 abbrev pub ahead : Session → List ℕ → List ℕ → List ℕ → List ℕ → ℕ → ℕ → ℕ → Move
@@ -121,7 +121,7 @@ module _ (line image : List ℕ) (keys : ℕ) (m₀ : Move) (out₀ : List ℕ) 
     first = keys-first line next keys more (let w = g .ready .whole in omega arith)
 
     -- no room for a further key
-    pub keys-wait : (s : _) → s ≡ waiting here next keys → length out - printed < most → Moved m₀ out₀ at₀ (record { stream = s; printed = printed }) line image slots out
+    pub keys-wait : (s : _) → s ≡ waiting here next keys → length out - printed < keyRoom → Moved m₀ out₀ at₀ (record { stream = s; printed = printed }) line image slots out
     keys-wait s e h =
         rw e
         (record {
@@ -135,7 +135,7 @@ module _ (line image : List ℕ) (keys : ℕ) (m₀ : Move) (out₀ : List ℕ) 
           sound = sound-waiting here line image slots (g .ready) next keys more few;
         })
 
-    module _ (roomy : most ≤ length out - printed) (r : Keyed) (slots′ out′ : List ℕ)
+    module _ (roomy : keyRoom ≤ length out - printed) (r : Keyed) (slots′ out′ : List ℕ)
         (k : KeyMade (pressKey (standingOf here image slots) (getD line next 0)) image slots out printed r slots′ out′) where
       key-fits : printed + size (pressKey (standingOf here image slots) (getD line next 0) .prints) ≤ length out
       key-fits = written-fits (linesOf (pressKey (standingOf here image slots) (getD line next 0) .prints)) out out′ printed (g .fits) (k .bytes) (k .outs)

@@ -11,7 +11,7 @@ use borrow.Author.Tests.{le-ltb, leb-false, eqb-true}
 use Rattle.buffer.proofs.Choices.{else-is, true-is-not-false}
 use Rattle.frame.specs.House.{LF, ended}
 use Rattle.session.specs.Lines.{Standing}
-use Rattle.session.specs.Calls.{most}
+use Rattle.session.specs.Calls.{keyRoom}
 use Rattle.stream.specs.Bytes.{lineRoom, closes}
 use Rattle.stream.specs.Moves.{reads, Move, size, lineMove, Went, stays, printed, takeSome}
 use Rattle.stream.specs.Held.{reach, isClosed, lineOf}
@@ -90,7 +90,7 @@ open-unended held (byte ∷ bytes) e c = by (closes (length held) byte) refl c (
         ∙ f (ended-snoc held byte ∙ other) (ap (λ (m : ℕ). isClosed m bytes) (sym n) ∙ q)
 
 -- the definition, line by line
-module _ (room : ℕ) (roomy : most ≤ room) (at : Standing) where
+module _ (room : ℕ) (roomy : keyRoom ≤ room) (at : Standing) where
   -- a line that is at its end, or bytes that are held, and the bytes behind them
   abbrev goes : Bool → List ℕ → List ℕ → List ℕ → Went
   goes b text all left =
@@ -101,7 +101,7 @@ module _ (room : ℕ) (roomy : most ≤ room) (at : Standing) where
       → takeSome room (reads at held) bytes ≡ goes (isClosed (length held) bytes) (held ++ take (reach (length held) bytes) bytes) (held ++ bytes) (drop (reach (length held) bytes) bytes)
   unfolding takeSome reach isClosed
   by-line held [] = ap (λ (l : List ℕ). stays (reads at l) []) (sym (append-nil held))
-  by-line held (byte ∷ bytes) = else-is _ _ _ (le-ltb room most roomy) ∙ by (closes (length held) byte) refl (by-line (held ++ (byte ∷ [])) bytes)
+  by-line held (byte ∷ bytes) = else-is _ _ _ (le-ltb room keyRoom roomy) ∙ by (closes (length held) byte) refl (by-line (held ++ (byte ∷ [])) bytes)
     where
       by : (b : Bool) → closes (length held) byte ≡ b
           → takeSome room (reads at (held ++ (byte ∷ []))) bytes

@@ -15,7 +15,7 @@ use Rattle.buffer.proofs.Choices.{then-is, else-is, true-is-not-false}
 use Rattle.buffer.proofs.Lending.{length-overAt, overAt-front, overAt-nothing}
 use Rattle.frame.specs.House.{ended}
 use Rattle.session.specs.Prints.{Printed, badLine, linesOf}
-use Rattle.session.specs.Calls.{most, RefusingLine}
+use Rattle.session.specs.Calls.{keyRoom, RefusingLine}
 use Rattle.session.specs.declared.running.Printing.{Printing}
 use Rattle.session.specs.declared.running.Printing.the-variants.{Ends}
 use Rattle.session.proofs.running.Printing.{the-type}
@@ -212,10 +212,10 @@ stays-none : (room : ℕ) (s : Stand) → takeSome room s [] ≡ stays s []
 unfolding takeSome
 stays-none room s = refl
 
-stays-full : (room : ℕ) (s : Stand) (bytes : List ℕ) → room < most → takeSome room s bytes ≡ stays s bytes
+stays-full : (room : ℕ) (s : Stand) (bytes : List ℕ) → room < keyRoom → takeSome room s bytes ≡ stays s bytes
 unfolding takeSome
 stays-full room s [] h = refl
-stays-full room (reads at held) (byte ∷ bytes) h = then-is _ _ _ (lt-ltb room most h)
+stays-full room (reads at held) (byte ∷ bytes) h = then-is _ _ _ (lt-ltb room keyRoom h)
 stays-full room (waits at keys) (byte ∷ bytes) h = refl
 stays-full room closed (byte ∷ bytes) h = refl
 
@@ -239,7 +239,7 @@ module _ (piece : List ℕ) (w₀ : Went) (out₀ : List ℕ) (at₀ : ℕ) (lin
   pub step-busy : busyWith here ≡ true → Pieced w₀ piece out₀ at₀ (record { stream = here; took = took; printed = made }) line image slots out
   step-busy e = ends-by (stays-busy (length out - made) here line image slots (drop took piece) e)
 
-  pub step-full : length out - made < most → Pieced w₀ piece out₀ at₀ (record { stream = here; took = took; printed = made }) line image slots out
+  pub step-full : length out - made < keyRoom → Pieced w₀ piece out₀ at₀ (record { stream = here; took = took; printed = made }) line image slots out
   step-full h = ends-by (stays-full (length out - made) (standOf here line image slots) (drop took piece) h)
 
   pub step-done : length piece ≤ took → Pieced w₀ piece out₀ at₀ (record { stream = here; took = took; printed = made }) line image slots out
@@ -249,7 +249,7 @@ module _ (piece : List ℕ) (w₀ : Went) (out₀ : List ℕ) (at₀ : ℕ) (lin
       ends-by (rw none (stays-none (length out - made) (standOf here line image slots)))
 
   -- a line more
-  module _ (idle : busyWith here ≡ false) (roomy : most ≤ length out - made) (bytes : List ℕ) (part : bytes ≡ drop took piece) (r : Step) (line′ image′ slots′ out′ : List ℕ)
+  module _ (idle : busyWith here ≡ false) (roomy : keyRoom ≤ length out - made) (bytes : List ℕ) (part : bytes ≡ drop took piece) (r : Step) (line′ image′ slots′ out′ : List ℕ)
       (t : Takes (lineOf (length out - made) (standingOf (here .session) image slots) (take (here .held) line) bytes) (reach (here .held) bytes) out made r line′ image′ slots′ out′) where
     pub more-within : took + r .took ≤ length piece
     more-within =

@@ -13,7 +13,7 @@ use Rattle.frame.specs.Hex.{unhex}
 use Rattle.frame.specs.declared.house.House.{House}
 use Rattle.session.specs.Prints.{Printed, badLine, linesOf}
 use Rattle.session.specs.Lines.{formBy, formless, Form, lineForm, Standing, beginning, Taking, grown, pressing, refused, takeForm, takeLine, Course, behind, pressKey, pressKeys, onTaking, lineCourse, session}
-use Rattle.session.specs.Calls.{most}
+use Rattle.session.specs.Calls.{keyRoom}
 use Rattle.session.proofs.Printings.{lines-both}
 use Rattle.stream.specs.Bytes.{closes, cut, linesIn, console}
 use Rattle.stream.specs.Moves.{Stand, reads, waits, closed, start, onward, rest, behindLine, Move, printing, size, pressSome, moveBy, lineMove, Went, stays, printed, takeSome, resume, stepBy, last}
@@ -59,7 +59,7 @@ press-rest : (room : ℕ) (at : Standing) (keys bytes : List ℕ) → rest (wait
 unfolding rest pressSome pressKeys
 press-rest room at [] bytes = sym (behind-rest at bytes)
 press-rest room at (byte ∷ keys) bytes =
-    full (ltb room most) (ends (pressKey at byte .ends) refl (press-rest (room - size (pressKey at byte .prints)) (pressKey at byte .after) keys bytes))
+    full (ltb room keyRoom) (ends (pressKey at byte .ends) refl (press-rest (room - size (pressKey at byte .prints)) (pressKey at byte .after) keys bytes))
   where
     further : Standing → List Printed
     further after = session after (cut [] bytes)
@@ -93,7 +93,7 @@ press-fit : (room : ℕ) (at : Standing) (keys : List ℕ) → Fit (pressSome ro
 unfolding pressSome
 press-fit room at [] = behind-fit at
 press-fit room at (byte ∷ keys) =
-    either-fit (ltb room most) _ _ tt
+    either-fit (ltb room keyRoom) _ _ tt
     (either-fit (pressKey at byte .ends) (record { prints = pressKey at byte .prints; after = closed })
     (printing (pressKey at byte .prints) (pressSome (room - size (pressKey at byte .prints)) (pressKey at byte .after) keys)) tt
     (press-fit (room - size (pressKey at byte .prints)) (pressKey at byte .after) keys))
@@ -154,7 +154,7 @@ take-comes room (waits at keys) (byte ∷ piece) more f = comes-stay (waits at k
 take-comes room (reads at held) (byte ∷ piece) more f =
     let line : List ℕ = held ++ (byte ∷ []) in
     let move : Move = lineMove room at line in
-    either-comes (ltb room most) _ _ _ _ _ (λ e. comes-stay (reads at held) (byte ∷ piece) more f)
+    either-comes (ltb room keyRoom) _ _ _ _ _ (λ e. comes-stay (reads at held) (byte ∷ piece) more f)
     (λ e. either-comes (closes (length held) byte) _ _ _ _ _
     (λ c. comes-then (reads at held) (move .after) (move .prints) (takeSome (room - size (move .prints)) (move .after) piece) (byte ∷ piece) piece more
     (ap (session at) (then-is _ _ _ c) ∙ line-rest room at line (piece ++ more) (f .0)) (take-comes (room - size (move .prints)) (move .after) piece more (line-fit room at line)))

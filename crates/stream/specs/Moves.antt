@@ -6,7 +6,7 @@ use lib.Dec.{ltb}
 use lib.ListN.{length}
 use Rattle.session.specs.Prints.{Printed, badLine, linesOf}
 use Rattle.session.specs.Lines.{Standing, beginning, Course, Taking, grown, pressing, refused, takeLine, pressKey, pressKeys, session}
-use Rattle.session.specs.Calls.{most}
+use Rattle.session.specs.Calls.{keyRoom}
 use Rattle.stream.specs.Bytes.{closes, cut}
 
 -- some bytes of a line have come; keys of the last line are still to be pressed; the session is at its end
@@ -47,7 +47,7 @@ size prints = length (linesOf prints)
 unfoldable pub pressSome : ℕ → Standing → List ℕ → Move
 pressSome room at [] = record { prints = []; after = behindLine at }
 pressSome room at (byte ∷ keys) =
-    cond (ltb room most) (record { prints = []; after = waits at (byte ∷ keys) })
+    cond (ltb room keyRoom) (record { prints = []; after = waits at (byte ∷ keys) })
     (cond (pressKey at byte .ends) (record { prints = pressKey at byte .prints; after = closed })
     (printing (pressKey at byte .prints) (pressSome (room - size (pressKey at byte .prints)) (pressKey at byte .after) keys)))
 
@@ -77,7 +77,7 @@ takeSome room s [] = stays s []
 takeSome room closed (byte ∷ bytes) = stays closed (byte ∷ bytes)
 takeSome room (waits at keys) (byte ∷ bytes) = stays (waits at keys) (byte ∷ bytes)
 takeSome room (reads at held) (byte ∷ bytes) =
-    cond (ltb room most) (stays (reads at held) (byte ∷ bytes))
+    cond (ltb room keyRoom) (stays (reads at held) (byte ∷ bytes))
     (cond (closes (length held) byte)
     (let move : Move = lineMove room at (held ++ (byte ∷ [])) in printed (move .prints) (takeSome (room - size (move .prints)) (move .after) bytes))
     (takeSome room (reads at (held ++ (byte ∷ []))) bytes))

@@ -8,7 +8,7 @@ ghost use mathlib.Core.Path.{_≡_};
 ghost use Prim.Native.Nat.{_+_, _-_, _≤_};
 ghost use lib.ListN.{length};
 ghost use Rattle.session.specs.Lines.{pressKey};
-ghost use Rattle.session.specs.Calls.{most};
+ghost use Rattle.session.specs.Calls.{keyRoom};
 ghost use Rattle.session.proofs.Held.{Holds};
 ghost use Rattle.stream.specs.Moves.{pressSome};
 ghost use Rattle.stream.specs.Bytes.{lineRoom};
@@ -30,7 +30,7 @@ fn press_at(
     out: &mut [u8],
     at: usize,
 ) -> Keyed
-    requires { ⌜ Holds (standingOf session (now image) (now slots)) session (now image) (now slots) × (at + most ≤ length (now out)) ⌝ }
+    requires { ⌜ Holds (standingOf session (now image) (now slots)) session (now image) (now slots) × (at + keyRoom ≤ length (now out)) ⌝ }
     ensures { λ r. ⌜ KeyMade (pressKey (standingOf session (now (image .entry)) (now (slots .entry))) byte) (now (image .entry)) (now (slots .entry)) (now (out .entry)) at r (now (slots .exit)) (now (out .exit)) ⌝ }
 {
     let pressing = press(session, image, slots, byte, &mut out[at..]);

@@ -4,7 +4,7 @@ use super::standing::Printout;
 use super::standing::Step;
 use super::standing::Stream;
 use super::taking::take_bytes;
-use image::rest;
+use buffer::rest;
 use session::Printing;
 use session::refuse;
 ghost use mathlib.Core.Path.{_≡_};

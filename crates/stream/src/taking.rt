@@ -5,8 +5,8 @@ use super::standing::Printout;
 use super::standing::Step;
 use super::standing::Stream;
 use buffer::copy;
-use image::part;
-use image::rest;
+use buffer::part;
+use buffer::rest;
 use session::Printing;
 use session::Session;
 use session::Taken;
@@ -17,7 +17,7 @@ ghost use mathlib.Core.Path.{_≡_};
 ghost use mathlib.Core.Bool.{false};
 ghost use Prim.Native.Nat.{_+_, _-_, _<_, _≤_};
 ghost use lib.ListN.{length, take};
-ghost use Rattle.session.specs.Calls.{most};
+ghost use Rattle.session.specs.Calls.{keyRoom};
 ghost use Rattle.stream.specs.Moves.{pressSome, lineMove};
 ghost use Rattle.stream.specs.Held.{busyWith, standingOf, Ready, Sound, reach, LineRead, Refuses, Moved, lineOf, Takes};
 
@@ -87,7 +87,7 @@ fn take_whole(
     at: usize,
 ) -> Printout
     requires { ⌜ Ready session (now line) (now image) (now slots) ⌝ }
-    requires { ⌜ (session .lines < 65535) × (at + most ≤ length (now out)) ⌝ }
+    requires { ⌜ (session .lines < 65535) × (at + keyRoom ≤ length (now out)) ⌝ }
     ensures { λ r. ⌜ Moved (lineMove (length (now (out .entry)) - at) (standingOf session (now (image .entry)) (now (slots .entry))) (take held (now (line .entry)))) (now (out .entry)) at r (now (line .exit)) (now (image .exit)) (now (slots .exit)) (now (out .exit)) ⌝ }
 {
     let mut frame = blank_frame();
@@ -121,7 +121,7 @@ pub fn take_bytes(
     out: &mut [u8],
     at: usize,
 ) -> Step
-    requires { ⌜ Sound stream (now line) (now image) (now slots) × (busyWith stream ≡ false) × (at + most ≤ length (now out)) ⌝ }
+    requires { ⌜ Sound stream (now line) (now image) (now slots) × (busyWith stream ≡ false) × (at + keyRoom ≤ length (now out)) ⌝ }
     ensures { λ r. ⌜ Takes (lineOf (length (now (out .entry)) - at) (standingOf (stream .session) (now (image .entry)) (now (slots .entry))) (take (stream .held) (now (line .entry))) (now (bytes .entry))) (reach (stream .held) (now (bytes .entry))) (now (out .entry)) at r (now (line .exit)) (now (image .exit)) (now (slots .exit)) (now (out .exit)) ⌝ }
 {
     let session = stream.session;

@@ -12,8 +12,8 @@ use Rattle.table.specs.Map.{Map, put, Rising, putWithin}
 use Rattle.table.specs.Seek.{seekFrom, opened}
 use Rattle.table.specs.Held.{keyOf, valueOf, entries, mapOf, capacity}
 use Rattle.table.specs.declared.sorted.Table.{Table}
-use Rattle.table.specs.declared.sorted.Spot.{Spot}
-use Rattle.table.specs.declared.sorted.Spot.the-variants.{Here, Gap}
+use Rattle.table.specs.declared.sorted.Rank.{Rank}
+use Rattle.table.specs.declared.sorted.Rank.the-variants.{Here, Gap}
 use Rattle.table.proofs.Maps.{put-rises}
 use Rattle.table.proofs.Views.{map-size, size-is, entries-set, entries-opened}
 use Rattle.table.proofs.Shifting.{length-opened}
@@ -37,12 +37,12 @@ within-rises most k v m r = by (ltb most (length (put k v m)))
     by false = put-rises k v m r
 
 -- what the search answered for a key that was lent back
-pub found-at : (words image : List ℕ) (t : Table) (k x : List ℕ) (q s : Spot) → x ≡ k → q ≡ seekFrom 0 x (mapOf words image t) → q ≡ s
+pub found-at : (words image : List ℕ) (t : Table) (k x : List ℕ) (q s : Rank) → x ≡ k → q ≡ seekFrom 0 x (mapOf words image t) → q ≡ s
     → seekFrom 0 k (mapOf words image t) ≡ s
 found-at words image t k x q s e r h = ap (λ (y : List ℕ). seekFrom 0 y (mapOf words image t)) (sym e) ∙ sym r ∙ h
 
 -- where `put` goes then
-spotted : (k v : List ℕ) (m : Map) (s : Spot) → seekFrom 0 k m ≡ s → PutAt k v m 0 s
+spotted : (k v : List ℕ) (m : Map) (s : Rank) → seekFrom 0 k m ≡ s → PutAt k v m 0 s
 spotted k v m s e = rw e at (put-at k v 0 m)
 
 module _ (words image : List ℕ) (t : Table) (l : length (t .at) ≡ 64) (e j : ℕ) where

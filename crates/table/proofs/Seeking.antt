@@ -9,8 +9,8 @@ use Rattle.buffer.specs.declared.order.Order.{Order}
 use Rattle.buffer.specs.declared.order.Order.the-variants.{Less, Equal, Greater}
 use Rattle.table.specs.Map.{Map, onOrder, put}
 use Rattle.table.specs.Seek.{seekFrom, opened}
-use Rattle.table.specs.declared.sorted.Spot.{Spot}
-use Rattle.table.specs.declared.sorted.Spot.the-variants.{Here, Gap}
+use Rattle.table.specs.declared.sorted.Rank.{Rank}
+use Rattle.table.specs.declared.sorted.Rank.the-variants.{Here, Gap}
 use Rattle.table.proofs.Maps.{put-none, put-less, put-equal, put-greater}
 
 -- where `put` goes in a map that i keys precede: it replaces at a place, or opens one
@@ -26,12 +26,12 @@ pub record Opened (k v : List ℕ) (m : Map) (i j : ℕ) : Type 0 where
   pub within : depth ≤ length m
   pub is : put k v m ≡ opened depth (k, v) m
 
-abbrev pub PutAt : List ℕ → List ℕ → Map → ℕ → Spot → Type 0
+abbrev pub PutAt : List ℕ → List ℕ → Map → ℕ → Rank → Type 0
 PutAt k v m i (Here j) = Replaced k v m i j
 PutAt k v m i (Gap j) = Opened k v m i j
 
 module _ (k v : List ℕ) where
-  deeper : (e : List ℕ × List ℕ) (m : Map) (i : ℕ) (s : Spot) → order k (e .0) ≡ Greater → PutAt k v m (suc i) s → PutAt k v (e ∷ m) i s
+  deeper : (e : List ℕ × List ℕ) (m : Map) (i : ℕ) (s : Rank) → order k (e .0) ≡ Greater → PutAt k v m (suc i) s → PutAt k v (e ∷ m) i s
   deeper e m i (Here j) q p =
       record {
         depth = suc (p .depth);

@@ -15,7 +15,7 @@ use Rattle.table.specs.Map.{onOrder, has}
 use Rattle.table.specs.Seek.{seekFrom, opened}
 use Rattle.table.specs.Held.{keyOf, valueOf, entries, mapOf, tabled, sizeOf}
 use Rattle.table.specs.declared.sorted.Table.{Table}
-use Rattle.table.specs.declared.sorted.Spot.the-variants.{Here, Gap}
+use Rattle.table.specs.declared.sorted.Rank.the-variants.{Here, Gap}
 
 -- the array of a table has 64 elements, as its type says it in the logic
 pub whole : (l : List ℕ) → length (map (λ (x : ℕ). x) l) ≡ 64 → length l ≡ 64

@@ -2,8 +2,8 @@
 mod packing;
 mod sorted;
 
-pub use packing::Part;
 pub use packing::Source;
+pub use packing::Span;
 pub use packing::entry;
 pub use packing::key;
 pub use packing::value;

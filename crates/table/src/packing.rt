@@ -4,7 +4,7 @@ ghost use Prim.Native.Nat.{_≤_, _<_};
 ghost use Rattle.table.specs.Held.{partOf, bitOf, packed, keyOf, valueOf};
 
 // Where a text lies in its slice.
-pub struct Part {
+pub struct Span {
     pub start: usize,
     pub length: usize,
 }
@@ -25,7 +25,7 @@ fn bit_of(source: Source) -> usize
 }
 
 // The entry of a key and of its value, which lies in the words.
-pub fn entry(source: Source, key: Part, value: Part) -> usize
+pub fn entry(source: Source, key: Span, value: Span) -> usize
     requires { ⌜ (key .start < 0x10000) × (key .length < 0x10000) × (value .start < 0x2000) × (value .length < 0x2000) ⌝ }
     ensures { λ r. ⌜ r ≡ packed (bitOf source) (key .start) (key .length) (value .start) (value .length) ⌝ }
 {

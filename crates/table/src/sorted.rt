@@ -21,7 +21,7 @@ pub struct Table {
 }
 
 // Where a key is: at a place, or missing there.
-enum Spot {
+enum Rank {
     Here(usize),
     Gap(usize),
 }
@@ -66,7 +66,7 @@ impl Table {
 }
 
 // Where the key stands among the first n entries, or would stand.
-fn seek<'a>(words: &'a [u8], image: &'a [u8], table: &[usize], n: usize, wanted: &'a [u8]) -> Spot
+fn seek<'a>(words: &'a [u8], image: &'a [u8], table: &[usize], n: usize, wanted: &'a [u8]) -> Rank
     requires { ⌜ n ≤ length (now table) ⌝ }
     ensures { λ r. ⌜ r ≡ seekFrom 0 (now (wanted .entry)) (mapOf (now (words .entry)) (now (image .entry)) (tabled n (now (table .entry)))) ⌝ }
 {
@@ -74,14 +74,14 @@ fn seek<'a>(words: &'a [u8], image: &'a [u8], table: &[usize], n: usize, wanted:
     while i < n {
         let e = table[i];
         match compare(wanted, key(words, image, e)) {
-            Order::Less => return Spot::Gap(i),
-            Order::Equal => return Spot::Here(i),
+            Order::Less => return Rank::Gap(i),
+            Order::Equal => return Rank::Here(i),
             Order::Greater => {
                 i += 1;
             }
         }
     }
-    Spot::Gap(i)
+    Rank::Gap(i)
 }
 
 // The entry stored at a place of the first n, and those from there on one place further.
@@ -106,11 +106,11 @@ pub fn put<'a>(words: &'a [u8], image: &'a [u8], table: &mut [usize], n: usize, 
     ensures { λ r. ⌜ (mapOf (now (words .entry)) (now (image .entry)) (tabled r (now (table .exit))) ≡ putEntry (now (words .entry)) (now (image .entry)) e (tabled n (now (table .entry)))) × Fit r (now (table .exit)) ⌝ }
 {
     match seek(words, image, table, n, key(words, image, e)) {
-        Spot::Here(i) => {
+        Rank::Here(i) => {
             table[i] = e;
             n
         }
-        Spot::Gap(i) => {
+        Rank::Gap(i) => {
             if n < CAPACITY {
                 open_at(table, n, i, e);
                 return n + 1;

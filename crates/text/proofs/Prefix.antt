@@ -11,7 +11,7 @@ use borrow.Author.Tests.{lt-ltb}
 use types.Run.{OneOf, miss}
 use denote.Enum.Declared.{tagOf}
 use Rattle.text.proofs.utf8.Decoded.{the-type}
-use Rattle.buffer.specs.Most.{greatest}
+use Rattle.buffer.specs.Greatest.{greatest}
 use Rattle.text.specs.Unicode.{low, Scalars, none, more, encode, encodeAll, WellFormed}
 use Rattle.text.specs.declared.utf8.Decoded.{Decoded}
 use Rattle.text.specs.declared.utf8.Decoded.the-variants.{Character, IllFormed, End}

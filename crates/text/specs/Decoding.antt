@@ -118,3 +118,7 @@ codesIn s = codesOf (piecesOf s)
 -- the length of the longest well-formed prefix
 unfoldable pub wellFormedLength : List ℕ → ℕ
 wellFormedLength s = length (encodeAll (codesIn s))
+
+-- a well-formed text: its longest well-formed prefix is all of it
+unfoldable pub wellFormed : List ℕ → Bool
+wellFormed text = eqb (wellFormedLength text) (length text)

@@ -3,7 +3,7 @@ ghost use mathlib.Core.Path.{_≡_};
 ghost use lib.ListN.{length, drop, getD};
 ghost use Prim.Native.Nat.{_%_, _≤_, _<_};
 ghost use Rattle.text.specs.Decoding.{leastSecond, greatestSecond, within, second, later, decodeTwo, decodeThree, decodeFour, table, decodeFirst, lengthOf, letterHead, letterFirst, wellFormedLength};
-use buffer::most;
+use buffer::greatest_byte;
 
 // What stands at a place of a text.
 pub enum Decoded {
@@ -235,7 +235,7 @@ pub fn well_formed_prefix(s: &[u8]) -> usize
     ensures { λ r. ⌜ r ≡ wellFormedLength (now (s .entry)) ⌝ }
 {
     // ASCII is well-formed, and the greatest byte is found many bytes at a time.
-    if most(s) < 0x80 {
+    if greatest_byte(s) < 0x80 {
         return s.len();
     }
     let mut at = 0;

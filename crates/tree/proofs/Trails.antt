@@ -12,7 +12,7 @@ use lib.Seq.{append-snoc, drop-drop, getD-drop, getD-take, take-add, take-append
 use Rattle.buffer.specs.Compare.{sameBytes}
 use Rattle.buffer.proofs.Ordering.{same-is, same-self}
 use Rattle.buffer.proofs.Choices.{then-is, else-is, true-is-not-false}
-use Rattle.frame.specs.Text.{Bytes, number, textOf}
+use Rattle.frame.specs.Text.{Bytes, numberBytes, textOf}
 use Rattle.frame.specs.Framed.{frameFirst}
 use Rattle.frame.specs.Series.{textsIn}
 use Rattle.frame.specs.declared.framed.Framed.{Framed as Frames}
@@ -150,7 +150,7 @@ module _ (image : List ℕ) (at n : ℕ) (b : Bytes image) where
   no-node (flag c name l ds) e k = plain-flag c name l ds
 
   pub node-at : (f : Frame) → readFirst (drop at image) ≡ read f n → getD image at 0 ≡ 1 → NodeAt image at f
-  unfolding encode text textOf number fair isName
+  unfolding encode text textOf numberBytes fair isName
   node-at (node d h name ds u) e k =
       let q : getD image (at + 1) 0 ≡ d = byte-of 1 (node d h name ds u) e in
       record {

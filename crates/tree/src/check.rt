@@ -3,7 +3,7 @@ use super::command::Found;
 use super::command::Trail;
 use super::walk::Walk;
 use super::walk::step_at;
-use image::part;
+use buffer::part;
 ghost use mathlib.Core.Path.{_≡_};
 ghost use Prim.Native.Nat.{_≤_};
 ghost use lib.ListN.{length};

@@ -1,10 +1,10 @@
 // Words followed down an image, while its frames are passed: where the command is that they name.
 use super::walk::name_at;
+use buffer::byte_at;
+use buffer::part;
 use buffer::same;
 use frame::Framed;
 use frame::read_frame;
-use image::byte_at;
-use image::part;
 ghost use mathlib.Core.Path.{_≡_};
 ghost use Prim.Native.Nat.{_+_, _≤_, _<_};
 ghost use lib.ListN.{length, drop, getD};

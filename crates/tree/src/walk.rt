@@ -1,11 +1,11 @@
 // A walk over an image, frame by frame: what the frames before tell, and whether the next may follow them.
 use buffer::Order;
+use buffer::byte_at;
 use buffer::compare;
+use buffer::part;
+use buffer::rest;
 use image::Head;
-use image::byte_at;
 use image::frame_at;
-use image::part;
-use image::rest;
 ghost use mathlib.Core.Path.{_≡_};
 ghost use mathlib.Core.Bool.{false};
 ghost use mathlib.Core.List.{List};

@@ -1,7 +1,7 @@
 -- Both trees are well-formed.
 use mathlib.Core.Path.{_≡_, refl}
 use Rattle.buffer.specs.Compare.{order}
-use Rattle.frame.specs.Text.{number, textOf}
+use Rattle.frame.specs.Text.{numberBytes, textOf}
 use Rattle.image.specs.Frames.{text, perhaps, encode}
 use Rattle.image.specs.Limits.{allShown, isName, isNote, isShort, definable, fair}
 use Rattle.image.specs.Reading.{span, perhapsIn, nodeLengths, definitionLengths, nodeFirst, optionFirst, flagFirst, headFirst, nodeIn, optionIn, flagIn, readFirst}
@@ -13,5 +13,5 @@ use Rattle.trees.specs.Commands.{ascii, command, marked, baseTree, fsTre
 pub good :
     (checkTree (flat baseTree) ≡ WellFormed)
     × (checkTree (flat fsTree) ≡ WellFormed)
-unfolding ascii command marked baseTree fsTree order number textOf text perhaps encode allShown isName isNote isShort definable fair span perhapsIn nodeLengths definitionLengths nodeFirst optionFirst flagFirst headFirst nodeIn optionIn flagIn readFirst itemsFrom items flat rises follows obeys after judge checkTree
+unfolding ascii command marked baseTree fsTree order numberBytes textOf text perhaps encode allShown isName isNote isShort definable fair span perhapsIn nodeLengths definitionLengths nodeFirst optionFirst flagFirst headFirst nodeIn optionIn flagIn readFirst itemsFrom items flat rises follows obeys after judge checkTree
 good = (refl, refl)

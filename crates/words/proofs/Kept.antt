@@ -10,9 +10,9 @@ use Rattle.text.specs.Decoding.{codesIn}
 use Rattle.text.specs.Apart.{ended}
 use Rattle.text.proofs.Pieces.{encode-some}
 use Rattle.text.proofs.Prefix.{codes-scalars}
-use Rattle.words.specs.declared.turn.Turn.{Turn}
-use Rattle.words.specs.declared.turn.Turn.the-variants.{Take, Escape, Toggle, Gap}
-use Rattle.words.specs.Tokens.{turnOf, onTurn, tokensFrom, tokens, wordsOf}
+use Rattle.words.specs.declared.role.Role.{Role}
+use Rattle.words.specs.declared.role.Role.the-variants.{Take, Escape, Toggle, Gap}
+use Rattle.words.specs.Tokens.{roleOf, onRole, tokensFrom, tokens, wordsOf}
 
 -- a property of every word of a list
 pub data Each (P : List ℕ → Type 0) : List (List ℕ) → Type 0 where
@@ -41,12 +41,12 @@ tokens-fair : (word : List ℕ) (quotes escaped : Bool) (codes : List ℕ) → S
 unfolding tokensFrom
 tokens-fair word quotes escaped [] s none = ended-fair word [] s nothing
 tokens-fair word quotes escaped (code ∷ codes) s (more h hs) =
-    by (turnOf quotes escaped code) (tokens-fair (word ++ (code ∷ [])) quotes false codes (scalars-more word code s h) hs) (tokens-fair word quotes true codes s hs)
+    by (roleOf quotes escaped code) (tokens-fair (word ++ (code ∷ [])) quotes false codes (scalars-more word code s h) hs) (tokens-fair word quotes true codes s hs)
     (tokens-fair word (not quotes) false codes s hs) (tokens-fair [] quotes false codes none hs)
   where
-    by : (t : Turn) → Each Fair (tokensFrom (word ++ (code ∷ [])) quotes false codes) → Each Fair (tokensFrom word quotes true codes)
+    by : (t : Role) → Each Fair (tokensFrom (word ++ (code ∷ [])) quotes false codes) → Each Fair (tokensFrom word quotes true codes)
         → Each Fair (tokensFrom word (not quotes) false codes) → Each Fair (tokensFrom [] quotes false codes)
-        → Each Fair (onTurn t (λ _. tokensFrom (word ++ (code ∷ [])) quotes false codes) (λ _. tokensFrom word quotes true codes) (λ _. tokensFrom word (not quotes) false codes)
+        → Each Fair (onRole t (λ _. tokensFrom (word ++ (code ∷ [])) quotes false codes) (λ _. tokensFrom word quotes true codes) (λ _. tokensFrom word (not quotes) false codes)
         (λ _. ended word (tokensFrom [] quotes false codes)))
     by Take a b c d = a
     by Escape a b c d = b

@@ -11,13 +11,13 @@ use Rattle.buffer.proofs.Lending.{length-over, overAt-front, overAt-both, overA
 use Rattle.text.specs.Unicode.{encodeAll}
 use Rattle.text.specs.Apart.{ended}
 use Rattle.text.proofs.Prefix.{encode-append}
-use Rattle.frame.specs.Text.{number, textOf}
+use Rattle.frame.specs.Text.{numberBytes, textOf}
 use Rattle.frame.specs.Framed.{frameOf}
 use Rattle.frame.proofs.Texts.{length-number}
-use Rattle.words.specs.declared.turn.Turn.{Turn}
-use Rattle.words.specs.declared.turn.Turn.the-variants.{Take, Escape, Toggle, Gap}
-use Rattle.words.specs.declared.scan.Scan.{Scan}
-use Rattle.words.specs.Tokens.{framesOf}
+use Rattle.words.specs.declared.role.Role.{Role}
+use Rattle.words.specs.declared.role.Role.the-variants.{Take, Escape, Toggle, Gap}
+use Rattle.words.specs.declared.counting.Scan.{Scan}
+use Rattle.words.specs.Tokens.{wordFrames}
 use Rattle.words.specs.Answer.{written}
 use Rattle.words.specs.Scan.{closedAt, closedBy, advanced, headed, putBy, Reading}
 use Rattle.words.proofs.Steps.{closed-some, headed-none, headed-some, take-room, gap-room}
@@ -40,26 +40,26 @@ close-some : (frames word out : List ℕ) (done n : ℕ) → done ≡ length fra
     → headed done n (laid frames word out done) ≡ over (frames ++ frameOf 0x14 (encodeAll word)) out
 unfolding laid frameOf textOf
 close-some frames word out done n d e some room =
-    let head : List ℕ = 0x14 ∷ number 2 n in
+    let head : List ℕ = 0x14 ∷ numberBytes 2 n in
     let three : length head ≡ 3 = ap suc (length-number 2 n) in
     let place : done + 3 ≡ done + length head = omega arith in
     let size : length (over frames out) ≡ length out = length-over frames out (omega arith) in
-    let is : head ++ encodeAll word ≡ 0x14 ∷ (number 2 (length (encodeAll word)) ++ encodeAll word) =
-    ap (λ (k : ℕ). 0x14 ∷ (number 2 k ++ encodeAll word)) e
+    let is : head ++ encodeAll word ≡ 0x14 ∷ (numberBytes 2 (length (encodeAll word)) ++ encodeAll word) =
+    ap (λ (k : ℕ). 0x14 ∷ (numberBytes 2 k ++ encodeAll word)) e
     in
     headed-some done n _ some
     ∙ ap (λ (k : ℕ). overAt head (overAt (encodeAll word) (over frames out) k) done) place
     ∙ overAt-before head (encodeAll word) (over frames out) done (omega arith)
     ∙ ap (λ (l : List ℕ). overAt l (over frames out) done) is
-    ∙ ap (λ (k : ℕ). overAt (0x14 ∷ (number 2 (length (encodeAll word)) ++ encodeAll word)) (over frames out) k) d
-    ∙ over-behind frames (0x14 ∷ (number 2 (length (encodeAll word)) ++ encodeAll word)) out (omega arith)
+    ∙ ap (λ (k : ℕ). overAt (0x14 ∷ (numberBytes 2 (length (encodeAll word)) ++ encodeAll word)) (over frames out) k) d
+    ∙ over-behind frames (0x14 ∷ (numberBytes 2 (length (encodeAll word)) ++ encodeAll word)) out (omega arith)
 
 some-word : (c : ℕ) (word : List ℕ) → length (encodeAll (c ∷ word)) ≡ 0 → ⊥
 some-word c word e = let q = word-none (c ∷ word) e in let z : _≡_ {A = ℕ} 0 1 = cc in omega arith
 
 close-word : (frames word out : List ℕ) (done n : ℕ) → done ≡ length frames → n ≡ length (encodeAll word) → closedAt done n ≤ length out
     → headed done n (laid frames word out done) ≡ over (frames ++ shown (ended word [])) out
-unfolding laid shown framesOf encodeAll
+unfolding laid shown wordFrames encodeAll
 close-word frames [] out done n d e room =
     headed-none done n _ e
     ∙ overAt-nothing (over frames out) (done + 3)
@@ -93,11 +93,11 @@ laid-more frames word run out done n e f room =
     ∙ ap (λ (l : List ℕ). overAt l (over frames out) (done + 3)) (sym (encode-append word run))
 
 -- the room that the next step asks
-pub step-room : (line out₀ out : List ℕ) (s : Scan) (t : Turn) (n : ℕ) → Laid line out₀ out s → Reading line s t n → length (written line) ≤ length out₀
+pub step-room : (line out₀ out : List ℕ) (s : Scan) (t : Role) (n : ℕ) → Laid line out₀ out s → Reading line s t n → length (written line) ≤ length out₀
     → closedBy (advanced s t n) ≤ length out₀
 step-room line out₀ out s t n h r room = le-trans (standing-room line (advanced s t n) (standing-turn line s t n (h .standing) r)) room
 
-pub laid-turn : (line out₀ out : List ℕ) (s : Scan) (t : Turn) (n : ℕ) → Laid line out₀ out s → Reading line s t n → length (written line) ≤ length out₀
+pub laid-turn : (line out₀ out : List ℕ) (s : Scan) (t : Role) (n : ℕ) → Laid line out₀ out s → Reading line s t n → length (written line) ≤ length out₀
     → Laid line out₀ (putBy line s t n out) (advanced s t n)
 unfolding standing-turn
 laid-turn line out₀ out s Take n h r room =

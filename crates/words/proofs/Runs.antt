@@ -23,14 +23,14 @@ use Rattle.text.specs.Decoding.{decodeFirst, codesIn, letterFirst}
 use Rattle.text.specs.declared.utf8.Decoded.the-variants.{Character}
 use Rattle.text.proofs.Pieces.{character-bytes, character-some, character-fits}
 use Rattle.text.proofs.Prefix.{codes-step, prefix-turn, encode-append}
-use Rattle.words.specs.declared.turn.Turn.{Turn}
-use Rattle.words.specs.declared.turn.Turn.the-variants.{Take, Escape, Toggle, Gap}
-use Rattle.words.specs.declared.scan.Scan.{Scan}
-use Rattle.words.specs.Tokens.{backslash, quote, turnOf, tokensFrom}
+use Rattle.words.specs.declared.role.Role.{Role}
+use Rattle.words.specs.declared.role.Role.the-variants.{Take, Escape, Toggle, Gap}
+use Rattle.words.specs.declared.counting.Scan.{Scan}
+use Rattle.words.specs.Tokens.{backslash, quote, roleOf, tokensFrom}
 use Rattle.words.specs.Scan.{ordinary, ordinaryFirst, doneBy, isTake, runFirst, Reading, StepOf, Run, WholeRun}
 use Rattle.words.specs.declared.step.Step.{Step}
 use Rattle.words.specs.declared.step.Step.the-variants.{Go, IllFormed}
-use Rattle.words.proofs.turn.Turn.{the-type}
+use Rattle.words.proofs.role.Role.{the-type}
 
 codes-on : (line : List ℕ) (at code n : ℕ) → decodeFirst (drop at line) ≡ Character code n → codesIn (drop at line) ≡ code ∷ codesIn (drop (at + n) line)
 codes-on line at code n d = codes-step (drop at line) code n d ∙ ap (λ (l : List ℕ). code ∷ codesIn l) (drop-drop n at line)
@@ -40,7 +40,7 @@ unfolding encodeAll
 one-bytes code = append-nil (encode code)
 
 -- what one character does
-done-by : (word rest : List ℕ) (quotes escaped : Bool) (code : ℕ) (t : Turn) → turnOf quotes escaped code ≡ t
+done-by : (word rest : List ℕ) (quotes escaped : Bool) (code : ℕ) (t : Role) → roleOf quotes escaped code ≡ t
     → tokensFrom word quotes escaped (code ∷ rest) ≡ doneBy t quotes word (code ∷ []) rest
 unfolding tokensFrom
 done-by word rest quotes escaped code Take e = rw e
@@ -48,8 +48,8 @@ done-by word rest quotes escaped code Escape e = rw e
 done-by word rest quotes escaped code Toggle e = rw e
 done-by word rest quotes escaped code Gap e = rw e
 
-pub reading-character : (line : List ℕ) (s : Scan) (code n : ℕ) (t : Turn) → decodeFirst (drop (s .at) line) ≡ Character code n
-    → turnOf (s .quotes) (s .escaped) code ≡ t → Reading line s t n
+pub reading-character : (line : List ℕ) (s : Scan) (code n : ℕ) (t : Role) → decodeFirst (drop (s .at) line) ≡ Character code n
+    → roleOf (s .quotes) (s .escaped) code ≡ t → Reading line s t n
 reading-character line s code n t d e =
     record {
       run = code ∷ [];
@@ -80,7 +80,7 @@ run-start line start quotes h =
 runs-join : (quotes : Bool) (run more : List ℕ) → runFirst quotes run ≡ run → runFirst quotes more ≡ more → runFirst quotes (run ++ more) ≡ run ++ more
 unfolding runFirst
 runs-join quotes [] more h k = k
-runs-join quotes (c ∷ run) more h k = by (isTake (turnOf quotes false c)) h (runs-join quotes run more)
+runs-join quotes (c ∷ run) more h k = by (isTake (roleOf quotes false c)) h (runs-join quotes run more)
   where
     by : (t : Bool) → cond t (c ∷ runFirst quotes run) [] ≡ c ∷ run → (runFirst quotes run ≡ run → runFirst quotes more ≡ more → runFirst quotes (run ++ more) ≡ run ++ more)
         → cond t (c ∷ runFirst quotes (run ++ more)) [] ≡ c ∷ (run ++ more)
@@ -111,7 +111,7 @@ run-on line start quotes at end h k =
     }
 
 -- one character is a run if it is taken
-pub run-one : (line : List ℕ) (quotes : Bool) (at code n : ℕ) → decodeFirst (drop at line) ≡ Character code n → turnOf quotes false code ≡ Take → Run line at quotes (at + n)
+pub run-one : (line : List ℕ) (quotes : Bool) (at code n : ℕ) → decodeFirst (drop at line) ≡ Character code n → roleOf quotes false code ≡ Take → Run line at quotes (at + n)
 unfolding runFirst
 run-one line quotes at code n d e =
     let size : at + n - at ≡ n = omega arith in
@@ -130,7 +130,7 @@ pub run-stop : (quotes : Bool) (codes : List ℕ) → codes ≡ [] → runFirst 
 unfolding runFirst
 run-stop quotes codes e = rw e
 
-pub run-other : (line : List ℕ) (quotes : Bool) (at code n : ℕ) (t : Turn) → decodeFirst (drop at line) ≡ Character code n → turnOf quotes false code ≡ t
+pub run-other : (line : List ℕ) (quotes : Bool) (at code n : ℕ) (t : Role) → decodeFirst (drop at line) ≡ Character code n → roleOf quotes false code ≡ t
     → OneOf (1 ∷ 2 ∷ 3 ∷ []) (tagOf the-type t) → runFirst quotes (codesIn (drop at line)) ≡ []
 unfolding runFirst
 run-other line quotes at code n Take d e k = absurd (miss (1 ∷ 2 ∷ 3 ∷ []) 0 tt k)
@@ -139,21 +139,21 @@ run-other line quotes at code n Toggle d e k = rw (codes-on line at code n d, e)
 run-other line quotes at code n Gap d e k = rw (codes-on line at code n d, e)
 
 -- a run is taken whole
-take-after : (quotes escaped : Bool) (code : ℕ) → isTake (turnOf quotes false code) ≡ true → turnOf quotes escaped code ≡ Take
-unfolding turnOf
+take-after : (quotes escaped : Bool) (code : ℕ) → isTake (roleOf quotes false code) ≡ true → roleOf quotes escaped code ≡ Take
+unfolding roleOf
 take-after quotes true code h = refl
-take-after quotes false code h = by (turnOf quotes false code) h
+take-after quotes false code h = by (roleOf quotes false code) h
   where
-    by : (t : Turn) → isTake t ≡ true → t ≡ Take
+    by : (t : Role) → isTake t ≡ true → t ≡ Take
     by Take e = refl
     by Escape e = cc
     by Toggle e = cc
     by Gap e = cc
 
 -- the first of a run is taken, and the others are a run
-first-taken : (quotes : Bool) (c : ℕ) (run : List ℕ) → runFirst quotes (c ∷ run) ≡ c ∷ run → (isTake (turnOf quotes false c) ≡ true) × (runFirst quotes run ≡ run)
+first-taken : (quotes : Bool) (c : ℕ) (run : List ℕ) → runFirst quotes (c ∷ run) ≡ c ∷ run → (isTake (roleOf quotes false c) ≡ true) × (runFirst quotes run ≡ run)
 unfolding runFirst
-first-taken quotes c run h = by (isTake (turnOf quotes false c)) h
+first-taken quotes c run h = by (isTake (roleOf quotes false c)) h
   where
     by : (t : Bool) → cond t (c ∷ runFirst quotes run) [] ≡ c ∷ run → (t ≡ true) × (runFirst quotes run ≡ run)
     by true q = (refl, cc)
@@ -270,8 +270,8 @@ ordinary-told s at n e some = ⊎-elim (λ (h : at < length s). by h (ordinary (
     by h false k = ordinary-letter (drop at s) n (letter-told (drop at s) n (sym (e ∙ ordinary-is s at false h k)) some)
 
 -- it is taken, inside quotes or not
-takes : (quotes : Bool) (s : List ℕ) (n : ℕ) (o : Ordinary s n) → turnOf quotes false (o .code) ≡ Take
-unfolding turnOf
+takes : (quotes : Bool) (s : List ℕ) (n : ℕ) (o : Ordinary s n) → roleOf quotes false (o .code) ≡ Take
+unfolding roleOf
 takes true s n o = else-is _ _ _ (o .no-escape) ∙ else-is _ _ _ (o .no-quote)
 takes false s n o = else-is _ _ _ (o .no-escape) ∙ else-is _ _ _ (o .no-quote) ∙ else-is _ _ _ (o .solid)
 
@@ -283,7 +283,7 @@ pub ordinary-fits : (line : List ℕ) (at n : ℕ) → n ≡ ordinaryFirst (drop
 ordinary-fits line at n e some = let o = ordinary-told line at n e some in character-fits line at (o .code) n (o .decodes)
 
 -- what a step found, by its answer
-pub step-goes : (line : List ℕ) (s : Scan) (r : Step) (t : Turn) (n : ℕ) → StepOf line s r → r ≡ Go t n → Reading line s t n
+pub step-goes : (line : List ℕ) (s : Scan) (r : Step) (t : Role) (n : ℕ) → StepOf line s r → r ≡ Go t n → Reading line s t n
 step-goes line s r t n h e = rw e at h
 
 pub step-stops : (line : List ℕ) (s : Scan) (r : Step) → StepOf line s r → r ≡ IllFormed → codesIn (drop (s .at) line) ≡ []

@@ -13,10 +13,10 @@ use Rattle.text.proofs.Pieces.{encode-some}
 use Rattle.text.proofs.Prefix.{codes-whole, codes-end, prefix-none, encode-append}
 use Rattle.frame.specs.Framed.{frameOf}
 use Rattle.frame.proofs.Frames.{length-frameOf}
-use Rattle.words.specs.declared.turn.Turn.{Turn}
-use Rattle.words.specs.declared.turn.Turn.the-variants.{Take, Escape, Toggle, Gap}
-use Rattle.words.specs.declared.scan.Scan.{Scan}
-use Rattle.words.specs.Tokens.{turnOf, onTurn, tokensFrom, tokens, wordsOf, framesOf}
+use Rattle.words.specs.declared.role.Role.{Role}
+use Rattle.words.specs.declared.role.Role.the-variants.{Take, Escape, Toggle, Gap}
+use Rattle.words.specs.declared.counting.Scan.{Scan}
+use Rattle.words.specs.Tokens.{roleOf, onRole, tokensFrom, tokens, wordsOf, wordFrames}
 use Rattle.words.specs.Answer.{written}
 use Rattle.words.specs.Scan.{closedAt, closedBy, advanced, measured, doneBy, Reading}
 use Rattle.words.specs.declared.tokenizer.Measured.the-variants.{Needs, IllFormed}
@@ -28,17 +28,17 @@ use Rattle.words.proofs.Steps.{closed-none, closed-some}
 
 -- the frames of words that are still lists of characters
 unfoldable pub shown : List (List ℕ) → List ℕ
-shown words = framesOf (map encodeAll words)
+shown words = wordFrames (map encodeAll words)
 
 shown-more : (word : List ℕ) (words : List (List ℕ)) → shown (word ∷ words) ≡ frameOf 0x14 (encodeAll word) ++ shown words
-unfolding shown framesOf
+unfolding shown wordFrames
 shown-more word words = refl
 
 -- a word that ends stands in front of the rest
 pub shown-ended : (word : List ℕ) (words : List (List ℕ)) → shown (ended word words) ≡ shown (ended word []) ++ shown words
-unfolding shown framesOf
+unfolding shown wordFrames
 shown-ended [] words = refl
-shown-ended (c ∷ word) words = ap (λ (l : List ℕ). l ++ framesOf (map encodeAll words)) (sym (append-nil (frameOf 0x14 (encodeAll (c ∷ word)))))
+shown-ended (c ∷ word) words = ap (λ (l : List ℕ). l ++ wordFrames (map encodeAll words)) (sym (append-nil (frameOf 0x14 (encodeAll (c ∷ word)))))
 
 -- an open word as a number of bytes: none exactly if it is empty
 pub word-none : (word : List ℕ) → length (encodeAll word) ≡ 0 → word ≡ []
@@ -48,7 +48,7 @@ word-none (c ∷ word) e = absurd (let h = encode-some c in omega (arith, length
 
 -- what an open word takes once it ends
 pub shown-length : (word : List ℕ) (done n : ℕ) → n ≡ length (encodeAll word) → done + length (shown (ended word [])) ≡ closedAt done n
-unfolding shown framesOf encodeAll
+unfolding shown wordFrames encodeAll
 shown-length [] done n e = let z = closed-none done n e in omega arith
 shown-length (c ∷ word) done n e =
     let h = encode-some c in
@@ -105,7 +105,7 @@ unfolding encodeAll
 nothing-open = refl
 
 -- a step read
-module _ (line : List ℕ) (s : Scan) (t : Turn) (n : ℕ) (h : Standing line s) (r : Reading line s t n) where
+module _ (line : List ℕ) (s : Scan) (t : Role) (n : ℕ) (h : Standing line s) (r : Reading line s t n) where
   pub size-is : length (encodeAll (r .run)) ≡ n
   size-is =
       let f = r .fits in
@@ -117,7 +117,7 @@ module _ (line : List ℕ) (s : Scan) (t : Turn) (n : ℕ) (h : Standing line s)
       ∙ ap (λ (l : List ℕ). h .frames ++ shown (tokensFrom (h .word) (s .quotes) (s .escaped) l)) (r .codes)
       ∙ ap (λ (l : List (List ℕ)). h .frames ++ shown l) (r .does (h .word) (codesIn (drop (s .at + n) line)))
 
-unfoldable pub standing-turn : (line : List ℕ) (s : Scan) (t : Turn) (n : ℕ) → Standing line s → Reading line s t n → Standing line (advanced s t n)
+unfoldable pub standing-turn : (line : List ℕ) (s : Scan) (t : Role) (n : ℕ) → Standing line s → Reading line s t n → Standing line (advanced s t n)
 standing-turn line s Take n h r =
     let size = size-is line s Take n h r in
     let w = h .word-is in
@@ -235,13 +235,13 @@ grows : (word : List ℕ) (quotes escaped : Bool) (codes : List ℕ) → length 
 unfolding tokensFrom
 grows word quotes escaped [] = omega arith
 grows word quotes escaped (code ∷ codes) =
-    by (turnOf quotes escaped code) (grows (word ++ (code ∷ [])) quotes false codes) (grows word quotes true codes) (grows word (not quotes) false codes)
+    by (roleOf quotes escaped code) (grows (word ++ (code ∷ [])) quotes false codes) (grows word quotes true codes) (grows word (not quotes) false codes)
   where
-    by : (t : Turn) → length (shown (ended (word ++ (code ∷ [])) [])) ≤ length (shown (tokensFrom (word ++ (code ∷ [])) quotes false codes))
+    by : (t : Role) → length (shown (ended (word ++ (code ∷ [])) [])) ≤ length (shown (tokensFrom (word ++ (code ∷ [])) quotes false codes))
         → length (shown (ended word [])) ≤ length (shown (tokensFrom word quotes true codes))
         → length (shown (ended word [])) ≤ length (shown (tokensFrom word (not quotes) false codes))
         → length (shown (ended word []))
-        ≤ length (shown (onTurn t (λ _. tokensFrom (word ++ (code ∷ [])) quotes false codes) (λ _. tokensFrom word quotes true codes) (λ _. tokensFrom word (not quotes) false codes)
+        ≤ length (shown (onRole t (λ _. tokensFrom (word ++ (code ∷ [])) quotes false codes) (λ _. tokensFrom word quotes true codes) (λ _. tokensFrom word (not quotes) false codes)
         (λ _. ended word (tokensFrom [] quotes false codes))))
     by Take a b c = let l = longer-word word code in omega arith
     by Escape a b c = b
@@ -272,7 +272,7 @@ word-costs word code =
     (below-or-not 0 (length (encodeAll word)))
 
 nothing-shown : length (shown (ended {A = ℕ} [] [])) ≡ 0
-unfolding shown framesOf
+unfolding shown wordFrames
 nothing-shown = refl
 
 costs : (word : List ℕ) (quotes escaped : Bool) (codes : List ℕ)
@@ -280,17 +280,17 @@ costs : (word : List ℕ) (quotes escaped : Bool) (codes : List ℕ)
 unfolding tokensFrom encodeAll
 costs word quotes escaped [] = omega arith
 costs word quotes escaped (code ∷ codes) =
-    by (turnOf quotes escaped code) (costs (word ++ (code ∷ [])) quotes false codes) (costs word quotes true codes) (costs word (not quotes) false codes)
+    by (roleOf quotes escaped code) (costs (word ++ (code ∷ [])) quotes false codes) (costs word quotes true codes) (costs word (not quotes) false codes)
     (costs [] quotes false codes)
   where
     size : length (encode code ++ encodeAll codes) ≡ length (encode code) + length (encodeAll codes)
     size = length-append (encode code) (encodeAll codes)
 
-    by : (t : Turn) → length (shown (tokensFrom (word ++ (code ∷ [])) quotes false codes)) ≤ length (shown (ended (word ++ (code ∷ [])) [])) + 4 * length (encodeAll codes)
+    by : (t : Role) → length (shown (tokensFrom (word ++ (code ∷ [])) quotes false codes)) ≤ length (shown (ended (word ++ (code ∷ [])) [])) + 4 * length (encodeAll codes)
         → length (shown (tokensFrom word quotes true codes)) ≤ length (shown (ended word [])) + 4 * length (encodeAll codes)
         → length (shown (tokensFrom word (not quotes) false codes)) ≤ length (shown (ended word [])) + 4 * length (encodeAll codes)
         → length (shown (tokensFrom [] quotes false codes)) ≤ length (shown (ended {A = ℕ} [] [])) + 4 * length (encodeAll codes)
-        → length (shown (onTurn t (λ _. tokensFrom (word ++ (code ∷ [])) quotes false codes) (λ _. tokensFrom word quotes true codes) (λ _. tokensFrom word (not quotes) false codes)
+        → length (shown (onRole t (λ _. tokensFrom (word ++ (code ∷ [])) quotes false codes) (λ _. tokensFrom word quotes true codes) (λ _. tokensFrom word (not quotes) false codes)
         (λ _. ended word (tokensFrom [] quotes false codes)))) ≤ length (shown (ended word [])) + 4 * length (encode code ++ encodeAll codes)
     by Take a b c d = omega (arith, word-costs word code, size)
     by Escape a b c d = omega (arith, size)

@@ -7,13 +7,13 @@ use lib.Dec.{ltb}
 use lib.ListN.{length}
 use Rattle.buffer.specs.Write.{over}
 use Rattle.text.specs.Decoding.{wellFormedLength}
-use Rattle.words.specs.Tokens.{wordsOf, framesOf}
+use Rattle.words.specs.Tokens.{wordsOf, wordFrames}
 use Rattle.words.specs.declared.tokenizer.Tokens.{Tokens}
 use Rattle.words.specs.declared.tokenizer.Tokens.the-variants.{Words, LineTooLong, IllFormed, NoRoom}
 
 -- the frames of a line's words: what `tokenize` writes
 unfoldable pub written : List ℕ → List ℕ
-written line = framesOf (wordsOf line)
+written line = wordFrames (wordsOf line)
 
 -- the answer for a line and a buffer of `room` bytes
 unfoldable pub answerFor : List ℕ → ℕ → Tokens

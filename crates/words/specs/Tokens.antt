@@ -8,8 +8,8 @@ use Rattle.text.specs.Decoding.{codesIn}
 use Rattle.text.specs.Space.{isWhiteSpace}
 use Rattle.text.specs.Apart.{ended}
 use Rattle.frame.specs.Framed.{frameOf}
-use Rattle.words.specs.declared.turn.Turn.{Turn}
-use Rattle.words.specs.declared.turn.Turn.the-variants.{Take, Escape, Toggle, Gap}
+use Rattle.words.specs.declared.role.Role.{Role}
+use Rattle.words.specs.declared.role.Role.the-variants.{Take, Escape, Toggle, Gap}
 
 abbrev pub backslash : ℕ
 backslash = 0x5C
@@ -19,8 +19,8 @@ quote = 0x22
 
 -- what a character does. After `\` the next is taken as it stands, also inside quotes; `\` and `"` vanish; white space outside
 -- quotes ends a word; everything else is taken into the word.
-unfoldable pub turnOf : Bool → Bool → ℕ → Turn
-turnOf quotes escaped code =
+unfoldable pub roleOf : Bool → Bool → ℕ → Role
+roleOf quotes escaped code =
     cond escaped Take
     (cond (eqb code backslash) Escape
     (cond (eqb code quote) Toggle
@@ -28,18 +28,18 @@ turnOf quotes escaped code =
     (cond (isWhiteSpace code) Gap
     Take))))
 
-abbrev pub onTurn : {A : Type 0} → Turn → (Unit {0} → A) → (Unit {0} → A) → (Unit {0} → A) → (Unit {0} → A) → A
-onTurn Take a b c d = a tt
-onTurn Escape a b c d = b tt
-onTurn Toggle a b c d = c tt
-onTurn Gap a b c d = d tt
+abbrev pub onRole : {A : Type 0} → Role → (Unit {0} → A) → (Unit {0} → A) → (Unit {0} → A) → (Unit {0} → A) → A
+onRole Take a b c d = a tt
+onRole Escape a b c d = b tt
+onRole Toggle a b c d = c tt
+onRole Gap a b c d = d tt
 
 -- the words still to come where `word` has been read and not ended, inside quotes or not, after `\` or not. Empty words don't exist;
 -- a final `\` is lost; an open quotation ends with the line.
 unfoldable pub tokensFrom : List ℕ → Bool → Bool → List ℕ → List (List ℕ)
 tokensFrom word quotes escaped [] = ended word []
 tokensFrom word quotes escaped (code ∷ codes) =
-    onTurn (turnOf quotes escaped code)
+    onRole (roleOf quotes escaped code)
     (λ _. tokensFrom (word ++ (code ∷ [])) quotes false codes)
     (λ _. tokensFrom word quotes true codes)
     (λ _. tokensFrom word (not quotes) false codes)
@@ -53,6 +53,6 @@ unfoldable pub wordsOf : List ℕ → List (List ℕ)
 wordsOf line = map encodeAll (tokens line)
 
 -- words as frames of kind 14
-unfoldable pub framesOf : List (List ℕ) → List ℕ
-framesOf [] = []
-framesOf (word ∷ words) = frameOf 0x14 word ++ framesOf words
+unfoldable pub wordFrames : List (List ℕ) → List ℕ
+wordFrames [] = []
+wordFrames (word ∷ words) = frameOf 0x14 word ++ wordFrames words

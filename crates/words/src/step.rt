@@ -4,16 +4,16 @@ ghost use mathlib.Core.Path.{_≡_};
 ghost use mathlib.Core.Bool.{Bool};
 ghost use lib.ListN.{length, drop};
 ghost use Rattle.words.specs.Scan.{StepOf, Run, WholeRun, ordinary, ordinaryFirst};
-use super::scan::Scan;
-use super::turn::Turn;
-use super::turn::turn_of;
+use super::counting::Scan;
+use super::role::Role;
+use super::role::role_of;
 use text::Decoded;
 use text::decode;
 use text::letter_at;
 
 // What a step finds: characters that fill a length and together do one thing, or no character.
 pub enum Step {
-    Go { turn: Turn, length: usize },
+    Go { role: Role, length: usize },
     IllFormed,
 }
 
@@ -73,7 +73,7 @@ fn run_end(line: &[u8], start: usize, quotes: bool) -> usize
         let Decoded::Character { code, length } = decode(line, at) else {
             return at;
         };
-        let Turn::Take = turn_of(quotes, false, code) else {
+        let Role::Take = role_of(quotes, false, code) else {
             return at;
         };
         at = ordinary_end(line, at + length);
@@ -90,12 +90,12 @@ pub fn step_of(line: &[u8], scan: Scan) -> Step
     let Decoded::Character { code, length } = decode(line, at) else {
         return Step::IllFormed;
     };
-    let turn = turn_of(scan.quotes, scan.escaped, code);
-    let Turn::Take = turn else {
-        return Step::Go { turn, length };
+    let role = role_of(scan.quotes, scan.escaped, code);
+    let Role::Take = role else {
+        return Step::Go { role, length };
     };
     Step::Go {
-        turn,
+        role,
         length: run_end(line, at + length, scan.quotes) - at,
     }
 }

@@ -6,11 +6,11 @@ ghost use Rattle.buffer.specs.Write.{Written};
 ghost use Rattle.text.specs.Decoding.{wellFormedLength};
 ghost use Rattle.words.specs.Answer.{written, Tokenized};
 ghost use Rattle.words.specs.Scan.{closedAt, closedBy, advanced, headed, putBy, measured};
-use super::scan::Scan;
-use super::scan::closed;
+use super::counting::Scan;
+use super::counting::closed;
+use super::role::Role;
 use super::step::Step;
 use super::step::step_of;
-use super::turn::Turn;
 use buffer::push;
 use buffer::push_byte;
 use text::well_formed_prefix;
@@ -39,10 +39,10 @@ fn measure(line: &[u8]) -> Measured
 {
     let mut scan = Scan::start();
     while scan.at < line.len() {
-        let Step::Go { turn, length } = step_of(line, scan) else {
+        let Step::Go { role, length } = step_of(line, scan) else {
             return Measured::IllFormed(scan.at);
         };
-        scan = scan.advance(turn, length);
+        scan = scan.advance(role, length);
     }
     Measured::Needs(closed(scan.done, scan.word))
 }
@@ -61,20 +61,20 @@ fn end_word(done: usize, word: usize, out: &mut [u8])
 }
 
 // Writes what a step of n bytes adds: its bytes, or the head of the word that it ends.
-fn put(line: &[u8], scan: Scan, turn: Turn, n: usize, out: &mut [u8])
+fn put(line: &[u8], scan: Scan, role: Role, n: usize, out: &mut [u8])
     requires { ⌜ (0 < n) × (scan .at + n ≤ length (now line)) ⌝ }
-    requires { ⌜ (scan .word ≤ 4096) × (closedBy (advanced scan turn n) ≤ length (now out)) ⌝ }
-    ensures { λ _. ⌜ now (out .exit) ≡ putBy (now (line .entry)) scan turn n (now (out .entry)) ⌝ }
+    requires { ⌜ (scan .word ≤ 4096) × (closedBy (advanced scan role n) ≤ length (now out)) ⌝ }
+    ensures { λ _. ⌜ now (out .exit) ≡ putBy (now (line .entry)) scan role n (now (out .entry)) ⌝ }
 {
     let from = scan.at;
-    match turn {
-        Turn::Take => {
+    match role {
+        Role::Take => {
             let end = from + n;
             push(&line[from..end], out, scan.done + 3 + scan.word);
         }
-        Turn::Gap => end_word(scan.done, scan.word, out),
-        Turn::Escape => {}
-        Turn::Toggle => {}
+        Role::Gap => end_word(scan.done, scan.word, out),
+        Role::Escape => {}
+        Role::Toggle => {}
     }
 }
 
@@ -87,11 +87,11 @@ fn write(line: &[u8], out: &mut [u8]) -> usize
 {
     let mut scan = Scan::start();
     while scan.at < line.len() {
-        let Step::Go { turn, length } = step_of(line, scan) else {
+        let Step::Go { role, length } = step_of(line, scan) else {
             return scan.done;
         };
-        put(line, scan, turn, length, out);
-        scan = scan.advance(turn, length);
+        put(line, scan, role, length, out);
+        scan = scan.advance(role, length);
     }
     end_word(scan.done, scan.word, out);
     closed(scan.done, scan.word)

@@ -1,5 +1,6 @@
 -- `turns::blank_slots` meets its contract.
-use Rattle.history.specs.Slots.{zeros, run, layout}
+use Rattle.buffer.specs.Lend.{zeros}
+use Rattle.history.specs.Slots.{run, layout}
 use mathlib.Core.Path.{refl}
 use Rattle.console.proofs.turns.blank_slots.Statement.{statement}
 use Rattle.console.proofs.turns.blank_slots.Tie as tie

@@ -2,7 +2,7 @@
 use borrow.Author.Needs.{needs}
 use Rattle.buffer.proofs.Choices.{then-is, else-is}
 use Rattle.editor.specs.Line.{content}
-use Rattle.history.specs.Entries.{wellFormed}
+use Rattle.text.specs.Decoding.{wellFormed}
 use borrow.Author.Tests.{eq-eqb, ne-eqb}
 use mathlib.Core.Path.{sym, _∙_}
 use Rattle.editor.proofs.drawing.shown_part.Statement.{statement}

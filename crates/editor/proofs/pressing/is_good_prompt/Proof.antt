@@ -2,7 +2,7 @@
 use borrow.Author.Needs.{needs}
 use Rattle.buffer.proofs.Choices.{then-is, else-is}
 use Rattle.editor.specs.Answer.{goodPrompt}
-use Rattle.history.specs.Entries.{wellFormed}
+use Rattle.text.specs.Decoding.{wellFormed}
 use borrow.Author.Tests.{le-leb, lt-leb}
 use native.Mathlib.Omega.{arith}
 use mathlib.Core.Path.{sym, ap, _∙_}

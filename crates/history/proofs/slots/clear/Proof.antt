@@ -1,5 +1,5 @@
 -- `history::slots::clear` meets its contract. The bytes from `at` up to i are zeros.
-use Rattle.history.specs.Slots.{zeros}
+use Rattle.buffer.specs.Lend.{zeros}
 use Rattle.history.proofs.Layouts.{clear-begin, clear-turn}
 use Rattle.buffer.specs.Write.{overAt}
 use native.Mathlib.Omega.{arith}

@@ -45,20 +45,20 @@ loop-again c =
     let less : c .before .before .before .before .before .before .before .args .count - (c .before .before .before .before .before .loop .k + 1) ≡ c .before .before .before .before .before .before .before .args .count - c .before .before .before .before .before .loop .k - 1 = omega arith in
     (omega arith, omega arith, rw less (judged-on (c .before .before .before .before .before .before .before .args .slots .now) (c .before .before .before .before .before .loop .at) (c .before .before .before .before .before .before .before .args .count - c .before .before .before .before .before .loop .k) (omega arith) (sym (c .before .before .before .is-good-slot .ensures) ∙ not-false (c .before .before .before .is-good-slot .result) (c .before .before .if1 .left)) (sym (c .before .is-repeated .ensures) ∙ c .if2 .left) ∙ c .before .before .before .before .before .loop .inv .2))
 
-sub-most : tie.Need-sub-most Inv-loop μ-loop
-sub-most c = omega (arith, c .before .before .before .pre)
+sub-greatest-byte : tie.Need-sub-greatest-byte Inv-loop μ-loop
+sub-greatest-byte c = omega (arith, c .before .before .before .pre)
 
-part-most-start : tie.Need-part-most-start Inv-loop μ-loop
-part-most-start c = omega (arith, c .before .before .before .pre)
+part-greatest-byte-start : tie.Need-part-greatest-byte-start Inv-loop μ-loop
+part-greatest-byte-start c = omega (arith, c .before .before .before .pre)
 
-part-most-end : tie.Need-part-most-end Inv-loop μ-loop
-part-most-end c = omega (arith, c .before .before .before .pre)
+part-greatest-byte-end : tie.Need-part-greatest-byte-end Inv-loop μ-loop
+part-greatest-byte-end c = omega (arith, c .before .before .before .pre)
 
-most-requires : tie.Need-most-requires Inv-loop μ-loop
-most-requires c κs = tt
+greatest-byte-requires : tie.Need-greatest-byte-requires Inv-loop μ-loop
+greatest-byte-requires c κs = tt
 
 returns-3 : tie.Need-returns-3 Inv-loop μ-loop
-returns-3 c = judged-end (c .before .before .before .before .before .args .slots .now) (c .before .before .before .loop .at) (c .before .before .before .before .before .args .count - c .before .before .before .loop .k) _ (omega arith) (c .most .ensures) ∙ c .before .before .before .loop .inv .2
+returns-3 c = judged-end (c .before .before .before .before .before .args .slots .now) (c .before .before .before .loop .at) (c .before .before .before .before .before .args .count - c .before .before .before .loop .k) _ (omega arith) (c .greatest-byte .ensures) ∙ c .before .before .before .loop .inv .2
 
 pub are-good-spec : {M : Type 1} → statement M
 are-good-spec =
@@ -75,8 +75,8 @@ are-good-spec =
     add-at
     loop-less
     loop-again
-    sub-most
-    part-most-start
-    part-most-end
-    most-requires
+    sub-greatest-byte
+    part-greatest-byte-start
+    part-greatest-byte-end
+    greatest-byte-requires
     returns-3)

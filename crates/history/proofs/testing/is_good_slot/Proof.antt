@@ -33,20 +33,20 @@ is-usable-requires c κs = search needs
 returns : tie.Need-returns
 returns c = sym (slot-bad (c .before .before .before .before .before .args .slots .now) (c .before .before .before .before .before .args .at) _ (c .before .before .before .wide .ensures .0) (sym (c .before .is-usable .ensures) ∙ not-true (c .before .is-usable .result) (c .if1 .taken)))
 
-sub-most : tie.Need-sub-most
-sub-most c = search needs
+sub-greatest-byte : tie.Need-sub-greatest-byte
+sub-greatest-byte c = search needs
 
-part-most-start : tie.Need-part-most-start
-part-most-start c = search needs
+part-greatest-byte-start : tie.Need-part-greatest-byte-start
+part-greatest-byte-start c = search needs
 
-part-most-end : tie.Need-part-most-end
-part-most-end c = search needs
+part-greatest-byte-end : tie.Need-part-greatest-byte-end
+part-greatest-byte-end c = search needs
 
-most-requires : tie.Need-most-requires
-most-requires c κs = search needs
+greatest-byte-requires : tie.Need-greatest-byte-requires
+greatest-byte-requires c κs = search needs
 
 returns-2 : tie.Need-returns-2
-returns-2 c = slot-good (c .before .before .before .before .before .before .before .args .slots .now) (c .before .before .before .before .before .before .before .args .at) _ _ (c .before .before .before .before .before .wide .ensures .0) (sym (c .before .before .before .is-usable .ensures) ∙ not-false (c .before .before .before .is-usable .result) (c .before .before .if1 .left)) (c .most .ensures)
+returns-2 c = slot-good (c .before .before .before .before .before .before .before .args .slots .now) (c .before .before .before .before .before .before .before .args .at) _ _ (c .before .before .before .before .before .wide .ensures .0) (sym (c .before .before .before .is-usable .ensures) ∙ not-false (c .before .before .before .is-usable .result) (c .before .before .if1 .left)) (c .greatest-byte .ensures)
 
 pub is-good-slot-spec : {M : Type 1} → statement M
 is-good-slot-spec =
@@ -61,8 +61,8 @@ is-good-slot-spec =
     part-is-usable-end
     is-usable-requires
     returns
-    sub-most
-    part-most-start
-    part-most-end
-    most-requires
+    sub-greatest-byte
+    part-greatest-byte-start
+    part-greatest-byte-end
+    greatest-byte-requires
     returns-2)

@@ -2,7 +2,8 @@
 use borrow.Author.Needs.{needs}
 use Rattle.buffer.proofs.Choices.{then-is, else-is}
 use Rattle.text.proofs.Prefix.{ascii-well-formed, whole-is}
-use Rattle.history.specs.Entries.{usable, wellFormed}
+use Rattle.text.specs.Decoding.{wellFormed}
+use Rattle.history.specs.Entries.{usable}
 use borrow.Author.Tests.{eq-eqb}
 use mathlib.Core.Path.{sym, _∙_}
 use native.Mathlib.Omega.{arith}
@@ -16,12 +17,12 @@ returns : tie.Need-returns
 unfolding usable
 returns c = sym (then-is _ _ _ (sym (c .before .is-blank .ensures) ∙ c .if1 .taken))
 
-most-requires : tie.Need-most-requires
-most-requires c κs = search needs
+greatest-byte-requires : tie.Need-greatest-byte-requires
+greatest-byte-requires c κs = search needs
 
 returns-2 : tie.Need-returns-2
 unfolding usable wellFormed
-returns-2 c = sym (else-is _ _ _ (sym (c .before .before .before .is-blank .ensures) ∙ c .before .before .if1 .left) ∙ eq-eqb _ _ (whole-is _ (ascii-well-formed (c .before .before .before .before .before .args .text .now) (omega (arith, c .before .most .ensures, c .if2 .taken)))))
+returns-2 c = sym (else-is _ _ _ (sym (c .before .before .before .is-blank .ensures) ∙ c .before .before .if1 .left) ∙ eq-eqb _ _ (whole-is _ (ascii-well-formed (c .before .before .before .before .before .args .text .now) (omega (arith, c .before .greatest-byte .ensures, c .if2 .taken)))))
 
 well-formed-prefix-requires : tie.Need-well-formed-prefix-requires
 well-formed-prefix-requires c κs = search needs
@@ -36,7 +37,7 @@ is-usable-spec =
     (tie.spec
     is-blank-requires
     returns
-    most-requires
+    greatest-byte-requires
     returns-2
     well-formed-prefix-requires
     returns-3)

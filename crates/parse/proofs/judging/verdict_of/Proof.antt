@@ -1,6 +1,6 @@
 -- `parse::judging::verdict_of` meets its contract: the progress of the scan, and what is required, decide.
 use mathlib.Core.Path.{sym, ap, _∙_}
-use Rattle.scan.specs.Meanings.{definitionsAt}
+use Rattle.arguments.specs.Meanings.{definitionsAt}
 use Rattle.parse.specs.Held.{requiredBy}
 use Rattle.parse.proofs.Judgements.{verdict-going, verdict-by}
 use borrow.Author.Needs.{needs}

@@ -7,7 +7,7 @@ use lib.Seq.{length-take-le}
 use Rattle.frame.specs.Series.{textsIn}
 use Rattle.tree.specs.Trails.{partAt}
 use Rattle.tree.proofs.Trails.{part-most}
-use Rattle.scan.specs.Held.{foundOf}
+use Rattle.arguments.specs.Held.{foundOf}
 use Rattle.parse.specs.Held.{outcomeIn, textOf}
 use Rattle.parse.proofs.Tellings.{text-short, fault-telling, report-telling}
 use borrow.Author.Needs.{needs}

@@ -1,6 +1,7 @@
 -- `ways::blank_slots` meets its contract.
 use mathlib.Core.Path.{refl}
-use Rattle.history.specs.Slots.{zeros, run, layout}
+use Rattle.buffer.specs.Lend.{zeros}
+use Rattle.history.specs.Slots.{run, layout}
 use Rattle.replay_session.proofs.ways.blank_slots.Statement.{statement}
 use Rattle.replay_session.proofs.ways.blank_slots.Tie as tie
 

@@ -5,7 +5,7 @@ use native.Mathlib.Omega.{arith}
 use borrow.Author.Needs.{needs}
 use lib.ListN.{length-take, length, take}
 use lib.Seq.{length-take-le}
-use Rattle.scan.specs.Held.{foundOf}
+use Rattle.arguments.specs.Held.{foundOf}
 use Rattle.shell.proofs.Answering.{said-same}
 use Rattle.shell.proofs.Telling.{lacking-carried, handed-carried}
 use Rattle.shell.proofs.runner.tell_command.Statement.{statement}

@@ -16,11 +16,11 @@ Inv-loop s at₀ at = (at ≤ length s) × (at + wellFormedLength (drop at s) �
 abbrev μ-loop : tie.MeasureT-loop
 μ-loop s at₀ at = length s - at
 
-most-requires : tie.Need-most-requires Inv-loop μ-loop
-most-requires c κs = tt
+greatest-byte-requires : tie.Need-greatest-byte-requires Inv-loop μ-loop
+greatest-byte-requires c κs = tt
 
 returns : tie.Need-returns Inv-loop μ-loop
-returns c = ascii-whole _ _ (c .before .most .ensures) (c .if1 .taken)
+returns c = ascii-whole _ _ (c .before .greatest-byte .ensures) (c .if1 .taken)
 
 loop-holds : tie.Need-loop-holds Inv-loop μ-loop
 loop-holds c = (omega arith, omega arith)
@@ -61,7 +61,7 @@ well-formed-prefix-spec =
     (tie.spec
     Inv-loop
     μ-loop
-    most-requires
+    greatest-byte-requires
     returns
     loop-holds
     shared-slice-read-if2

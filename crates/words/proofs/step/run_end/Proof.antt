@@ -32,8 +32,8 @@ enum-known-code c = c .match .keys1
 returns : tie.Need-returns Inv-loop μ-loop
 returns c = record { reached = c .before .before .before .loop .inv; stops = run-stop _ _ (codes-stop _ _ (sym (c .before .decode .ensures)) (c .match .keys2)) }
 
-turn-of-requires : tie.Need-turn-of-requires Inv-loop μ-loop
-turn-of-requires c κs = search needs
+role-of-requires : tie.Need-role-of-requires Inv-loop μ-loop
+role-of-requires c κs = search needs
 
 enum-told : tie.Need-enum-told Inv-loop μ-loop
 enum-told c = c .match2 .keys1
@@ -42,7 +42,7 @@ returns-2 : tie.Need-returns-2 Inv-loop μ-loop
 returns-2 c =
     record {
       reached = c .before .before .before .before .before .before .before .loop .inv;
-      stops = run-other (c .before .before .before .before .before .before .before .before .before .before .args .line .now) _ (c .before .before .before .before .before .before .before .loop .at) _ _ _ (sym (c .before .before .before .before .before .decode .ensures) ∙ c .before .before .before .code .given .1) (sym (c .before .turn-of .ensures)) (c .match2 .keys2);
+      stops = run-other (c .before .before .before .before .before .before .before .before .before .before .args .line .now) _ (c .before .before .before .before .before .before .before .loop .at) _ _ _ (sym (c .before .before .before .before .before .decode .ensures) ∙ c .before .before .before .code .given .1) (sym (c .before .role-of .ensures)) (c .match2 .keys2);
     }
 
 add-ordinary-end : tie.Need-add-ordinary-end Inv-loop μ-loop
@@ -58,7 +58,7 @@ loop-less c =
     omega (arith, g, r .onward, r .fits)
 
 loop-again : tie.Need-loop-again Inv-loop μ-loop
-loop-again c = run-on _ _ _ _ _ (c .before .before .before .before .before .before .before .before .before .loop .inv) (run-on _ _ _ _ _ (run-one _ _ _ _ _ (sym (c .before .before .before .before .before .before .before .decode .ensures) ∙ c .before .before .before .before .before .code .given .1) (sym (c .before .before .before .turn-of .ensures) ∙ c .before .enum-told .given .1)) (c .ordinary-end2 .ensures _))
+loop-again c = run-on _ _ _ _ _ (c .before .before .before .before .before .before .before .before .before .loop .inv) (run-on _ _ _ _ _ (run-one _ _ _ _ _ (sym (c .before .before .before .before .before .before .before .decode .ensures) ∙ c .before .before .before .before .before .code .given .1) (sym (c .before .before .before .role-of .ensures) ∙ c .before .enum-told .given .1)) (c .ordinary-end2 .ensures _))
 
 returns-3 : tie.Need-returns-3 Inv-loop μ-loop
 returns-3 c = record { reached = c .before .loop .inv; stops = run-stop _ _ (codes-end _ _ (c .loop-test .left)) }
@@ -74,7 +74,7 @@ run-end-spec =
     decode-requires
     enum-known-code
     returns
-    turn-of-requires
+    role-of-requires
     enum-told
     returns-2
     add-ordinary-end

@@ -17,14 +17,14 @@ enum-known-code c = search needs
 returns : tie.Need-returns
 returns c = codes-stop _ _ (sym (c .before .decode .ensures)) (c .match .keys2)
 
-turn-of-requires : tie.Need-turn-of-requires
-turn-of-requires c κs = search needs
+role-of-requires : tie.Need-role-of-requires
+role-of-requires c κs = search needs
 
 enum-told : tie.Need-enum-told
 enum-told c = search needs
 
 returns-2 : tie.Need-returns-2
-returns-2 c = reading-character _ _ _ _ _ (sym (c .before .before .before .before .before .decode .ensures) ∙ c .before .before .before .code .given .1) (sym (c .before .turn-of .ensures))
+returns-2 c = reading-character _ _ _ _ _ (sym (c .before .before .before .before .before .decode .ensures) ∙ c .before .before .before .code .given .1) (sym (c .before .role-of .ensures))
 
 add-run-end : tie.Need-add-run-end
 add-run-end c = let f = character-fits (c .before .before .before .before .before .before .before .before .args .line .now) (c .before .before .before .before .before .before .before .before .args .scan .at) _ _ (sym (c .before .before .before .before .before .before .decode .ensures) ∙ c .before .before .before .before .code .given .1) in omega arith
@@ -38,7 +38,7 @@ sub-t10 c = let o = c .run-end .ensures .reached .onward in omega (arith, o)
 returns-3 : tie.Need-returns-3
 returns-3 c =
     rw (c .before .enum-told .given .1)
-    (reading-on _ _ _ _ (reading-character _ _ _ _ _ (sym (c .before .before .before .before .before .before .before .decode .ensures) ∙ c .before .before .before .before .before .code .given .1) (sym (c .before .before .before .turn-of .ensures) ∙ c .before .enum-told .given .1)) (c .run-end .ensures))
+    (reading-on _ _ _ _ (reading-character _ _ _ _ _ (sym (c .before .before .before .before .before .before .before .decode .ensures) ∙ c .before .before .before .before .before .code .given .1) (sym (c .before .before .before .role-of .ensures) ∙ c .before .enum-told .given .1)) (c .run-end .ensures))
 
 pub step-of-spec : {M : Type 1} → statement M
 step-of-spec =
@@ -47,7 +47,7 @@ step-of-spec =
     decode-requires
     enum-known-code
     returns
-    turn-of-requires
+    role-of-requires
     enum-told
     returns-2
     add-run-end

@@ -24,8 +24,8 @@ loop-holds c = rw (c .start .ensures) (standing-start _)
 step-of-requires : tie.Need-step-of-requires Inv-loop μ-loop
 step-of-requires c κs = c .if1 .taken
 
-enum-known-turn : tie.Need-enum-known-turn Inv-loop μ-loop
-enum-known-turn c = c .match .keys1
+enum-known-role : tie.Need-enum-known-role Inv-loop μ-loop
+enum-known-role c = c .match .keys1
 
 enum-told : tie.Need-enum-told Inv-loop μ-loop
 enum-told c = c .match .keys2
@@ -35,16 +35,16 @@ returns c = sym (measured-broken _ _ (c .before .before .before .before .before 
 
 advance-requires : tie.Need-advance-requires Inv-loop μ-loop
 advance-requires c κs =
-    let r = step-goes (c .before .before .before .before .before .before .before .before .before .args .line .now) (c .before .before .before .before .before .before .loop .scan) _ _ _ (c .before .before .before .step-of .ensures) (c .before .turn .given .1) in
+    let r = step-goes (c .before .before .before .before .before .before .before .before .before .args .line .now) (c .before .before .before .before .before .before .loop .scan) _ _ _ (c .before .before .before .step-of .ensures) (c .before .role .given .1) in
     (c .before .before .before .before .before .before .loop .inv .cost, omega (arith, r .fits, c .before .before .before .before .before .before .before .before .before .pre))
 
 loop-less : tie.Need-loop-less Inv-loop μ-loop
 loop-less c =
-    let r = step-goes (c .before .before .before .before .before .before .before .before .before .before .args .line .now) (c .before .before .before .before .before .before .before .loop .scan) _ _ _ (c .before .before .before .before .step-of .ensures) (c .before .before .turn .given .1) in
-    step-less (c .before .before .before .before .before .before .before .before .before .before .args .line .now) (c .before .before .before .before .before .before .before .loop .scan) _ (c .before .before .turn .given .0 .0) _ (c .advance .ensures) (r .some) (r .fits)
+    let r = step-goes (c .before .before .before .before .before .before .before .before .before .before .args .line .now) (c .before .before .before .before .before .before .before .loop .scan) _ _ _ (c .before .before .before .before .step-of .ensures) (c .before .before .role .given .1) in
+    step-less (c .before .before .before .before .before .before .before .before .before .before .args .line .now) (c .before .before .before .before .before .before .before .loop .scan) _ (c .before .before .role .given .0 .0) _ (c .advance .ensures) (r .some) (r .fits)
 
 loop-again : tie.Need-loop-again Inv-loop μ-loop
-loop-again c = rw (c .advance .ensures) (standing-turn _ _ _ _ (c .before .before .before .before .before .before .before .loop .inv) (step-goes _ _ _ _ _ (c .before .before .before .before .step-of .ensures) (c .before .before .turn .given .1)))
+loop-again c = rw (c .advance .ensures) (standing-turn _ _ _ _ (c .before .before .before .before .before .before .before .loop .inv) (step-goes _ _ _ _ _ (c .before .before .before .before .step-of .ensures) (c .before .before .role .given .1)))
 
 closed-requires : tie.Need-closed-requires Inv-loop μ-loop
 closed-requires c κs = let k = c .before .before .loop .inv .cost in let i = c .before .before .loop .inv .inside in omega (arith, k, i, c .before .before .before .before .before .pre)
@@ -61,7 +61,7 @@ measure-spec =
     start-requires
     loop-holds
     step-of-requires
-    enum-known-turn
+    enum-known-role
     enum-told
     returns
     advance-requires

@@ -25,8 +25,8 @@ loop-holds c = (refl, rw (c .start .ensures) (laid-start _ _))
 step-of-requires : tie.Need-step-of-requires Inv-loop μ-loop
 step-of-requires c κs = c .if1 .taken
 
-enum-known-turn : tie.Need-enum-known-turn Inv-loop μ-loop
-enum-known-turn c = c .match .keys1
+enum-known-role : tie.Need-enum-known-role Inv-loop μ-loop
+enum-known-role c = c .match .keys1
 
 enum-told : tie.Need-enum-told Inv-loop μ-loop
 enum-told c = c .match .keys2
@@ -44,25 +44,25 @@ put-requires c κs =
     let s = c .before .before .before .before .before .before .before .before .before .before .before in
     let scan = c .before .before .before .before .before .before .before .loop .scan in
     let h = c .before .before .before .before .before .before .before .loop .inv .1 in
-    let r = step-goes (s .args .line .now) scan _ _ _ (c .before .before .before .before .step-of .ensures) (c .before .before .turn .given .1) in
+    let r = step-goes (s .args .line .now) scan _ _ _ (c .before .before .before .before .step-of .ensures) (c .before .before .role .given .1) in
     let k = step-room (s .args .line .now) (s .args .out .now) _ scan _ _ h r (s .pre .1 .1) in
     let w = closed-least (scan .done) (scan .word) in
     ((r .some, r .fits), (omega (arith, w, h .standing .cost, h .standing .inside, s .pre .0), omega (arith, k, c .before .before .before .before .before .before .before .loop .inv .0)))
 
 advance-requires : tie.Need-advance-requires Inv-loop μ-loop
 advance-requires c κs =
-    let r = step-goes (c .before .before .before .before .before .before .before .before .before .before .before .before .before .before .args .line .now) (c .before .before .before .before .before .before .before .before .before .before .loop .scan) _ _ _ (c .before .before .before .before .before .before .before .step-of .ensures) (c .before .before .before .before .before .turn .given .1) in
+    let r = step-goes (c .before .before .before .before .before .before .before .before .before .before .before .before .before .before .args .line .now) (c .before .before .before .before .before .before .before .before .before .before .loop .scan) _ _ _ (c .before .before .before .before .before .before .before .step-of .ensures) (c .before .before .before .before .before .role .given .1) in
     (c .before .before .before .before .before .before .before .before .before .before .loop .inv .1 .standing .cost, omega (arith, r .fits, c .before .before .before .before .before .before .before .before .before .before .before .before .before .before .pre))
 
 loop-less : tie.Need-loop-less Inv-loop μ-loop
 loop-less c =
-    let r = step-goes (c .before .before .before .before .before .before .before .before .before .before .before .before .before .before .before .args .line .now) (c .before .before .before .before .before .before .before .before .before .before .before .loop .scan) _ _ _ (c .before .before .before .before .before .before .before .before .step-of .ensures) (c .before .before .before .before .before .before .turn .given .1) in
-    step-less (c .before .before .before .before .before .before .before .before .before .before .before .before .before .before .before .args .line .now) (c .before .before .before .before .before .before .before .before .before .before .before .loop .scan) _ (c .before .before .before .before .before .before .turn .given .0 .0) _ (c .advance .ensures) (r .some) (r .fits)
+    let r = step-goes (c .before .before .before .before .before .before .before .before .before .before .before .before .before .before .before .args .line .now) (c .before .before .before .before .before .before .before .before .before .before .before .loop .scan) _ _ _ (c .before .before .before .before .before .before .before .before .step-of .ensures) (c .before .before .before .before .before .before .role .given .1) in
+    step-less (c .before .before .before .before .before .before .before .before .before .before .before .before .before .before .before .args .line .now) (c .before .before .before .before .before .before .before .before .before .before .before .loop .scan) _ (c .before .before .before .before .before .before .role .given .0 .0) _ (c .advance .ensures) (r .some) (r .fits)
 
 loop-again : tie.Need-loop-again Inv-loop μ-loop
 loop-again c =
     let s = c .before .before .before .before .before .before .before .before .before .before .before .before .before .before .before in
-    let r = step-goes (s .args .line .now) (c .before .before .before .before .before .before .before .before .before .before .before .loop .scan) _ _ _ (c .before .before .before .before .before .before .before .before .step-of .ensures) (c .before .before .before .before .before .before .turn .given .1) in
+    let r = step-goes (s .args .line .now) (c .before .before .before .before .before .before .before .before .before .before .before .loop .scan) _ _ _ (c .before .before .before .before .before .before .before .before .step-of .ensures) (c .before .before .before .before .before .before .role .given .1) in
     (c .before .before .before .put .kept .1 .1 .1 .1 .0 ∙ c .before .before .before .before .before .before .before .before .before .before .before .loop .inv .0, rw (c .advance .ensures, c .before .before .before .put .ensures) (laid-turn _ _ _ _ _ _ (c .before .before .before .before .before .before .before .before .before .before .before .loop .inv .1) r (s .pre .1 .1)))
 
 end-word-requires : tie.Need-end-word-requires Inv-loop μ-loop
@@ -92,7 +92,7 @@ write-spec =
     start-requires
     loop-holds
     step-of-requires
-    enum-known-turn
+    enum-known-role
     enum-told
     same-length
     returns

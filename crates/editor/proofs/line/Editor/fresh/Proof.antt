@@ -1,6 +1,6 @@
 -- `editor::line::Editor::fresh` meets its contract.
 use Rattle.editor.specs.Line.{padded, limit}
-use Rattle.history.specs.Slots.{zeros}
+use Rattle.buffer.specs.Lend.{zeros}
 use mathlib.Core.Path.{refl}
 use Rattle.editor.proofs.line.Editor.fresh.Statement.{statement}
 use Rattle.editor.proofs.line.Editor.fresh.Tie as tie

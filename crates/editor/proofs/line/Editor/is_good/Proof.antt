@@ -12,18 +12,18 @@ returns c = sym (too-long (c .before .args .self) (c .if1 .taken))
 returns-2 : tie.Need-returns-2
 returns-2 c = sym (past-end (c .before .before .before .args .self) (c .before .before .if1 .left) (c .if2 .taken))
 
-part-most-start : tie.Need-part-most-start
-part-most-start c = search needs
+part-greatest-byte-start : tie.Need-part-greatest-byte-start
+part-greatest-byte-start c = search needs
 
-part-most-end : tie.Need-part-most-end
-part-most-end c = omega (arith, whole-line (c .before .before .before .before .before .args .self .line) (c .before .before .before .before .before .good .0 .1 .1 .0 .1 .0 .1))
+part-greatest-byte-end : tie.Need-part-greatest-byte-end
+part-greatest-byte-end c = omega (arith, whole-line (c .before .before .before .before .before .args .self .line) (c .before .before .before .before .before .good .0 .1 .1 .0 .1 .0 .1))
 
-most-requires : tie.Need-most-requires
-most-requires c κs = search needs
+greatest-byte-requires : tie.Need-greatest-byte-requires
+greatest-byte-requires c κs = search needs
 
 returns-3 : tie.Need-returns-3
-returns-3 c = zeros-behind (c .before .before .before .before .before .before .before .args .self) _ (whole-line (c .before .before .before .before .before .before .before .args .self .line) (c .before .before .before .before .before .before .before .good .0 .1 .1 .0 .1 .0 .1)) (c .before .before .before .before .before .before .if1 .left) (c .before .before .before .before .if2 .left) (c .most .ensures)
+returns-3 c = zeros-behind (c .before .before .before .before .before .before .before .args .self) _ (whole-line (c .before .before .before .before .before .before .before .args .self .line) (c .before .before .before .before .before .before .before .good .0 .1 .1 .0 .1 .0 .1)) (c .before .before .before .before .before .before .if1 .left) (c .before .before .before .before .if2 .left) (c .greatest-byte .ensures)
 
 pub is-good-spec : {M : Type 1} → statement M
 is-good-spec =
-    tie.close (tie.spec returns returns-2 part-most-start part-most-end most-requires returns-3)
+    tie.close (tie.spec returns returns-2 part-greatest-byte-start part-greatest-byte-end greatest-byte-requires returns-3)

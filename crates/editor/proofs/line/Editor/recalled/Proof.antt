@@ -1,7 +1,7 @@
 -- `editor::line::Editor::recalled` meets its contract. The first i bytes are the text's.
 use Rattle.editor.proofs.Lines.{within-limit, fresh-line, recall-end}
-use Rattle.history.specs.Slots.{zeros}
-use Rattle.history.proofs.Layouts.{length-zeros}
+use Rattle.buffer.specs.Lend.{zeros}
+use Rattle.buffer.proofs.Zeros.{length-zeros}
 use Rattle.buffer.proofs.Lending.{copy-step}
 use native.Mathlib.Omega.{arith}
 use Prim.Native.Nat.{_≤_, _-_}

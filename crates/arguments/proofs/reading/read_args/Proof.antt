@@ -1,0 +1,116 @@
+-- `arguments::arguments::read_args` meets its contract: the words still to come, from where the scan stands, lead where all of them lead.
+use Prim.Native.Nat.{_+_, _-_, _≤_}
+use mathlib.Core.Path.{sym, _∙_, ap}
+use native.Mathlib.Omega.{arith}
+use borrow.Author.Needs.{needs}
+use lib.ListN.{length}
+use Rattle.frame.proofs.Series.{texts-stop, texts-end, word-within}
+use Rattle.table.specs.Held.{Fit}
+use Rattle.arguments.specs.Meanings.{definitionsAt}
+use Rattle.arguments.proofs.Walks.{ArgsAt, args-start, args-turn, args-end}
+use Rattle.arguments.specs.Held.{held}
+use Rattle.arguments.specs.declared.standing.Stage.{Stage}
+use Rattle.arguments.proofs.Moves.{fit-as, stage-starts, stage-apt}
+use Rattle.arguments.proofs.reading.read_args.Statement.{statement}
+use Rattle.arguments.proofs.reading.read_args.Tie as tie
+
+abbrev Inv-loop : tie.InvT-loop
+Inv-loop words image from start options₀ flags₀ rest₀ stage₀ at₀ options flags rest stage at =
+    ArgsAt words image (definitionsAt image «from») start rest₀ rest (held options flags stage) at × Fit (stage .options) options × Fit (stage .flags) flags
+
+abbrev μ-loop : tie.MeasureT-loop
+μ-loop words image from start options₀ flags₀ rest₀ stage₀ at₀ options flags rest stage at = length words - at
+
+start-requires : tie.Need-start-requires Inv-loop μ-loop
+start-requires c κs = search needs
+
+loop-holds : tie.Need-loop-holds Inv-loop μ-loop
+loop-holds c =
+    let e = c .start .ensures in
+    (args-start (c .before .before .before .before .before .before .args .words .now) (c .before .before .before .before .before .before .args .image .now) (definitionsAt (c .before .before .before .before .before .before .args .image .now) (c .before .before .before .before .before .before .args .from)) (c .before .before .before .before .before .before .args .start) (c .before .before .before .before .before .before .args .rest .now) _ (stage-starts (c .before .before .before .before .before .before .args .words .now) (c .before .before .before .before .before .before .args .image .now) (c .before .before .before .before .before .before .args .rest .now) (c .before .before .before .before .before .before .args .options .now) (c .before .before .before .before .before .before .args .flags .now) _ e) (stage-apt (c .before .before .before .before .before .before .args .words .now) (c .before .before .before .before .before .before .args .image .now) (c .before .before .before .before .before .before .args .rest .now) (c .before .before .before .before .before .before .args .options .now) (c .before .before .before .before .before .before .args .flags .now) _ e) (ap (λ (s : Stage). s .kept) e), fit-as _ 0 _ (ap (λ (s : Stage). s .options) e) (record { few = omega arith; full = c .before .before .before .before .before .before .pre .2 }), fit-as _ 0 _ (ap (λ (s : Stage). s .flags) e) (record { few = omega arith; full = c .before .before .before .before .before .before .pre .3 }))
+
+read-frame-requires : tie.Need-read-frame-requires Inv-loop μ-loop
+read-frame-requires c κs = search needs
+
+enum-known-length : tie.Need-enum-known-length Inv-loop μ-loop
+enum-known-length c = search needs
+
+same-length : tie.Need-same-length Inv-loop μ-loop
+same-length c = c .before .before .before .loop .inv .1 .full ∙ sym (c .before .before .before .before .before .before .before .before .before .before .pre .2)
+
+same-length-2 : tie.Need-same-length-2 Inv-loop μ-loop
+same-length-2 c = c .before .before .before .loop .inv .2 .full ∙ sym (c .before .before .before .before .before .before .before .before .before .before .pre .3)
+
+same-length-3 : tie.Need-same-length-3 Inv-loop μ-loop
+same-length-3 c = c .before .before .before .loop .inv .0 .room
+
+returns : tie.Need-returns Inv-loop μ-loop
+returns c =
+    (args-end (c .before .before .before .before .before .before .before .before .before .before .args .words .now) (c .before .before .before .before .before .before .before .before .before .before .args .image .now) (definitionsAt (c .before .before .before .before .before .before .before .before .before .before .args .image .now) (c .before .before .before .before .before .before .before .before .before .before .args .from)) (c .before .before .before .before .before .before .before .before .before .before .args .start) (c .before .before .before .before .before .before .before .before .before .before .args .rest .now) _ _ (c .before .before .before .loop .at) (c .before .before .before .loop .inv .0) (texts-stop _ _ (sym (c .before .read-frame .ensures)) (c .match .keys2)), c .before .before .before .loop .inv .1, c .before .before .before .loop .inv .2)
+
+word-requires : tie.Need-word-requires Inv-loop μ-loop
+word-requires c κs =
+    let h : c .before .before .before .before .before .before .before .before .loop .at + 3 + c .before .before .before .before .length .given .0 .1 .0 ≤ length (c .before .before .before .before .before .before .before .before .before .before .before .before .before .before .before .args .words .now) = word-within (c .before .before .before .before .before .before .before .before .before .before .before .before .before .before .before .args .words .now) (c .before .before .before .before .before .before .before .before .loop .at) _ _ (sym (c .before .before .before .before .before .before .read-frame .ensures) ∙ c .before .before .before .before .length .given .1) in
+    let i = c .before .before .before .before .before .before .before .before .loop .inv .0 in
+    let k = i .kept in
+    let l = i .room in
+    let w = c .before .before .before .before .before .before .before .before .before .before .before .before .before .before .before .pre .1 in
+    ((c .before .before .before .before .before .before .before .before .before .before .before .before .before .before .before .pre .0, (_, (sym (c .before .before .before .before .before .before .read-frame .ensures) ∙ c .before .before .before .before .length .given .1))), (i .apt, omega arith, c .before .before .before .before .before .before .before .before .loop .inv .1, c .before .before .before .before .before .before .before .before .loop .inv .2))
+
+add-at : tie.Need-add-at Inv-loop μ-loop
+add-at c =
+    let h : c .before .before .before .before .before .before .before .before .before .before .before .before .before .before .before .loop .at + 3 + c .before .before .before .before .before .before .before .before .before .before .before .length .given .0 .1 .0 ≤ length (c .before .before .before .before .before .before .before .before .before .before .before .before .before .before .before .before .before .before .before .before .before .before .args .words .now) = word-within (c .before .before .before .before .before .before .before .before .before .before .before .before .before .before .before .before .before .before .before .before .before .before .args .words .now) (c .before .before .before .before .before .before .before .before .before .before .before .before .before .before .before .loop .at) _ _ (sym (c .before .before .before .before .before .before .before .before .before .before .before .before .before .read-frame .ensures) ∙ c .before .before .before .before .before .before .before .before .before .before .before .length .given .1) in
+    let z = c .before .before .before .before .before .before .before .before .before .before .before .before .before .before .before .before .before .before .before .before .before .before .pre .0 .0 in
+    omega arith
+
+add-at-2 : tie.Need-add-at-2 Inv-loop μ-loop
+add-at-2 c =
+    let h : c .before .before .before .before .before .before .before .before .before .before .before .before .before .before .before .loop .at + 3 + c .before .before .before .before .before .before .before .before .before .before .before .length .given .0 .1 .0 ≤ length (c .before .before .before .before .before .before .before .before .before .before .before .before .before .before .before .before .before .before .before .before .before .before .args .words .now) = word-within (c .before .before .before .before .before .before .before .before .before .before .before .before .before .before .before .before .before .before .before .before .before .before .args .words .now) (c .before .before .before .before .before .before .before .before .before .before .before .before .before .before .before .loop .at) _ _ (sym (c .before .before .before .before .before .before .before .before .before .before .before .before .before .read-frame .ensures) ∙ c .before .before .before .before .before .before .before .before .before .before .before .length .given .1) in
+    let z = c .before .before .before .before .before .before .before .before .before .before .before .before .before .before .before .before .before .before .before .before .before .before .pre .0 .0 in
+    omega arith
+
+loop-less : tie.Need-loop-less Inv-loop μ-loop
+loop-less c =
+    let h : c .before .before .before .before .before .before .before .before .before .before .before .before .before .before .before .loop .at + 3 + c .before .before .before .before .before .before .before .before .before .before .before .length .given .0 .1 .0 ≤ length (c .before .before .before .before .before .before .before .before .before .before .before .before .before .before .before .before .before .before .before .before .before .before .args .words .now) = word-within (c .before .before .before .before .before .before .before .before .before .before .before .before .before .before .before .before .before .before .before .before .before .before .args .words .now) (c .before .before .before .before .before .before .before .before .before .before .before .before .before .before .before .loop .at) _ _ (sym (c .before .before .before .before .before .before .before .before .before .before .before .before .before .read-frame .ensures) ∙ c .before .before .before .before .before .before .before .before .before .before .before .length .given .1) in
+    omega arith
+
+loop-again : tie.Need-loop-again Inv-loop μ-loop
+loop-again c =
+    (args-turn (c .before .before .before .before .before .before .before .before .before .before .before .before .before .before .before .before .before .before .before .before .before .before .args .words .now) (c .before .before .before .before .before .before .before .before .before .before .before .before .before .before .before .before .before .before .before .before .before .before .args .image .now) (definitionsAt (c .before .before .before .before .before .before .before .before .before .before .before .before .before .before .before .before .before .before .before .before .before .before .args .image .now) (c .before .before .before .before .before .before .before .before .before .before .before .before .before .before .before .before .before .before .before .before .before .before .args .from)) (c .before .before .before .before .before .before .before .before .before .before .before .before .before .before .before .before .before .before .before .before .before .before .args .start) (c .before .before .before .before .before .before .before .before .before .before .before .before .before .before .before .before .before .before .before .before .before .before .args .rest .now) _ _ _ _ _ _ _ (c .before .before .before .before .before .before .before .before .before .before .before .before .before .before .before .loop .inv .0) (sym (c .before .before .before .before .before .before .before .before .before .before .before .before .before .read-frame .ensures) ∙ c .before .before .before .before .before .before .before .before .before .before .before .length .given .1) (c .before .before .before .before .before .before .word .ensures .0), c .before .before .before .before .before .before .word .ensures .1, c .before .before .before .before .before .before .word .ensures .2)
+
+same-length-4 : tie.Need-same-length-4 Inv-loop μ-loop
+same-length-4 c = c .before .loop .inv .1 .full ∙ sym (c .before .before .before .before .before .before .before .before .pre .2)
+
+same-length-5 : tie.Need-same-length-5 Inv-loop μ-loop
+same-length-5 c = c .before .loop .inv .2 .full ∙ sym (c .before .before .before .before .before .before .before .before .pre .3)
+
+same-length-6 : tie.Need-same-length-6 Inv-loop μ-loop
+same-length-6 c = c .before .loop .inv .0 .room
+
+returns-2 : tie.Need-returns-2 Inv-loop μ-loop
+returns-2 c =
+    (args-end (c .before .before .before .before .before .before .before .before .args .words .now) (c .before .before .before .before .before .before .before .before .args .image .now) (definitionsAt (c .before .before .before .before .before .before .before .before .args .image .now) (c .before .before .before .before .before .before .before .before .args .from)) (c .before .before .before .before .before .before .before .before .args .start) (c .before .before .before .before .before .before .before .before .args .rest .now) _ _ (c .before .loop .at) (c .before .loop .inv .0) (texts-end (c .before .before .before .before .before .before .before .before .args .words .now) (c .before .loop .at) (c .loop-test .left)), c .before .loop .inv .1, c .before .loop .inv .2)
+
+pub read-args-spec : {M : Type 1} → statement M
+read-args-spec =
+    tie.close
+    (tie.spec
+    Inv-loop
+    μ-loop
+    start-requires
+    loop-holds
+    read-frame-requires
+    enum-known-length
+    same-length
+    same-length-2
+    same-length-3
+    returns
+    word-requires
+    add-at
+    add-at-2
+    loop-less
+    loop-again
+    same-length-4
+    same-length-5
+    same-length-6
+    returns-2)

@@ -1,0 +1,19 @@
+-- `arguments::standing::Stage::keep` meets its contract: the frame stands behind those that are kept.
+use Rattle.arguments.proofs.Moves.{kept-behind}
+use mathlib.Core.Path.{refl}
+use Rattle.arguments.specs.Held.{held}
+use borrow.Author.Needs.{needs}
+use Rattle.arguments.proofs.standing.Stage.keep.Statement.{statement}
+use Rattle.arguments.proofs.standing.Stage.keep.Tie as tie
+
+push-requires : tie.Need-push-requires
+push-requires c κs = search needs
+
+same-length : tie.Need-same-length
+same-length c = search needs
+
+returns : tie.Need-returns
+returns c = (λ o f. kept-behind _ _ _ (held o f (c .before .before .before .before .before .before .args .self)) _ (c .before .before .before .before .before .before .pre) (c .before .before .push .ensures), refl, refl)
+
+pub keep-spec : {M : Type 1} → statement M
+keep-spec = tie.close (tie.spec push-requires same-length returns)

@@ -1,0 +1,21 @@
+-- `history::stepping::History::fresh_in` meets its contract.
+use Rattle.history.proofs.Layouts.{all-cleared}
+use mathlib.Core.Path.{_∙_}
+use borrow.Author.Needs.{needs}
+use Rattle.history.proofs.stepping.History.fresh_in.Statement.{statement}
+use Rattle.history.proofs.stepping.History.fresh_in.Tie as tie
+
+clear-requires : tie.Need-clear-requires
+clear-requires c κs = search needs
+
+fresh-requires : tie.Need-fresh-requires
+fresh-requires c κs = search needs
+
+same-length : tie.Need-same-length
+same-length c = search needs
+
+returns : tie.Need-returns
+returns c = record { state = c .fresh .ensures; bytes = c .before .before .before .clear .ensures ∙ all-cleared _ (c .before .before .before .before .before .before .pre) }
+
+pub fresh-in-spec : {M : Type 1} → statement M
+fresh-in-spec = tie.close (tie.spec clear-requires fresh-requires same-length returns)

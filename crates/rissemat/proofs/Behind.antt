@@ -1,0 +1,62 @@
+-- A packed answer is the packing of an answer of the call behind it: what is proved of that call holds of the call for Rust and C.
+use Prim.Native.Nat.{ℕ}
+use mathlib.Core.Path.{_≡_, refl}
+use mathlib.Core.List.{List}
+use lib.ListN.{length}
+use Rattle.words.specs.declared.tokenizer.Tokens.{Tokens}
+use Rattle.words.specs.Answer.{answerFor, Tokenized, number, value}
+use Rattle.quote.specs.declared.quoter.Quoted.{Quoted}
+use Rattle.quote.specs.Answer.{quoteAnswer, Quotation, number as quoteNumber, value as quoteValue}
+use Rattle.history.specs.declared.adding.Added.{Added}
+use Rattle.history.specs.Answer.{number as addNumber, value as addValue}
+use Rattle.editor.specs.declared.drawing.Pressed.{Pressed}
+use Rattle.state.specs.Calls.{beginAnswer, Beginning, pressAnswer, SavedKey, savedAnswer, SavedAdd, number as beginNumber, value as beginValue}
+use Rattle.state.specs.declared.calls.Begun.{Begun}
+use Rattle.tree.specs.declared.check.Checked.{Checked}
+use Rattle.tree.specs.Rules.{checkTree}
+use Rattle.tree.specs.Answer.{number as treeNumber, value as treeValue}
+use Rattle.parse.specs.declared.answer.Parsed.{Parsed}
+use Rattle.parse.specs.Answer.{parseAnswer, Parsing, number as parseNumber, value as parseValue}
+use Rattle.help.specs.declared.call.Helped.{Helped}
+use Rattle.help.specs.Answer.{answerFor as helpAnswer, Helping, number as helpNumber, value as helpValue}
+use Rattle.shell.specs.declared.answer.Ran.{Ran}
+use Rattle.shell.specs.Answer.{runAnswer, Running}
+use Rattle.rissemat.specs.Packed.{plain}
+use Rattle.rissemat.specs.Calls.{WordsCall, QuoteCall, FreshCall, KeyCall, keyTold, AddCall, TreeCall, ParseCall, HelpCall, RunCall, runTold}
+
+pub words-behind : (line out : List ℕ) (p : ℕ) (left : List ℕ) → WordsCall line out p left → (r : Tokens) × Tokenized line out r left × (p ≡ plain (number r) (value r))
+words-behind line out p left h = (answerFor line (length out), record { answer = refl; bytes = h .bytes }, h .answer)
+
+pub quote-behind : (words out : List ℕ) (p : ℕ) (left : List ℕ) → QuoteCall words out p left → (r : Quoted) × Quotation words out r left × (p ≡ plain (quoteNumber r) (quoteValue r))
+quote-behind words out p left h = (quoteAnswer words (length out), record { answer = refl; bytes = h .bytes }, h .answer)
+
+pub fresh-behind : (state slots : List ℕ) (p : ℕ) (state′ slots′ : List ℕ) → FreshCall state slots p state′ slots′
+    → (r : Begun) × Beginning state slots r state′ slots′ × (p ≡ plain (beginNumber r) (beginValue r))
+fresh-behind state slots p state′ slots′ h = (beginAnswer (length state) (length slots), record { answer = refl; kept = h .kept; held = h .held }, h .answer)
+
+pub key-behind : (state slots prompt : List ℕ) (byte : ℕ) (line screen : List ℕ) (p : ℕ) (state′ slots′ line′ screen′ : List ℕ)
+    → KeyCall state slots prompt byte line screen p state′ slots′ line′ screen′
+    → (r : Pressed) × SavedKey state slots prompt byte line screen r state′ slots′ line′ screen′ × (p ≡ keyTold r)
+key-behind state slots prompt byte line screen p state′ slots′ line′ screen′ h = (
+  pressAnswer state slots prompt byte (length line) (length screen),
+  record { answer = refl; kept = h .kept; held = h .held; given = h .given; shown = h .shown },
+  h .answer,
+)
+
+pub add-behind : (state slots text : List ℕ) (p : ℕ) (state′ slots′ : List ℕ) → AddCall state slots text p state′ slots′
+    → (r : Added) × SavedAdd state slots text r state′ slots′ × (p ≡ plain (addNumber r) (addValue r))
+add-behind state slots text p state′ slots′ h = (savedAnswer state slots text, record { answer = refl; kept = h .kept; held = h .held }, h .answer)
+
+pub tree-behind : (image : List ℕ) (p : ℕ) → TreeCall image p → (r : Checked) × (r ≡ checkTree image) × (p ≡ plain (treeNumber r) (treeValue r))
+tree-behind image p h = (checkTree image, refl, h .answer)
+
+pub parse-behind : (image line out : List ℕ) (p : ℕ) (left : List ℕ) → ParseCall image line out p left
+    → (r : Parsed) × Parsing image line out r left × (p ≡ plain (parseNumber r) (parseValue r))
+parse-behind image line out p left h = (parseAnswer image line (length out), record { answer = refl; bytes = h .bytes }, h .answer)
+
+pub help-behind : (image line out : List ℕ) (p : ℕ) (left : List ℕ) → HelpCall image line out p left
+    → (r : Helped) × Helping image line out r left × (p ≡ plain (helpNumber r) (helpValue r))
+help-behind image line out p left h = (helpAnswer image line (length out), record { answer = refl; bytes = h .bytes }, h .answer)
+
+pub run-behind : (image line out : List ℕ) (p : ℕ) (left : List ℕ) → RunCall image line out p left → (r : Ran) × Running image line out r left × (p ≡ runTold r)
+run-behind image line out p left h = (runAnswer image line (length out), record { answer = refl; bytes = h .bytes }, h .answer)

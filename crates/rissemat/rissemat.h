@@ -1,0 +1,80 @@
+/* The calls of librissemat.a for C: `rt staticlib rissemat` makes the archive.
+ *
+ * A slice is a pointer and then a length; a pointer to no bytes may be anything but must not be read through. Slices of
+ * one call must not overlap. An answer has 64 bits:
+ *   bits 0-31   the value: bytes written, or what the refusal returns (above 4,294,967,295: that number)
+ *   bits 32-39  the refusal's number, 0 for none; with kind 1 of rissemat_run the number beside the text
+ *   bits 40-47  the kind of answer, where a call has several
+ *   bits 48-63  a second value, where a call has one
+ * A refusal writes nothing, but for 4 to 7 of rissemat_parse and rissemat_help, each of which is told by a frame, as long as the value says.
+ * Success writes the first bytes of an out, line or screen only, as many as the value (the second value for line) says.
+ */
+#ifndef RISSEMAT_H
+#define RISSEMAT_H
+
+#include <stddef.h>
+#include <stdint.h>
+
+/* The words of a line as frames of kind 14 (14, length in two bytes, high first, bytes).
+ * Refusals, in this order: 2 (line over 1,024 bytes: its length, 65,535 if more), 3 (ill-formed UTF-8: length of the longest
+ * well-formed prefix), 9 (out too short: length needed). */
+uint64_t rissemat_words(const uint8_t *line, size_t line_len, uint8_t *out, size_t out_len);
+
+/* The line that splits into the words of these frames of kind 14.
+ * Refusals, in this order: 10 (an empty, ill-formed or broken word: its number from 0), 2 (line over 1,024 bytes: its
+ * length, 65,535 if more), 9 (out too short: length needed). */
+uint64_t rissemat_quote(const uint8_t *words, size_t words_len, uint8_t *out, size_t out_len);
+
+/* A session between two calls is a state of 260 bytes and slots of 25,600 bytes, both the caller's: no call keeps anything.
+ * The state: mode (0 typing, 1 after ESC, 2 after ESC `[`), line length, cursor, count, place, then the 255 bytes of the line. The
+ * slots: the entries of history in slots of 256 bytes, a length byte then the text, oldest first, all unused bytes zero. */
+
+/* A fresh session: no line, no history. Both buffers are then zeros.
+ * Refusals, in this order: 9 (a buffer too short, the state's first: the length needed, 260 or 25,600), 12 (a buffer too long: another length is
+ * no state's). */
+uint64_t rissemat_fresh(uint8_t *state, size_t state_len, uint8_t *slots, size_t slots_len);
+
+/* One key. The value is the length of the bytes to show, at the front of screen. Kind 1 is Enter: the second value is the length of
+ * the line that is submitted, at the front of line (0 for an empty line: nothing to run, but the prompt is due). Kind 2: the line is full and
+ * the byte was dropped; nothing changes. Kind 0 is any other key.
+ * Refusals, in this order: 12 (a bad state: another length or mode, or state and slots break a rule of line or history), 11 (prompt over 128
+ * bytes or ill-formed: its length), 9 (line under 255 bytes: 255; then screen too short: length needed). */
+uint64_t rissemat_key(uint8_t *state, size_t state_len, uint8_t *slots, size_t slots_len, const uint8_t *prompt, size_t prompt_len,
+                      uint8_t key, uint8_t *line, size_t line_len, uint8_t *screen, size_t screen_len);
+
+/* A text added to the history, as Enter adds a line: a blank one, or one equal to the newest entry, is not added, and the place is set to
+ * the count either way; the line that is being typed stays. The value is 0.
+ * Refusals, in this order: 12 (a bad state, as above), 13 (text over 255 bytes: its length), 3 (ill-formed UTF-8: length of the longest
+ * well-formed prefix). */
+uint64_t rissemat_history_add(uint8_t *state, size_t state_len, uint8_t *slots, size_t slots_len, const uint8_t *text, size_t text_len);
+
+/* The test of a tree image: frames 01, 02 and 03 one behind the other. The value is 0.
+ * Refusal: 1 (a bad tree: the number, from 0, of the first frame that breaks a rule; an image over 32,768 bytes is bad at frame 0). */
+uint64_t rissemat_tree(const uint8_t *image, size_t image_len);
+
+/* A line parsed under a tree: the report of its command as frames of kinds 11 (path word), 12 (option: key, value), 13 (flag) and 14
+ * (positional), in that order, each text behind its length in two bytes, high first.
+ * Refusals, in this order: 1 (a bad tree, as above), 2 (line over 1,024 bytes: its length, 65,535 if more), 3 (ill-formed UTF-8: length of the
+ * longest well-formed prefix), then 4 (unknown command), 5 (unknown option), 6 (missing value) or 7 (missing required option), whose text
+ * stands at the front of out in one frame of kind 1E, and whose value is that frame's length; 9 instead of any answer from 4 on, or of the
+ * report (out too short: length needed). */
+uint64_t rissemat_parse(const uint8_t *image, size_t image_len, const uint8_t *line, size_t line_len, uint8_t *out, size_t out_len);
+
+/* The help for the words of a line, split on white space only, under a tree.
+ * Refusals, in this order: 1, 2 and 3 as for rissemat_parse, 14 (no words: 0), 4 (a word that names no node, told as above), 9 (out too short
+ * for the help or for that frame: length needed). */
+uint64_t rissemat_help(const uint8_t *image, size_t image_len, const uint8_t *line, size_t line_len, uint8_t *out, size_t out_len);
+
+/* A line run under a tree. What the answer is tells its kind:
+ *   0  nothing is to be done (a blank line), or a refusal
+ *   1  a text to show: help, the list of commands or `clear`, with the number 0; or the message of a line that is refused, with 3 (ill-formed
+ *      UTF-8), 4 (unknown command, also one that help is asked for), 5 (unknown option), 6 (missing value), 7 (missing required option) or
+ *      8 (no handler) in bits 32-39
+ *   2  the end, with its text to show
+ *   3  a handler by its number, the second value, with the report for it, frames as of rissemat_parse
+ * The value is the length of the text or the report, at the front of out.
+ * Refusals, all of kind 0, in this order: 1 (a bad tree, as above), 2 (line over 1,024 bytes: its length, 65,535 if more), 9 (out too short:
+ * length needed). */
+uint64_t rissemat_run(const uint8_t *image, size_t image_len, const uint8_t *line, size_t line_len, uint8_t *out, size_t out_len);
+
+#endif

@@ -1,0 +1,186 @@
+-- Laws of the calls on a saved state: what each way through the code answers and leaves.
+use Prim.Native.Nat.{ℕ, _<_, _≤_}
+use mathlib.Core.Path.{_≡_, refl, sym, ap, _∙_}
+use mathlib.Core.Bool.{Bool, true, false, cond}
+use mathlib.Core.List.{List, [], _∷_}
+use native.Mathlib.Omega.{arith}
+use types.Run.{OneOf, miss}
+use denote.Enum.Declared.{tagOf}
+use lib.Dec.{ltb}
+use lib.ListN.{length}
+use borrow.Author.Tests.{lt-ltb, le-ltb}
+use Rattle.buffer.proofs.Choices.{then-is, else-is, true-is-not-false}
+use Rattle.history.specs.Answer.{atEnd, Emptied, entriesAfter, addAnswer, historyBy, slotsBy, Addition}
+use Rattle.history.specs.declared.stepping.History.{History}
+use Rattle.history.specs.declared.adding.Added.{Added}
+use Rattle.history.specs.declared.adding.Added.the-variants.{Done, BadState as BadHistory, TooLong, IllFormed}
+use Rattle.history.proofs.adding.Added.{the-type}
+use Rattle.history.proofs.Called.{done-has}
+use Rattle.history.proofs.Lasting.{added-good}
+use Rattle.editor.proofs.Fine.{stays-good}
+use Rattle.editor.specs.declared.line.Editor.{Editor}
+use Rattle.editor.specs.declared.drawing.KeyAnswer.{KeyAnswer}
+use Rattle.editor.specs.declared.drawing.Pressed.the-variants.{BadState}
+use Rattle.editor.specs.Line.{freshEditor, goodLine}
+use Rattle.editor.specs.Keys.{turnOf}
+use Rattle.editor.specs.Answer.{stateOf, editorOf, historyOf, goodState, keyAnswer, refused, Pressing}
+use Rattle.state.specs.State.{savedOf, isState, editorIn, historyIn, goodSaved}
+use Rattle.state.specs.Calls.{beginAnswer, Beginning, turnIn, pressAnswer, savedAfter, SavedKey, savedAnswer, stateBy, SavedAdd}
+use Rattle.state.specs.declared.saving.Restored.{Restored}
+use Rattle.state.specs.declared.calls.Begun.the-variants.{Ready, NoRoom, BadState as NoState}
+use Rattle.state.proofs.Savings.{Fits, Back, good-fits}
+
+-- a fresh session
+module _ (state slots : List ℕ) where
+  pub short-state : length state < 260 → Beginning state slots (NoRoom 260) state slots
+  unfolding beginAnswer
+  short-state a = record { answer = sym (then-is _ _ _ (lt-ltb _ 260 a)); kept = refl; held = refl }
+
+  module _ (a : 260 ≤ length state) where
+    pub short-slots : length slots < 25600 → Beginning state slots (NoRoom 25600) state slots
+    unfolding beginAnswer
+    short-slots b = record { answer = sym (else-is _ _ _ (le-ltb _ 260 a) ∙ then-is _ _ _ (lt-ltb _ 25600 b)); kept = refl; held = refl }
+
+    module _ (b : 25600 ≤ length slots) where
+      roomy : beginAnswer (length state) (length slots) ≡ cond (ltb 260 (length state)) NoState (cond (ltb 25600 (length slots)) NoState Ready)
+      unfolding beginAnswer
+      roomy = else-is _ _ _ (le-ltb _ 260 a) ∙ else-is _ _ _ (le-ltb _ 25600 b)
+
+      pub long-state : 260 < length state → Beginning state slots NoState state slots
+      long-state m = record { answer = sym (roomy ∙ then-is _ _ _ (lt-ltb 260 _ m)); kept = refl; held = refl }
+
+      module _ (m : length state ≤ 260) where
+        pub long-slots : 25600 < length slots → Beginning state slots NoState state slots
+        long-slots n = record { answer = sym (roomy ∙ else-is _ _ _ (le-ltb 260 _ m) ∙ then-is _ _ _ (lt-ltb 25600 _ n)); kept = refl; held = refl }
+
+        pub begin-ready : (e : Editor) (h : History) (state′ slots′ : List ℕ) → length slots ≤ 25600 → e ≡ freshEditor → Emptied h slots′ → state′ ≡ savedOf e h
+            → Beginning state slots Ready state′ slots′
+        begin-ready e h state′ slots′ n p q w =
+            record {
+              answer = sym (roomy ∙ else-is _ _ _ (le-ltb 260 _ m) ∙ else-is _ _ _ (le-ltb 25600 _ n));
+              kept = w ∙ ap (λ (x : Editor). savedOf x h) p ∙ ap (savedOf freshEditor) (q .state);
+              held = q .bytes;
+            }
+
+fresh-small : Fits freshEditor (atEnd 0)
+fresh-small = (omega arith, omega arith, omega arith, omega arith)
+
+pub fresh-bytes : (e : Editor) (h : History) → e ≡ freshEditor → h ≡ atEnd 0 → Fits e h
+fresh-bytes e h p q = rw (p, q) fresh-small
+
+-- a text added
+module _ (state slots text : List ℕ) where
+  pub add-other : isState state ≡ false → SavedAdd state slots text BadHistory state slots
+  unfolding savedAnswer
+  add-other h = record { answer = sym (else-is _ _ _ h); kept = refl; held = refl }
+
+  module _ (s : Restored) (back : Back s state) where
+    pub add-bad-line : goodLine (s .editor) ≡ false → SavedAdd state slots text BadHistory state slots
+    unfolding savedAnswer
+    add-bad-line h = record { answer = sym (then-is _ _ _ (back .is) ∙ else-is _ _ _ (ap goodLine (sym (back .editor)) ∙ h)); kept = refl; held = refl }
+
+    module _ (good-editor : goodLine (s .editor) ≡ true) (r : History) (told : Added) (left : List ℕ) (b : Addition (s .history) slots text r told left) where
+      a : Addition (historyIn state) slots text r told left
+      a = rw (back .history) at b
+
+      line : goodLine (editorIn state) ≡ true
+      line = ap goodLine (sym (back .editor)) ∙ good-editor
+
+      answered-so : told ≡ savedAnswer state slots text
+      unfolding savedAnswer
+      answered-so = a .answer ∙ sym (then-is _ _ _ (back .is) ∙ then-is _ _ _ line)
+
+      left-so : left ≡ slotsBy told slots (entriesAfter (historyIn state) slots text)
+      left-so = a .bytes ∙ ap (λ (x : Added). slotsBy x slots (entriesAfter (historyIn state) slots text)) (sym (a .answer))
+
+      pub add-done : (state′ : List ℕ) → told ≡ Done → state′ ≡ savedOf (s .editor) r → SavedAdd state slots text told state′ left
+      add-done state′ d w =
+          let n : ℕ = length (entriesAfter (historyIn state) slots text) in
+          let known : addAnswer (historyIn state) slots text ≡ Done = sym (a .answer) ∙ d in
+          record {
+            answer = answered-so;
+            kept =
+                w
+                ∙ ap (λ (x : Editor). savedOf x r) (back .editor)
+                ∙ ap (savedOf (editorIn state)) (a .state ∙ ap (λ (x : Added). historyBy x (historyIn state) (entriesAfter (historyIn state) slots text)) known)
+                ∙ ap (λ (x : Added). stateBy x state n) (sym d);
+            held = left-so;
+          }
+
+      pub add-good : told ≡ Done → goodState (s .editor) r left ≡ true
+      unfolding goodState
+      add-good d =
+          let known : addAnswer (historyIn state) slots text ≡ Done = sym (a .answer) ∙ d in
+          then-is _ _ _ good-editor ∙ added-good (historyIn state) slots text r told left (done-has (historyIn state) slots text known .is-good) a
+
+      pub add-fits : told ≡ Done → Fits (s .editor) r
+      add-fits d = good-fits (s .editor) r left (add-good d)
+
+      pub add-refused : OneOf (1 ∷ 2 ∷ 3 ∷ []) (tagOf the-type told) → SavedAdd state slots text told state left
+      add-refused k = record { answer = answered-so; kept = sym (stays told k); held = left-so }
+        where
+          stays : (x : Added) → OneOf (1 ∷ 2 ∷ 3 ∷ []) (tagOf the-type x) → stateBy x state (length (entriesAfter (historyIn state) slots text)) ≡ state
+          stays Done m = absurd (miss (1 ∷ 2 ∷ 3 ∷ []) 0 tt m)
+          stays BadHistory m = refl
+          stays (TooLong n) m = refl
+          stays (IllFormed n) m = refl
+
+-- one key
+module _ (state slots prompt : List ℕ) (byte : ℕ) (line screen : List ℕ) where
+  pub key-other : isState state ≡ false → SavedKey state slots prompt byte line screen BadState state slots line screen
+  unfolding pressAnswer keyAnswer goodSaved
+  key-other h = record { answer = sym (else-is _ _ _ (else-is _ _ _ h)); kept = refl; held = refl; given = refl; shown = refl }
+
+  module _ (r : Restored) (back : Back r state) (k : KeyAnswer) (slots′ line′ screen′ : List ℕ)
+      (b : Pressing (r .editor) (r .history) slots prompt byte line screen k slots′ line′ screen′) where
+    p : Pressing (editorIn state) (historyIn state) slots prompt byte line screen k slots′ line′ screen′
+    p = rw (back .editor, back .history) at b
+
+    told-so : k .answer ≡ pressAnswer state slots prompt byte (length line) (length screen)
+    unfolding pressAnswer goodSaved turnIn
+    told-so =
+        p .answer
+        ∙ ap (λ (t : Bool). keyAnswer t prompt (turnOf prompt (stateOf (editorIn state) (historyIn state) slots) byte) (length line) (length screen)) (sym (then-is _ _ _ (back .is)))
+
+    pub key-refused : refused (k .answer) ≡ true → SavedKey state slots prompt byte line screen (k .answer) state slots′ line′ screen′
+    unfolding turnIn
+    key-refused t = record { answer = told-so; kept = sym (then-is _ _ _ t); held = p .held; given = p .given; shown = p .shown }
+
+    -- what is left of a key that is taken
+    after-editor : refused (k .answer) ≡ false → k .editor ≡ editorOf (turnIn state slots prompt byte .after)
+    unfolding turnIn
+    after-editor t = p .editor ∙ else-is _ _ _ t
+
+    after-history : refused (k .answer) ≡ false → k .history ≡ historyOf (turnIn state slots prompt byte .after)
+    unfolding turnIn
+    after-history t = p .history ∙ else-is _ _ _ t
+
+    pub key-taken : (state′ : List ℕ) → refused (k .answer) ≡ false → state′ ≡ savedOf (k .editor) (k .history)
+        → SavedKey state slots prompt byte line screen (k .answer) state′ slots′ line′ screen′
+    unfolding savedAfter turnIn
+    key-taken state′ t s =
+        record {
+          answer = told-so;
+          kept =
+              s
+              ∙ ap (λ (x : Editor). savedOf x (k .history)) (after-editor t)
+              ∙ ap (savedOf (editorOf (turnIn state slots prompt byte .after))) (after-history t)
+              ∙ sym (else-is _ _ _ t);
+          held = p .held;
+          given = p .given;
+          shown = p .shown;
+        }
+
+    -- a key is taken in a good state only
+    good-taken : refused (k .answer) ≡ false → goodState (editorIn state) (historyIn state) slots ≡ true
+    unfolding keyAnswer
+    good-taken t = by (goodState (editorIn state) (historyIn state) slots) refl
+      where
+        by : (t : Bool) → goodState (editorIn state) (historyIn state) slots ≡ t → t ≡ true
+        by true h = refl
+        by false h = absurd (true-is-not-false (sym (ap refused (p .answer ∙ else-is _ _ _ h)) ∙ t))
+
+    pub taken-fits : refused (k .answer) ≡ false → Fits (k .editor) (k .history)
+    taken-fits t =
+        good-fits (k .editor) (k .history) slots′
+        (stays-good (editorIn state) (historyIn state) slots prompt byte line screen k slots′ line′ screen′ (good-taken t) p)

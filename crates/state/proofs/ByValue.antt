@@ -1,0 +1,97 @@
+-- A call on a saved state is the call by value on what the bytes hold, and leaves the bytes of what that hands back.
+use Prim.Native.Nat.{ℕ, _≤_}
+use mathlib.Core.Path.{_≡_, refl, sym, ap, _∙_}
+use mathlib.Core.Bool.{Bool, true, false, cond}
+use mathlib.Core.List.{List}
+use lib.ListN.{length}
+use Rattle.buffer.proofs.Choices.{then-is}
+use Rattle.history.specs.Answer.{entriesAfter, addAnswer, historyBy, slotsBy, Addition}
+use Rattle.history.specs.declared.stepping.History.{History}
+use Rattle.history.specs.declared.adding.Added.{Added}
+use Rattle.history.specs.declared.adding.Added.the-variants.{Done, BadState, TooLong, IllFormed}
+use Rattle.editor.specs.declared.line.Mode.the-variants.{Typing}
+use Rattle.editor.specs.declared.line.Editor.{Editor}
+use Rattle.editor.specs.declared.drawing.KeyAnswer.{KeyAnswer}
+use Rattle.editor.specs.declared.drawing.Pressed.{Pressed}
+use Rattle.editor.specs.declared.drawing.Pressed.the-variants.{Dropped}
+use Rattle.editor.specs.Line.{limit, goodLine}
+use Rattle.editor.specs.Keys.{State, Turn, turnOf}
+use Rattle.editor.specs.Answer.{stateOf, editorOf, historyOf, goodPrompt, keyAnswer, refused, Pressing}
+use Rattle.editor.proofs.Called.{dropped}
+use Rattle.state.specs.State.{savedOf, isState, editorIn, historyIn, goodSaved}
+use Rattle.state.specs.Calls.{turnIn, pressAnswer, savedAfter, SavedKey, savedAnswer, stateBy, SavedAdd}
+use Rattle.state.proofs.Savings.{saved-restored}
+use Rattle.state.proofs.Lasting.{good-saved-parts}
+
+-- what `key` hands back for a turn from a saved state, with this answer
+abbrev pub keyFor : List ℕ → Turn → Pressed → KeyAnswer
+keyFor state t told =
+    record {
+      editor = cond (refused told) (editorIn state) (editorOf (t .after));
+      history = cond (refused told) (historyIn state) (historyOf (t .after));
+      answer = told;
+    }
+
+same-saved : {e e′ : Editor} {h h′ : History} → e ≡ e′ → h ≡ h′ → savedOf e h ≡ savedOf e′ h′
+same-saved p q = cc
+
+module _ (state slots prompt : List ℕ) (byte : ℕ) (line screen : List ℕ) (told : Pressed) (state′ slots′ line′ screen′ : List ℕ)
+    (p : SavedKey state slots prompt byte line screen told state′ slots′ line′ screen′) (is : isState state ≡ true) where
+  pub key-by-value : Pressing (editorIn state) (historyIn state) slots prompt byte line screen (keyFor state (turnIn state slots prompt byte) told) slots′ line′ screen′
+  unfolding pressAnswer goodSaved turnIn
+  key-by-value =
+      record {
+        answer =
+            p .answer
+            ∙ ap (λ (t : Bool). keyAnswer t prompt (turnOf prompt (stateOf (editorIn state) (historyIn state) slots) byte) (length line) (length screen)) (then-is _ _ _ is);
+        editor = refl;
+        history = refl;
+        held = p .held;
+        given = p .given;
+        shown = p .shown;
+      }
+
+  pub key-saved : let k : KeyAnswer = keyFor state (turnIn state slots prompt byte) told in state′ ≡ savedOf (k .editor) (k .history)
+  unfolding savedAfter
+  key-saved = p .kept ∙ by (refused told) (turnIn state slots prompt byte .after)
+    where
+      by : (r : Bool) (s : State) → cond r state (savedOf (editorOf s) (historyOf s)) ≡ savedOf (cond r (editorIn state) (editorOf s)) (cond r (historyIn state) (historyOf s))
+      by true s = sym (saved-restored state is)
+      by false s = refl
+
+module _ (state slots text : List ℕ) (told : Added) (state′ slots′ : List ℕ) (p : SavedAdd state slots text told state′ slots′)
+    (is : isState state ≡ true) (fair : goodLine (editorIn state) ≡ true) where
+  pub add-by-value : Addition (historyIn state) slots text (historyBy told (historyIn state) (entriesAfter (historyIn state) slots text)) told slots′
+  unfolding savedAnswer
+  add-by-value =
+      let a : told ≡ addAnswer (historyIn state) slots text = p .answer ∙ then-is _ _ _ is ∙ then-is _ _ _ fair in
+      record {
+        answer = a;
+        state = ap (λ (x : Added). historyBy x (historyIn state) (entriesAfter (historyIn state) slots text)) a;
+        bytes = p .held ∙ ap (λ (x : Added). slotsBy x slots (entriesAfter (historyIn state) slots text)) a;
+      }
+
+  pub add-saved : state′ ≡ savedOf (editorIn state) (historyBy told (historyIn state) (entriesAfter (historyIn state) slots text))
+  add-saved = p .kept ∙ by told (entriesAfter (historyIn state) slots text)
+    where
+      by : (x : Added) (es : List (List ℕ)) → stateBy x state (length es) ≡ savedOf (editorIn state) (historyBy x (historyIn state) es)
+      by Done es = refl
+      by BadState es = sym (saved-restored state is)
+      by (TooLong n) es = sym (saved-restored state is)
+      by (IllFormed n) es = sym (saved-restored state is)
+
+-- a byte typed into a full line is answered dropped, and nothing changes: not a byte of the state, nor of any buffer
+pub dropped-saved : (state slots prompt : List ℕ) (byte : ℕ) (line screen : List ℕ) (told : Pressed) (state′ slots′ line′ screen′ : List ℕ)
+    → SavedKey state slots prompt byte line screen told state′ slots′ line′ screen′ → goodSaved state slots ≡ true → goodPrompt prompt ≡ true → limit ≤ length line
+    → editorIn state .mode ≡ Typing → limit ≤ editorIn state .length → 0x20 ≤ byte → (byte ≡ 0x7F → ⊥)
+    → (told ≡ Dropped) × (state′ ≡ state) × (slots′ ≡ slots) × (line′ ≡ line) × (screen′ ≡ screen)
+dropped-saved state slots prompt byte line screen told state′ slots′ line′ screen′ p good fair room typing full shown not-del =
+    let is = good-saved-parts state slots good in
+    let d = dropped (editorIn state) (historyIn state) slots prompt byte line screen (keyFor state (turnIn state slots prompt byte) told) slots′ line′ screen′
+    (key-by-value state slots prompt byte line screen told state′ slots′ line′ screen′ p (is .0)) (is .1) fair room typing full shown not-del in (
+      d .0,
+      key-saved state slots prompt byte line screen told state′ slots′ line′ screen′ p (is .0) ∙ same-saved (d .1) (d .2) ∙ saved-restored state (is .0),
+      d .3,
+      d .4,
+      d .5,
+    )

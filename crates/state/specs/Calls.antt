@@ -1,0 +1,85 @@
+-- What the calls on a saved state answer and leave.
+use Prim.Native.Nat.{ℕ}
+use mathlib.Core.Path.{_≡_}
+use mathlib.Core.Bool.{Bool, true, false, cond}
+use mathlib.Core.List.{List, []}
+use lib.Dec.{ltb}
+use lib.ListN.{length}
+use Rattle.buffer.specs.Write.{over}
+use Rattle.history.specs.Slots.{layout}
+use Rattle.history.specs.Answer.{atEnd, entriesAfter, addAnswer, slotsBy}
+use Rattle.history.specs.declared.adding.Added.{Added}
+use Rattle.history.specs.declared.adding.Added.the-variants.{Done, BadState as BadHistory, TooLong, IllFormed}
+use Rattle.editor.specs.declared.drawing.Pressed.{Pressed}
+use Rattle.editor.specs.Line.{freshEditor, goodLine}
+use Rattle.editor.specs.Keys.{State, Turn, turnOf}
+use Rattle.editor.specs.Answer.{stateOf, editorOf, historyOf, slotsOf, keyAnswer, refused}
+use Rattle.state.specs.State.{savedOf, isState, editorIn, historyIn, goodSaved}
+use Rattle.state.specs.declared.calls.Begun.{Begun}
+use Rattle.state.specs.declared.calls.Begun.the-variants.{Ready, NoRoom, BadState}
+
+-- a fresh session: a buffer that is too short is refused with the length needed, the state's first; one of another length, which is then too long,
+-- is a bad state's
+unfoldable pub beginAnswer : ℕ → ℕ → Begun
+beginAnswer state slots =
+    cond (ltb state 260) (NoRoom 260)
+    (cond (ltb slots 25600) (NoRoom 25600)
+    (cond (ltb 260 state) BadState
+    (cond (ltb 25600 slots) BadState
+    Ready)))
+
+abbrev pub isReady : Begun → Bool
+isReady Ready = true
+isReady (NoRoom n) = false
+isReady BadState = false
+
+-- the refusal's number in 01 (0: none), and the value that goes with it
+abbrev pub number : Begun → ℕ
+number Ready = 0
+number (NoRoom n) = 9
+number BadState = 12
+
+abbrev pub value : Begun → ℕ
+value Ready = 0
+value (NoRoom n) = n
+value BadState = 0
+
+pub record Beginning (state slots : List ℕ) (told : Begun) (state′ slots′ : List ℕ) : Type 0 where
+  pub answer : told ≡ beginAnswer (length state) (length slots)
+  pub kept : state′ ≡ cond (isReady told) (savedOf freshEditor (atEnd 0)) state
+  pub held : slots′ ≡ cond (isReady told) (layout []) slots
+
+-- one key: the turn that it takes in a saved state
+unfoldable pub turnIn : List ℕ → List ℕ → List ℕ → ℕ → Turn
+turnIn state slots prompt byte = turnOf prompt (stateOf (editorIn state) (historyIn state) slots) byte
+
+unfoldable pub pressAnswer : List ℕ → List ℕ → List ℕ → ℕ → ℕ → ℕ → Pressed
+pressAnswer state slots prompt byte line screen = keyAnswer (goodSaved state slots) prompt (turnIn state slots prompt byte) line screen
+
+unfoldable pub savedAfter : State → List ℕ
+savedAfter s = savedOf (editorOf s) (historyOf s)
+
+-- a refusal keeps the state and every byte
+pub record SavedKey (state slots prompt : List ℕ) (byte : ℕ) (line screen : List ℕ) (told : Pressed) (state′ slots′ line′ screen′ : List ℕ) : Type 0 where
+  pub answer : told ≡ pressAnswer state slots prompt byte (length line) (length screen)
+  pub kept : state′ ≡ cond (refused told) state (savedAfter (turnIn state slots prompt byte .after))
+  pub held : slots′ ≡ cond (refused told) slots (slotsOf (turnIn state slots prompt byte .after))
+  pub given : line′ ≡ cond (refused told) line (over (turnIn state slots prompt byte .submitted) line)
+  pub shown : screen′ ≡ cond (refused told) screen (over (turnIn state slots prompt byte .screen) screen)
+
+-- a text added to the history of a saved state, whose line is to be good too
+unfoldable pub savedAnswer : List ℕ → List ℕ → List ℕ → Added
+savedAnswer state slots text =
+    cond (isState state) (cond (goodLine (editorIn state)) (addAnswer (historyIn state) slots text) BadHistory) BadHistory
+
+-- a refusal keeps every byte; otherwise count and place are saved
+abbrev pub stateBy : Added → List ℕ → ℕ → List ℕ
+stateBy Done state n = savedOf (editorIn state) (atEnd n)
+stateBy BadHistory state n = state
+stateBy (TooLong m) state n = state
+stateBy (IllFormed m) state n = state
+
+pub record SavedAdd (state slots text : List ℕ) (told : Added) (state′ slots′ : List ℕ) : Type 0 where
+  pub answer : told ≡ savedAnswer state slots text
+  pub kept : state′ ≡ stateBy told state (length (entriesAfter (historyIn state) slots text))
+  pub held : slots′ ≡ slotsBy told slots (entriesAfter (historyIn state) slots text)

@@ -1,0 +1,100 @@
+// The calls on a saved state: a fresh one, a key, a text added to its history.
+ghost use mathlib.Core.Path.{_≡_};
+ghost use Rattle.editor.specs.Answer.{refused};
+ghost use Rattle.state.specs.Calls.{Beginning, SavedKey, SavedAdd};
+use super::saving::restore;
+use super::saving::save;
+use editor::Editor;
+use editor::Pressed;
+use history::Added;
+use history::History;
+use history::add_command;
+
+// What beginning a session answers.
+pub enum Begun {
+    Ready,
+    // A buffer is too short: the length needed.
+    NoRoom(usize),
+    // A buffer is longer than a state's, or than the slots.
+    BadState,
+}
+
+// A fresh session: no line, no history.
+pub fn begin(state: &mut [u8], slots: &mut [u8]) -> Begun
+    ensures { λ r. ⌜ Beginning (now (state .entry)) (now (slots .entry)) r (now (state .exit)) (now (slots .exit)) ⌝ }
+{
+    if state.len() < 260 {
+        return Begun::NoRoom(260);
+    }
+    if slots.len() < 25600 {
+        return Begun::NoRoom(25600);
+    }
+    if 260 < state.len() {
+        return Begun::BadState;
+    }
+    if 25600 < slots.len() {
+        return Begun::BadState;
+    }
+    let history = History::fresh_in(slots);
+    save(Editor::fresh(), history, state);
+    Begun::Ready
+}
+
+// Whether an answer is a refusal: then the state stays.
+fn is_refusal(told: Pressed) -> bool
+    ensures { λ r. ⌜ r ≡ refused told ⌝ }
+{
+    match told {
+        Pressed::Shown(_) => false,
+        Pressed::Entered(_) => false,
+        Pressed::Dropped => false,
+        Pressed::BadState => true,
+        Pressed::BadPrompt(_) => true,
+        Pressed::NoRoom(_) => true,
+    }
+}
+
+// One key.
+pub fn press(
+    state: &mut [u8],
+    slots: &mut [u8],
+    prompt: &[u8],
+    byte: u8,
+    line: &mut [u8],
+    screen: &mut [u8],
+) -> Pressed
+    ensures { λ r. ⌜ SavedKey (now (state .entry)) (now (slots .entry)) (now (prompt .entry)) byte (now (line .entry)) (now (screen .entry)) r (now (state .exit)) (now (slots .exit)) (now (line .exit)) (now (screen .exit)) ⌝ }
+{
+    let session = restore(state);
+    let editor = session.editor;
+    if !session.valid {
+        return Pressed::BadState;
+    }
+    let pressed = editor.key(session.history, slots, prompt, byte, line, screen);
+    let told = pressed.answer;
+    if is_refusal(told) {
+        return told;
+    }
+    save(pressed.editor, pressed.history, state);
+    told
+}
+
+// A text added to the history; the editor stays as it is.
+pub fn add(state: &mut [u8], slots: &mut [u8], text: &[u8]) -> Added
+    ensures { λ r. ⌜ SavedAdd (now (state .entry)) (now (slots .entry)) (now (text .entry)) r (now (state .exit)) (now (slots .exit)) ⌝ }
+{
+    let session = restore(state);
+    let editor = session.editor;
+    if !session.valid {
+        return Added::BadState;
+    }
+    if !editor.is_good() {
+        return Added::BadState;
+    }
+    let adding = add_command(session.history, slots, text);
+    let told = adding.answer;
+    if let Added::Done = told {
+        save(editor, adding.history, state);
+    }
+    told
+}
