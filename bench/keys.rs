@@ -74,7 +74,7 @@ impl Ours {
         }
         before[1] = line.len() as u8;
         before[2] = line.len() as u8;
-        before[5..][..line.len()].copy_from_slice(line);
+        before[3..][..line.len()].copy_from_slice(line);
         Ours { before, state: before, slots, line: [0; LINE], screen: [0; SCREEN] }
     }
 

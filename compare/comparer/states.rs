@@ -2,7 +2,7 @@
 use crate::lent::{Lent, NONE, Room};
 use crate::lines::{Mixer, every_character};
 use crate::model::answers::BAD_STATE;
-use crate::model::saved::{HEAD, SLOT, SLOTS, STATE};
+use crate::model::saved::{EDITOR, HEAD, SLOT, SLOTS, STATE};
 use crate::model::{LINE, Mode, Model};
 use crate::part::Part;
 
@@ -89,15 +89,15 @@ pub fn good() -> Vec<Model> {
     vec![Model::fresh(), few, full, mixed]
 }
 
-/// Every byte of the head in all ways, every byte of the line in some.
+/// Every number of editor and history in all ways, every byte of the line in some.
 pub fn heads(part: &mut Part) {
     let mut saved = saved(part);
     for model in good() {
         let (state, slots) = (model.state(), model.slots());
-        for place in 0..HEAD {
+        for place in (0..HEAD).chain(EDITOR..STATE) {
             (0..=255).for_each(|byte| saved.changed(&state, &slots, place, byte));
         }
-        for place in HEAD..STATE {
+        for place in HEAD..EDITOR {
             [0, 1, b'a', 0xFF].into_iter().for_each(|byte| saved.changed(&state, &slots, place, byte));
         }
     }
@@ -113,7 +113,7 @@ pub fn pairs(part: &mut Part) {
         for (cursor, place) in [(0, 0), (length, count), (length + 1, count), (length, count + 1), (LINE, LINE)] {
             for mode in 0..4 {
                 let mut state = model.state();
-                [state[0], state[2], state[4]] = [mode, cursor as u8, place as u8];
+                [state[0], state[2], state[EDITOR + 1]] = [mode, cursor as u8, place as u8];
                 saved.check(&state, &slots);
             }
         }
@@ -160,7 +160,7 @@ pub fn entries(part: &mut Part) {
 /// States and slots of other lengths, to keys and texts and to `fresh`.
 pub fn lengths(part: &mut Part) {
     let mut saved = saved(part);
-    for state in [0, 1, HEAD, STATE - 1, STATE, STATE + 1] {
+    for state in [0, 1, HEAD, EDITOR, STATE - 1, STATE, STATE + 1] {
         for slots in [0, 1, SLOT, SLOTS - SLOT, SLOTS - 1, SLOTS, SLOTS + 1] {
             saved.check(&vec![0; state], &vec![0; slots]);
             saved.part.input(&[]);

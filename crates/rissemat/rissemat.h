@@ -26,8 +26,9 @@ uint64_t rissemat_words(const uint8_t *line, size_t line_len, uint8_t *out, size
 uint64_t rissemat_quote(const uint8_t *words, size_t words_len, uint8_t *out, size_t out_len);
 
 /* A session between two calls is a state of 260 bytes and slots of 25,600 bytes, both the caller's: no call keeps anything.
- * The state: mode (0 typing, 1 after ESC, 2 after ESC `[`), line length, cursor, count, place, then the 255 bytes of the line. The
- * slots: the entries of history in slots of 256 bytes, a length byte then the text, oldest first, all unused bytes zero. */
+ * The state: what is saved of the editor, bytes 0 to 257: mode (0 typing, 1 after ESC, 2 after ESC `[`), line length, cursor, the 255 bytes
+ * of the line; then what is saved of the history, bytes 258 and 259: count, place. The slots: the entries of history in slots of 256 bytes, a
+ * length byte then the text, oldest first, all unused bytes zero. */
 
 /* A fresh session: no line, no history. Both buffers are then zeros.
  * Refusals, in this order: 9 (a buffer too short, the state's first: the length needed, 260 or 25,600), 12 (a buffer too long: another length is

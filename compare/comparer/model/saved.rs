@@ -1,9 +1,10 @@
 // A saved state and its slots: how the values of the model lie in them, and which of them are bad.
 use super::{ENTRIES, LINE, Mode, Model};
 
-/// Mode, length of the line, cursor, count, place, and the bytes of the line.
-pub const HEAD: usize = 5;
-pub const STATE: usize = HEAD + LINE;
+/// The editor's part: mode, length of the line, cursor, and the bytes of the line. The history's part after it: count and place.
+pub const HEAD: usize = 3;
+pub const EDITOR: usize = HEAD + LINE;
+pub const STATE: usize = EDITOR + 2;
 /// A slot has a length byte and room for the longest line.
 pub const SLOT: usize = 1 + LINE;
 pub const SLOTS: usize = ENTRIES * SLOT;
@@ -13,9 +14,11 @@ const MODES: [Mode; 3] = [Mode::Typing, Mode::Escape, Mode::Bracket];
 impl Model {
     pub fn state(&self) -> [u8; STATE] {
         let mut state = [0; STATE];
-        let head = [self.mode as usize, self.line.len(), self.cursor, self.entries.len(), self.place];
+        let head = [self.mode as usize, self.line.len(), self.cursor];
+        let history = [self.entries.len(), self.place];
         state[..HEAD].copy_from_slice(&head.map(|number| number as u8));
         state[HEAD..][..self.line.len()].copy_from_slice(&self.line);
+        state[EDITOR..].copy_from_slice(&history.map(|number| number as u8));
         state
     }
 
@@ -30,7 +33,8 @@ impl Model {
 
     /// The values of a saved state, none if it is bad.
     pub fn read(state: &[u8], slots: &[u8]) -> Option<Model> {
-        let (&[mode, length, cursor, count, place], line) = state.split_first_chunk()?;
+        let (&[mode, length, cursor], rest) = state.split_first_chunk()?;
+        let (line, &[count, place]) = rest.split_last_chunk()?;
         let [length, cursor, count, place] = [length, cursor, count, place].map(usize::from);
         if line.len() != LINE || slots.len() != SLOTS {
             return None;

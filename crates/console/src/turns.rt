@@ -5,6 +5,9 @@ use crate::channels::write_out;
 use buffer::part;
 use buffer::rest;
 use stream::Stream;
+use stream::blank_image;
+use stream::blank_line;
+use stream::blank_slots;
 use stream::finish;
 use stream::step;
 ghost use mathlib.Core.Path.{_≡_};
@@ -12,7 +15,7 @@ ghost use mathlib.Core.Bool.{true, false};
 ghost use mathlib.Core.List.{[]};
 ghost use Prim.Native.Nat.{_≤_};
 ghost use lib.ListN.{length};
-ghost use Rattle.history.specs.Slots.{layout};
+ghost use Rattle.history.specs.Journal.{noEntries, slotsOf};
 ghost use Rattle.stream.specs.Bytes.{lineRoom};
 ghost use Rattle.stream.specs.Moves.{stepBy};
 ghost use Rattle.stream.specs.Held.{standOf};
@@ -118,7 +121,7 @@ fn turn(
 
 // Turns up to the end. A proved loop has to end and an input need not, so turns are counted down from a number that no run uses up.
 fn turns(input: &mut [u8], line: &mut [u8], image: &mut [u8], slots: &mut [u8], out: &mut [u8])
-    requires { ⌜ (length (now input) ≡ 65536) × (length (now line) ≡ lineRoom) × (length (now image) ≡ 32768) × (now slots ≡ layout []) × (length (now out) ≡ 262202) ⌝ }
+    requires { ⌜ (length (now input) ≡ 65536) × (length (now line) ≡ lineRoom) × (length (now image) ≡ 32768) × (now slots ≡ slotsOf noEntries) × (length (now out) ≡ 262202) ⌝ }
 {
     let mut console = Console::start();
     let mut left = u64::MAX;
@@ -129,25 +132,6 @@ fn turns(input: &mut [u8], line: &mut [u8], image: &mut [u8], slots: &mut [u8], 
         console = turn(console, input, line, image, slots, out);
         left -= 1;
     }
-}
-
-// No entry.
-fn blank_slots() -> [u8; 25600]
-    ensures { λ r. ⌜ r ≡ layout [] ⌝ }
-{
-    [0; 25600]
-}
-
-fn blank_image() -> [u8; 32768]
-    ensures { λ r. ⌜ length r ≡ 32768 ⌝ }
-{
-    [0; 32768]
-}
-
-fn blank_line() -> [u8; 1026]
-    ensures { λ r. ⌜ length r ≡ lineRoom ⌝ }
-{
-    [0; 1026]
 }
 
 // Room for what two keys may print.

@@ -10,30 +10,34 @@ use lib.ListN.{length}
 use borrow.Author.Tests.{le-ltb}
 use Rattle.buffer.specs.Write.{over}
 use Rattle.buffer.proofs.Choices.{then-is, else-is, true-is-not-false}
-use Rattle.history.specs.Answer.{entriesIn}
+use Rattle.history.specs.Journal.{Journal, count}
 use Rattle.history.specs.declared.stepping.History.{History}
-use Rattle.history.proofs.Layouts.{entries-layout}
-use Rattle.editor.specs.declared.line.Mode.{Mode}
-use Rattle.editor.specs.declared.line.Mode.the-variants.{Typing, Escape, Sequence}
+use Rattle.history.proofs.Journals.{fair-held}
+use Rattle.keys.specs.declared.meaning.Mode.{Mode}
+use Rattle.keys.specs.declared.meaning.Mode.the-variants.{Typing, Sequence}
 use Rattle.editor.specs.declared.line.Editor.{Editor}
 use Rattle.editor.specs.declared.drawing.KeyAnswer.{KeyAnswer}
 use Rattle.editor.specs.declared.drawing.Pressed.{Pressed}
 use Rattle.editor.specs.declared.drawing.Pressed.the-variants.{Dropped, BadState, BadPrompt, NoRoom}
 use Rattle.editor.specs.Line.{limit, holding}
-use Rattle.editor.specs.Keys.{State, Turn, drops, inMode, enter, erase, insert, typed, escaped, up, onPlace, down, right, left, sequenced, turnIn, turnOf}
+use Rattle.keys.specs.declared.meaning.Action.{Action}
+use Rattle.keys.specs.declared.meaning.Action.the-variants.{Nothing, Enter, Erase, Insert, Up, Down, Right, Left}
+use Rattle.keys.specs.declared.meaning.Meaning.{Meaning}
+use Rattle.keys.specs.Keys.{meaning}
+use Rattle.editor.specs.Turns.{State, Turn, dropping, inMode, enter, erase, insert, up, onPlace, down, right, left, turnBy, turnOf}
 use Rattle.editor.specs.Answer.{stateOf, editorOf, historyOf, slotsOf, goodState, goodPrompt, taken, turnAnswer, keyAnswer, refused, Pressing, value, beside}
 use Rattle.editor.proofs.Lines.{line-held, good-line, length-of}
-use Rattle.editor.proofs.Seats.{good-parts, holds-history, holds-editor, holds-slots, over-nothing}
+use Rattle.editor.proofs.States.{good-parts, holds-history, holds-editor, holds-slots, over-nothing}
 use Rattle.editor.proofs.Always.{then-typing, after-one, full-drops}
 use Rattle.editor.proofs.Fine.{Fine, fine-of, turn-fine}
 
 -- the state that the parts of a state within the rules hold is that state
 pub held-state : (s : State) → Fine s → stateOf (editorOf s) (historyOf s) (slotsOf s) ≡ s
-unfolding stateOf editorOf historyOf slotsOf entriesIn holding
-held-state s f = parts (line-held (s .line) (s .cursor) (s .mode)) (entries-layout (s .entries) (f .entries .short))
+unfolding stateOf editorOf holding
+held-state s f = parts (line-held (s .line) (s .cursor) (s .mode)) (fair-held (s .history) (f .fair))
   where
-    parts : {l m : List ℕ} {es fs : List (List ℕ)} → l ≡ m → es ≡ fs
-        → _≡_ {A = State} (record { line = l; cursor = s .cursor; mode = s .mode; entries = es; place = s .place }) (record { line = m; cursor = s .cursor; mode = s .mode; entries = fs; place = s .place })
+    parts : {l m : List ℕ} {j k : Journal} → l ≡ m → j ≡ k
+        → _≡_ {A = State} (record { line = l; cursor = s .cursor; mode = s .mode; history = j }) (record { line = m; cursor = s .cursor; mode = s .mode; history = k })
     parts p q = cc
 
 same-state : {e e′ : Editor} {h h′ : History} {slots slots′ : List ℕ} → e ≡ e′ → h ≡ h′ → slots ≡ slots′ → stateOf e h slots ≡ stateOf e′ h′ slots′
@@ -76,7 +80,7 @@ module _ (e : Editor) (h : History) (slots prompt : List ℕ) (byte : ℕ) (line
   -- a byte typed into a full line is answered dropped, and nothing changes: not the state, not a byte of any buffer
   module _ (g : goodState e h slots ≡ true) (fair : goodPrompt prompt ≡ true) (room : limit ≤ length line)
       (typing : e .mode ≡ Typing) (full : limit ≤ e .length) (shown : 0x20 ≤ byte) (not-del : byte ≡ 0x7F → ⊥) where
-    nothing-done : turn ≡ record { kind = drops; after = stateOf e h slots; screen = []; submitted = [] }
+    nothing-done : turn ≡ dropping (stateOf e h slots)
     unfolding turn stateOf
     nothing-done =
         let n = length-of e (good-line e (good-parts e h slots g .0)) .1 in
@@ -109,39 +113,20 @@ either true t u p q = p
 either false t u p q = q
 
 module _ (prompt : List ℕ) where
-  typed-counts : (s : State) (b : ℕ) → Counts (typed prompt s b)
-  unfolding typed enter erase insert Counts
-  typed-counts s b =
-      either (eqb b 0x0D) _ _ entered
-      (either (eqb b 0x0A) _ _ entered
-      (either (eqb b 0x08) _ _ erased
-      (either (eqb b 0x7F) _ _ erased
-      (either (eqb b 0x1B) _ _ (refl, refl) (either (ltb b 0x20) _ _ (refl, refl) (either (ltb (length (s .line)) limit) _ _ (refl, refl) (refl, refl)))))))
-    where
-      entered : Counts (enter s)
-      entered = either (eqb (length (s .line)) 0) _ _ (refl, refl) (refl, refl)
-
-      erased : Counts (erase prompt s)
-      erased = either (eqb (s .cursor) 0) _ _ (refl, refl) (refl, refl)
-
-  sequenced-counts : (s : State) (b : ℕ) → Counts (sequenced prompt s b)
-  unfolding sequenced up down right left Counts
-  sequenced-counts s b =
-      either (eqb b 0x41) _ _ (either (eqb (s .place) 0) _ _ (refl, refl) (refl, refl))
-      (either (eqb b 0x42) _ _ (either (ltb (onPlace s) (length (s .entries))) _ _ (refl, refl) (refl, refl))
-      (either (eqb b 0x43) _ _ (either (ltb (s .cursor) (length (s .line))) _ _ (refl, refl) (refl, refl))
-      (either (eqb b 0x44) _ _ (either (eqb (s .cursor) 0) _ _ (refl, refl) (refl, refl))
-      (refl, refl))))
-
-  mode-counts : (m : Mode) (s : State) (b : ℕ) → Counts (turnIn m prompt s b)
-  unfolding turnIn escaped Counts
-  mode-counts Typing s b = typed-counts s b
-  mode-counts Escape s b = (refl, refl)
-  mode-counts Sequence s b = sequenced-counts (inMode s Typing) b
+  action-counts : (s : State) (a : Action) → Counts (turnBy prompt s a)
+  unfolding enter erase insert up down right left Counts
+  action-counts s Nothing = (refl, refl)
+  action-counts s Enter = either (eqb (length (s .line)) 0) _ _ (refl, refl) (refl, refl)
+  action-counts s Erase = either (eqb (s .cursor) 0) _ _ (refl, refl) (refl, refl)
+  action-counts s (Insert b) = either (ltb (length (s .line)) limit) _ _ (refl, refl) (refl, refl)
+  action-counts s Up = either (eqb (s .history .place) 0) _ _ (refl, refl) (refl, refl)
+  action-counts s Down = either (ltb (onPlace (s .history)) (count (s .history))) _ _ (refl, refl) (refl, refl)
+  action-counts s Right = either (ltb (s .cursor) (length (s .line))) _ _ (refl, refl) (refl, refl)
+  action-counts s Left = either (eqb (s .cursor) 0) _ _ (refl, refl) (refl, refl)
 
   pub counted : (s : State) (b : ℕ) → let t : Turn = turnOf prompt s b in (value (taken t (t .kind)) ≡ length (t .screen)) × (beside (taken t (t .kind)) ≡ length (t .submitted))
   unfolding turnOf Counts
-  counted s b = mode-counts (s .mode) s b
+  counted s b = let m : Meaning = meaning (s .mode) b in action-counts (inMode s (m .mode)) (m .action)
 
 -- two keys in a row that are taken, neither of them ESC, bring typing back
 carried : (m n : Mode) → n ≡ m → (m ≡ Typing) ⊎ (m ≡ Sequence) → (n ≡ Typing) ⊎ (n ≡ Sequence)

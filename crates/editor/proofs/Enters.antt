@@ -7,20 +7,21 @@ use native.Mathlib.Omega.{arith}
 use lib.Dec.{eqb, ltb}
 use lib.ListN.{length}
 use borrow.Author.Tests.{eq-eqb, ne-eqb}
-use Rattle.buffer.proofs.Choices.{then-is, else-is}
+use Rattle.buffer.proofs.Choices.{then-is, else-is, true-is-not-false}
 use Rattle.buffer.specs.Write.{over}
-use Rattle.history.specs.Answer.{entriesAfter, Offered}
+use Rattle.history.specs.Journal.{journalOf}
+use Rattle.history.specs.Answer.{Offered}
 use Rattle.history.specs.declared.stepping.History.{History}
 use Rattle.editor.specs.declared.line.Editor.{Editor}
 use Rattle.editor.specs.declared.drawing.KeyAnswer.{KeyAnswer}
 use Rattle.editor.specs.declared.drawing.Pressed.the-variants.{Entered, NoRoom}
 use Rattle.editor.specs.Line.{limit, holding, freshEditor, lineOf, goodLine, content}
-use Rattle.editor.specs.Keys.{State, Turn, enters, afterEnter, lineFeed, enter}
-use Rattle.editor.specs.Answer.{stateOf, editorOf, historyOf, slotsOf, goodState, taken}
+use Rattle.editor.specs.Turns.{State, Kind, shows, enters, drops, Turn, entering, afterEnter, lineFeed, enter}
+use Rattle.editor.specs.Answer.{stateOf, editorOf, historyOf, slotsOf, goodState, taken, refused}
 use Rattle.editor.specs.Steps.{attempt, keyOf, madeBy, Acts, Does}
 use Rattle.editor.proofs.Lines.{good-line, length-of}
 use Rattle.editor.proofs.Showings.{attempt-fits, attempt-short}
-use Rattle.editor.proofs.Seats.{good-parts, holds-history, holds-editor, holds-slots, over-nothing}
+use Rattle.editor.proofs.States.{good-parts, holds-history, holds-editor, holds-slots, over-nothing}
 
 module _ (e : Editor) (h : History) (t : Turn) (slots line screen : List ℕ) where
   -- a turn that fits, and one that does not
@@ -84,8 +85,7 @@ feeds : (s : State) → enter s .screen ≡ lineFeed
 unfolding enter
 feeds s = by (eqb (length (s .line)) 0)
   where
-    by : (t : Bool) → cond {A = Turn} t (record { kind = enters; after = s; screen = lineFeed; submitted = [] })
-        (record { kind = enters; after = afterEnter s; screen = lineFeed; submitted = s .line }) .screen ≡ lineFeed
+    by : (t : Bool) → cond t (entering s []) (entering (afterEnter s) (s .line)) .screen ≡ lineFeed
     by true = refl
     by false = refl
 
@@ -106,7 +106,7 @@ module _ (e : Editor) (h : History) (slots line screen : List ℕ) (g : goodStat
   unfolding enter s stateOf
   enter-empty screen′ l z d =
       let size = length-of e (good-line e line-good) .1 in
-      let t : Turn = record { kind = enters; after = s; screen = lineFeed; submitted = [] } in
+      let t : Turn = entering s [] in
       does-as e h t slots line screen (enter s) _ _ _ _ (sym (then-is _ _ _ (eq-eqb (length (lineOf e)) 0 (size ∙ z))))
       (does-fits e h t slots line screen _ _ _ _ l
       (ap (λ (x : Editor). keyOf x h (Entered 0)) (sym (holds-editor e h slots line-good)) ∙ ap (λ (x : History). keyOf (editorOf s) x (Entered 0)) (sym (holds-history e h slots)))
@@ -115,13 +115,49 @@ module _ (e : Editor) (h : History) (slots line screen : List ℕ) (g : goodStat
   pub enter-line : (h′ : History) (e′ : Editor) (slots′ line′ screen′ : List ℕ) → 0 < length screen → (e .length ≡ 0 → ⊥)
       → e′ ≡ freshEditor → Offered h slots (content (lineOf e)) h′ slots′ → line′ ≡ over (lineOf e) line → screen′ ≡ over lineFeed screen
       → Does e h (enter (stateOf e h slots)) slots line screen (keyOf e′ h′ (Entered (e .length))) slots′ line′ screen′
-  unfolding enter s stateOf editorOf historyOf slotsOf entriesAfter holding
+  unfolding enter s stateOf editorOf holding
   enter-line h′ e′ slots′ line′ screen′ l n p o b d =
       let size = length-of e (good-line e line-good) .1 in
-      let t : Turn = record { kind = enters; after = afterEnter s; screen = lineFeed; submitted = lineOf e } in
+      let t : Turn = entering (afterEnter s) (lineOf e) in
       does-as e h t slots line screen (enter s) _ _ _ _ (sym (else-is _ _ _ (ne-eqb (length (lineOf e)) 0 (λ z. n (sym size ∙ z)))))
       (does-fits e h t slots line screen _ _ _ _ l
       (ap (λ (x : Editor). keyOf x h′ (Entered (e .length))) p
       ∙ ap (λ (x : History). keyOf freshEditor x (Entered (e .length))) (o .state)
       ∙ ap (λ (n : ℕ). keyOf freshEditor (historyOf (afterEnter s)) (Entered n)) (sym size))
       (o .bytes) b d)
+
+-- a refusal that hands back another editor than the one that the turn began with
+pub taken-not-refused : (t : Turn) (k : Kind) → refused (taken t k) ≡ false
+taken-not-refused t shows = refl
+taken-not-refused t enters = refl
+taken-not-refused t drops = refl
+
+module _ (e e₁ : Editor) (h : History) (t : Turn) (slots line screen : List ℕ) (k : KeyAnswer) (slots′ line′ screen′ : List ℕ)
+    (d : Does e₁ h t slots line screen k slots′ line′ screen′) where
+  made : Bool → KeyAnswer
+  made b = cond b (keyOf e₁ h (NoRoom (length (t .screen)))) (keyOf (editorOf (t .after)) (historyOf (t .after)) (taken t (t .kind)))
+
+  by-room : (b : Bool) → ltb (length screen) (length (t .screen)) ≡ b → k ≡ made b
+  unfolding made madeBy attempt
+  by-room b q = d .acts .made ∙ ap made q
+
+  same : (k′ : KeyAnswer) → k′ ≡ madeBy e h t (length screen) → Does e h t slots line screen k′ slots′ line′ screen′
+  same k′ m = record { acts = record { made = m; shown = d .acts .shown }; held = d .held; given = d .given }
+
+  pub does-refused : refused (k .answer) ≡ true → Does e h t slots line screen (keyOf e h (k .answer)) slots′ line′ screen′
+  unfolding made madeBy attempt
+  does-refused r = same (keyOf e h (k .answer)) (by (ltb (length screen) (length (t .screen))) refl)
+    where
+      by : (b : Bool) → ltb (length screen) (length (t .screen)) ≡ b
+          → keyOf e h (k .answer) ≡ cond b (keyOf e h (NoRoom (length (t .screen)))) (keyOf (editorOf (t .after)) (historyOf (t .after)) (taken t (t .kind)))
+      by true q = ap (λ (x : KeyAnswer). keyOf e h (x .answer)) (by-room true q)
+      by false q = absurd (true-is-not-false (sym r ∙ ap (λ (x : KeyAnswer). refused (x .answer)) (by-room false q) ∙ taken-not-refused t (t .kind)))
+
+  pub does-taken : refused (k .answer) ≡ false → Does e h t slots line screen k slots′ line′ screen′
+  unfolding made madeBy attempt
+  does-taken r = same k (by (ltb (length screen) (length (t .screen))) refl)
+    where
+      by : (b : Bool) → ltb (length screen) (length (t .screen)) ≡ b
+          → k ≡ cond b (keyOf e h (NoRoom (length (t .screen)))) (keyOf (editorOf (t .after)) (historyOf (t .after)) (taken t (t .kind)))
+      by true q = absurd (true-is-not-false (sym (ap (λ (x : KeyAnswer). refused (x .answer)) (by-room true q)) ∙ r))
+      by false q = by-room false q

@@ -7,20 +7,20 @@ use native.Mathlib.Omega.{arith}
 use lib.ListN.{length}
 use Rattle.buffer.proofs.Choices.{then-is}
 use Rattle.text.specs.Decoding.{wellFormed}
-use Rattle.history.specs.Slots.{good}
+use Rattle.history.specs.Journal.{good}
 use Rattle.history.specs.Answer.{Emptied, Offered, Addition}
 use Rattle.history.specs.Steps.{back, onward}
 use Rattle.history.specs.declared.stepping.History.{History}
 use Rattle.history.specs.declared.stepping.Step.{Step}
 use Rattle.history.specs.declared.adding.Added.{Added}
-use Rattle.history.proofs.Kept.{back-good, onward-good}
+use Rattle.history.proofs.Journals.{back-good, onward-good}
 use Rattle.history.proofs.Lasting.{emptied-good, offered-good, added-good}
-use Rattle.editor.specs.declared.line.Mode.the-variants.{Typing}
+use Rattle.keys.specs.declared.meaning.Mode.the-variants.{Typing}
 use Rattle.editor.specs.declared.line.Editor.{Editor}
 use Rattle.editor.specs.declared.drawing.KeyAnswer.{KeyAnswer}
 use Rattle.editor.specs.Line.{limit, holding, freshEditor, goodLine}
 use Rattle.editor.specs.Answer.{goodState, Pressing}
-use Rattle.editor.proofs.Seats.{good-parts}
+use Rattle.editor.proofs.States.{good-parts}
 use Rattle.editor.proofs.Fine.{held-good, stays-good}
 
 -- What calls reach, in any order and each with buffers of its own: an editor, and a history with its slots. `Editor::fresh` and `Editor::recalled` hand out an editor at any
@@ -33,14 +33,14 @@ pub data Reached : Editor → History → List ℕ → Type 0 where
   by-fresh-in : {e : Editor} {h r : History} {slots left : List ℕ} → Reached e h slots → Emptied r left → Reached e r left
   by-previous : {e : Editor} {h : History} {slots : List ℕ} {step : Step} → Reached e h slots → step ≡ back h → Reached e (step .history) slots
   by-next : {e : Editor} {h : History} {slots : List ℕ} {step : Step} → Reached e h slots → step ≡ onward h → Reached e (step .history) slots
-  by-offer : {e : Editor} {h r : History} {slots text left : List ℕ} → Reached e h slots → length text ≤ 255 → wellFormed text ≡ true → Offered h slots text r left
+  by-offer : {e : Editor} {h r : History} {slots left : List ℕ} (text : List ℕ) → Reached e h slots → length text ≤ 255 → wellFormed text ≡ true → Offered h slots text r left
       → Reached e r left
   by-add-command : {e : Editor} {h r : History} {slots text left : List ℕ} {told : Added} → Reached e h slots → Addition h slots text r told left → Reached e r left
   by-key : {e : Editor} {h : History} {slots prompt line screen slots′ line′ screen′ : List ℕ} {byte : ℕ} {k : KeyAnswer} → Reached e h slots
       → Pressing e h slots prompt byte line screen k slots′ line′ screen′ → Reached (k .editor) (k .history) slots′
 
 -- a state of which each part is good, and the parts of a good one
-whole : (e : Editor) (h : History) (slots : List ℕ) → goodLine e ≡ true → good (h .count) (h .place) slots ≡ true → goodState e h slots ≡ true
+whole : (e : Editor) (h : History) (slots : List ℕ) → goodLine e ≡ true → good h slots ≡ true → goodState e h slots ≡ true
 unfolding goodState
 whole e h slots p q = then-is _ _ _ p ∙ q
 
@@ -61,11 +61,11 @@ never-reached-bad e r left (by-fresh-in {h = h} {slots = slots} t o) =
     whole e r left (good-parts e h slots (never-reached-bad e h slots t) .0) (emptied-good r left o)
 never-reached-bad e _ slots (by-previous {h = h} {step = step} r q) =
     let p = good-parts e h slots (never-reached-bad e h slots r) in
-    whole e (step .history) slots (p .0) (ap (λ (x : Step). good (x .history .count) (x .history .place) slots) q ∙ back-good h slots (p .1))
+    whole e (step .history) slots (p .0) (ap (λ (x : Step). good (x .history) slots) q ∙ back-good h slots (p .1))
 never-reached-bad e _ slots (by-next {h = h} {step = step} r q) =
     let p = good-parts e h slots (never-reached-bad e h slots r) in
-    whole e (step .history) slots (p .0) (ap (λ (x : Step). good (x .history .count) (x .history .place) slots) q ∙ onward-good h slots (p .1))
-never-reached-bad e r left (by-offer {h = h} {slots = slots} {text = text} t l w o) =
+    whole e (step .history) slots (p .0) (ap (λ (x : Step). good (x .history) slots) q ∙ onward-good h slots (p .1))
+never-reached-bad e r left (by-offer {h = h} {slots = slots} text t l w o) =
     let p = good-parts e h slots (never-reached-bad e h slots t) in
     whole e r left (p .0) (offered-good h slots text r left (record { is-good = p .1; short = l; formed = w }) o)
 never-reached-bad e r left (by-add-command {h = h} {slots = slots} {text = text} {told = told} t a) =

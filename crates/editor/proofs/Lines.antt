@@ -22,7 +22,7 @@ use Rattle.buffer.proofs.Zeros.{length-zeros}
 use Rattle.buffer.proofs.Zeros.{drop-zeros}
 use Rattle.buffer.proofs.Zeros.{zero-bytes}
 use Rattle.history.proofs.States.{holds}
-use Rattle.editor.specs.declared.line.Mode.{Mode}
+use Rattle.keys.specs.declared.meaning.Mode.{Mode}
 use Rattle.editor.specs.declared.line.Editor.{Editor}
 use Rattle.editor.specs.Line.{limit, padded, holding, lineOf, freshEditor, goodLine, inserted, erased, content}
 

@@ -14,15 +14,11 @@ use Rattle.editor.specs.declared.drawing.KeyAnswer.{KeyAnswer}
 use Rattle.editor.specs.declared.drawing.Pressed.{Pressed}
 use Rattle.editor.specs.declared.drawing.Pressed.the-variants.{BadState, BadPrompt, NoRoom}
 use Rattle.editor.specs.Line.{limit}
-use Rattle.editor.specs.Keys.{Kind, shows, enters, drops, Turn, turnOf}
+use Rattle.editor.specs.Turns.{Turn, turnOf}
 use Rattle.editor.specs.Answer.{stateOf, editorOf, historyOf, goodState, goodPrompt, taken, turnAnswer, keyAnswer, refused, Pressing}
 use Rattle.editor.specs.Steps.{keyOf, madeBy, Does}
 use Rattle.editor.proofs.Showings.{attempt-fits, attempt-short}
-
-taken-not-refused : (t : Turn) (k : Kind) → refused (taken t k) ≡ false
-taken-not-refused t shows = refl
-taken-not-refused t enters = refl
-taken-not-refused t drops = refl
+use Rattle.editor.proofs.Enters.{taken-not-refused}
 
 pub prompt-short : (prompt : List ℕ) → goodPrompt prompt ≡ true → length prompt ≤ 128
 unfolding goodPrompt

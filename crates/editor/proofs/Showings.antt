@@ -27,14 +27,14 @@ module _ {A : Type 0} (bytes : List ℕ) (room : ℕ) (stays goes : A) where
   attempt-short h = then-is _ _ _ (lt-ltb room (length bytes) h)
 
 -- bytes that were shown, and bytes that were not
-module _ (bytes : List ℕ) (stays : Editor) (past : History) (goes : Editor) (history : History) (screen : List ℕ) where
+module _ (bytes : List ℕ) (stays : Editor) (before : History) (goes : Editor) (history : History) (screen : List ℕ) where
   pub shows-fits : (left : List ℕ) → length bytes ≤ length screen → left ≡ over bytes screen
-      → Shows bytes stays past goes history screen (keyOf goes history (Shown (length bytes))) left
+      → Shows bytes stays before goes history screen (keyOf goes history (Shown (length bytes))) left
   shows-fits left h e =
       record { made = sym (attempt-fits bytes (length screen) _ _ h); shown = e ∙ sym (attempt-fits bytes (length screen) _ _ h) }
 
   pub shows-short : (left : List ℕ) → length screen < length bytes → left ≡ screen
-      → Shows bytes stays past goes history screen (keyOf stays past (NoRoom (length bytes))) left
+      → Shows bytes stays before goes history screen (keyOf stays before (NoRoom (length bytes))) left
   shows-short left h e =
       record { made = sym (attempt-short bytes (length screen) _ _ h); shown = e ∙ sym (attempt-short bytes (length screen) _ _ h) }
 
@@ -43,32 +43,32 @@ module _ (prompt content : List ℕ) (cursor : ℕ) (out : List ℕ) where
   bytes : List ℕ
   bytes = redraw prompt content cursor
 
-  abbrev pub Told : Redrawn → List ℕ → Type 0
-  Told (Drawn n) left = (n ≡ length (redraw prompt content cursor)) × (length (redraw prompt content cursor) ≤ length out) × (left ≡ over (redraw prompt content cursor) out)
-  Told (NoSpace n) left = (n ≡ min (length (redraw prompt content cursor)) greatest) × (length out < length (redraw prompt content cursor)) × (left ≡ out)
+  abbrev pub ShownBy : Redrawn → List ℕ → Type 0
+  ShownBy (Drawn n) left = (n ≡ length (redraw prompt content cursor)) × (length (redraw prompt content cursor) ≤ length out) × (left ≡ over (redraw prompt content cursor) out)
+  ShownBy (NoSpace n) left = (n ≡ min (length (redraw prompt content cursor)) greatest) × (length out < length (redraw prompt content cursor)) × (left ≡ out)
 
   by-room : (t : Bool) (left : List ℕ) → ltb (length out) (length bytes) ≡ t
-      → left ≡ leavesBy (cond t (NoSpace (min (length bytes) greatest)) (Drawn (length bytes))) bytes out → Told (cond t (NoSpace (min (length bytes) greatest)) (Drawn (length bytes))) left
+      → left ≡ leavesBy (cond t (NoSpace (min (length bytes) greatest)) (Drawn (length bytes))) bytes out → ShownBy (cond t (NoSpace (min (length bytes) greatest)) (Drawn (length bytes))) left
   unfolding bytes
   by-room true left e q = (refl, ltb-true _ _ e, q)
   by-room false left e q = (refl, ltb-false _ _ e, q)
 
-  told : (r : Redrawn) (left : List ℕ) → Redraw prompt content cursor out r left → Told r left
+  told : (r : Redrawn) (left : List ℕ) → Redraw prompt content cursor out r left → ShownBy r left
   unfolding bytes roomAnswer
   told r left a = rw (a .answer) (by-room (ltb (length out) (length (redraw prompt content cursor))) left refl (a .bytes))
 
 pub told-as : (prompt x content : List ℕ) (cursor : ℕ) (out left : List ℕ) (r r′ : Redrawn) → x ≡ content → r ≡ r′ → Redraw prompt x cursor out r left
-    → Told prompt content cursor out r′ left
+    → ShownBy prompt content cursor out r′ left
 told-as prompt x content cursor out left r r′ p q a = told prompt content cursor out r′ left (rw q at (rw p at a))
 
 -- a redraw that fits, and one that does not
-module _ (prompt content : List ℕ) (cursor : ℕ) (stays : Editor) (past : History) (goes : Editor) (history : History) (screen left : List ℕ) (n : ℕ) where
-  pub redraw-fits : Told prompt content cursor screen (Drawn n) left
-      → Shows (redraw prompt content cursor) stays past goes history screen (keyOf goes history (Shown n)) left
-  redraw-fits t = rw (t .0) (shows-fits (redraw prompt content cursor) stays past goes history screen left (t .1) (t .2))
+module _ (prompt content : List ℕ) (cursor : ℕ) (stays : Editor) (before : History) (goes : Editor) (history : History) (screen left : List ℕ) (n : ℕ) where
+  pub redraw-fits : ShownBy prompt content cursor screen (Drawn n) left
+      → Shows (redraw prompt content cursor) stays before goes history screen (keyOf goes history (Shown n)) left
+  redraw-fits t = rw (t .0) (shows-fits (redraw prompt content cursor) stays before goes history screen left (t .1) (t .2))
 
-  pub redraw-short : length prompt + length content ≤ 2 ^ 63 → Told prompt content cursor screen (NoSpace n) left
-      → Shows (redraw prompt content cursor) stays past goes history screen (keyOf stays past (NoRoom n)) left
+  pub redraw-short : length prompt + length content ≤ 2 ^ 63 → ShownBy prompt content cursor screen (NoSpace n) left
+      → Shows (redraw prompt content cursor) stays before goes history screen (keyOf stays before (NoRoom n)) left
   redraw-short h t =
       let e : n ≡ length (redraw prompt content cursor) = t .0 ∙ needed-exact prompt content cursor h in
-      rw e (shows-short (redraw prompt content cursor) stays past goes history screen left (t .1) (t .2))
+      rw e (shows-short (redraw prompt content cursor) stays before goes history screen left (t .1) (t .2))

@@ -7,32 +7,31 @@ use lib.Dec.{ltb, leb}
 use lib.ListN.{length}
 use Rattle.buffer.specs.Write.{over}
 use Rattle.text.specs.Decoding.{wellFormed}
-use Rattle.history.specs.Slots.{layout, good}
-use Rattle.history.specs.Answer.{entriesIn}
+use Rattle.history.specs.Journal.{recordOf, slotsOf as journalSlots, journalOf, good}
 use Rattle.history.specs.declared.stepping.History.{History}
 use Rattle.editor.specs.declared.line.Editor.{Editor}
 use Rattle.editor.specs.declared.drawing.KeyAnswer.{KeyAnswer}
 use Rattle.editor.specs.declared.drawing.Pressed.{Pressed}
 use Rattle.editor.specs.declared.drawing.Pressed.the-variants.{Shown, Entered, Dropped, BadState, BadPrompt, NoRoom}
 use Rattle.editor.specs.Line.{limit, holding, lineOf, goodLine}
-use Rattle.editor.specs.Keys.{State, Kind, shows, enters, drops, Turn, turnOf}
+use Rattle.editor.specs.Turns.{State, Kind, shows, enters, drops, Turn, turnOf}
 
 -- the state that editor, record and slots hold, and what holds a state
 unfoldable pub stateOf : Editor → History → List ℕ → State
-stateOf e h slots = record { line = lineOf e; cursor = e .cursor; mode = e .mode; entries = entriesIn h slots; place = h .place }
+stateOf e h slots = record { line = lineOf e; cursor = e .cursor; mode = e .mode; history = journalOf h slots }
 
 unfoldable pub editorOf : State → Editor
 editorOf s = holding (s .line) (s .cursor) (s .mode)
 
-unfoldable pub historyOf : State → History
-historyOf s = record { count = length (s .entries); place = s .place }
+abbrev pub historyOf : State → History
+historyOf s = recordOf (s .history)
 
-unfoldable pub slotsOf : State → List ℕ
-slotsOf s = layout (s .entries)
+abbrev pub slotsOf : State → List ℕ
+slotsOf s = journalSlots (s .history)
 
 -- a state is good if its line is and its history is
 unfoldable pub goodState : Editor → History → List ℕ → Bool
-goodState e h slots = cond (goodLine e) (good (h .count) (h .place) slots) false
+goodState e h slots = cond (goodLine e) (good h slots) false
 
 -- the prompt is 0 to 128 bytes of UTF-8
 unfoldable pub goodPrompt : List ℕ → Bool

@@ -1,5 +1,7 @@
--- Definitions of the crate `editor`: the line, the keys, what `key` answers and leaves, and how the code goes.
+-- Definitions of the crate `editor`: the line, what an action does, what `key` answers and leaves, the bytes that are saved of an
+-- editor; and how the code goes.
 pub mod Line
-pub mod Keys
+pub mod Turns
 pub mod Answer
+pub mod Saved
 pub mod Steps

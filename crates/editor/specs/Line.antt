@@ -7,8 +7,8 @@ use lib.ListN.{length, take, drop}
 use Rattle.buffer.specs.Compare.{sameBytes}
 use Rattle.text.specs.Decoding.{wellFormed}
 use Rattle.buffer.specs.Lend.{zeros}
-use Rattle.editor.specs.declared.line.Mode.{Mode}
-use Rattle.editor.specs.declared.line.Mode.the-variants.{Typing}
+use Rattle.keys.specs.declared.meaning.Mode.{Mode}
+use Rattle.keys.specs.declared.meaning.Mode.the-variants.{Typing}
 use Rattle.editor.specs.declared.line.Editor.{Editor}
 
 -- how many bytes a line holds at most: `Editor::LIMIT`

@@ -11,7 +11,7 @@ use Rattle.editor.specs.declared.line.Editor.{Editor}
 use Rattle.editor.specs.declared.drawing.KeyAnswer.{KeyAnswer}
 use Rattle.editor.specs.declared.drawing.Pressed.{Pressed}
 use Rattle.editor.specs.declared.drawing.Pressed.the-variants.{Shown, NoRoom}
-use Rattle.editor.specs.Keys.{Turn}
+use Rattle.editor.specs.Turns.{Turn}
 use Rattle.editor.specs.Answer.{taken, editorOf, historyOf, slotsOf}
 
 -- bytes are shown and the state is another, or there is no room and it stays
@@ -21,8 +21,8 @@ attempt bytes room stays goes = cond (ltb room (length bytes)) stays goes
 abbrev pub keyOf : Editor → History → Pressed → KeyAnswer
 keyOf e h told = record { editor = e; history = h; answer = told }
 
-pub record Shows (bytes : List ℕ) (stays : Editor) (past : History) (goes : Editor) (history : History) (screen : List ℕ) (k : KeyAnswer) (screen′ : List ℕ) : Type 0 where
-  pub made : k ≡ attempt bytes (length screen) (keyOf stays past (NoRoom (length bytes))) (keyOf goes history (Shown (length bytes)))
+pub record Shows (bytes : List ℕ) (stays : Editor) (before : History) (goes : Editor) (history : History) (screen : List ℕ) (k : KeyAnswer) (screen′ : List ℕ) : Type 0 where
+  pub made : k ≡ attempt bytes (length screen) (keyOf stays before (NoRoom (length bytes))) (keyOf goes history (Shown (length bytes)))
   pub shown : screen′ ≡ attempt bytes (length screen) screen (over bytes screen)
 
 -- what a turn comes to for one who holds e and h

@@ -1,10 +1,10 @@
-// The arrow keys: Up and Down through history, Right and Left along the line. Each comes after ESC `[`, and typing goes on behind it.
+// Up and Down through history, Right and Left along the line.
 ghost use Prim.Native.Nat.{_≤_};
 ghost use mathlib.Core.Path.{_≡_};
 ghost use mathlib.Core.Bool.{true};
 ghost use lib.ListN.{length};
 ghost use Rattle.editor.specs.Line.{goodLine};
-ghost use Rattle.editor.specs.Keys.{inMode, up, down, right, left};
+ghost use Rattle.editor.specs.Turns.{up, down, right, left};
 ghost use Rattle.editor.specs.Answer.{stateOf, goodState};
 ghost use Rattle.editor.specs.Steps.{Acts, ActsFor};
 use super::drawing::KeyAnswer;
@@ -12,10 +12,8 @@ use super::drawing::Pressed;
 use super::drawing::redraw;
 use super::drawing::show_arrow;
 use super::line::Editor;
-use super::line::Mode;
 use history::History;
 use history::Recalled;
-use history::recall;
 
 impl Editor {
     // Up: a step back through history.
@@ -27,25 +25,23 @@ impl Editor {
         screen: &mut [u8],
     ) -> KeyAnswer
         requires { ⌜ (goodState self history (now slots) ≡ true) × (length (now prompt) ≤ 128) ⌝ }
-        ensures { λ r. ⌜ Acts self history (up (now (prompt .entry)) (inMode (stateOf self history (now (slots .entry))) Mode.Typing)) (now (screen .entry)) r (now (screen .exit)) ⌝ }
+        ensures { λ r. ⌜ Acts self history (up (now (prompt .entry)) (stateOf self history (now (slots .entry)))) (now (screen .entry)) r (now (screen .exit)) ⌝ }
     {
         let step = history.previous();
         let recalled = step.recalled;
         let Recalled::Entry(number) = recalled else {
-            self = self.in_mode(Mode::Typing);
             return KeyAnswer {
                 editor: self,
                 history,
                 answer: Pressed::Shown(0),
             };
         };
-        let past = step.history;
         let before = self;
-        self = Editor::recalled(recall(slots, number));
-        redraw(before, history, self, past, prompt, screen)
+        self = Editor::recalled(history.recall(slots, number));
+        redraw(before, history, self, step.history, prompt, screen)
     }
 
-    // Down: a step on through history, and to an empty line behind the newest entry.
+    // Down: a step on through history, and to an empty line after the newest entry.
     pub(crate) fn down(
         mut self,
         history: History,
@@ -54,29 +50,26 @@ impl Editor {
         screen: &mut [u8],
     ) -> KeyAnswer
         requires { ⌜ (goodState self history (now slots) ≡ true) × (length (now prompt) ≤ 128) ⌝ }
-        ensures { λ r. ⌜ Acts self history (down (now (prompt .entry)) (inMode (stateOf self history (now (slots .entry))) Mode.Typing)) (now (screen .entry)) r (now (screen .exit)) ⌝ }
+        ensures { λ r. ⌜ Acts self history (down (now (prompt .entry)) (stateOf self history (now (slots .entry)))) (now (screen .entry)) r (now (screen .exit)) ⌝ }
     {
         let step = history.next();
         let recalled = step.recalled;
-        let past = step.history;
         let before = self;
         let Recalled::Entry(number) = recalled else {
             self = Editor::fresh();
-            return redraw(before, history, self, past, prompt, screen);
+            return redraw(before, history, self, step.history, prompt, screen);
         };
-        self = Editor::recalled(recall(slots, number));
-        redraw(before, history, self, past, prompt, screen)
+        self = Editor::recalled(history.recall(slots, number));
+        redraw(before, history, self, step.history, prompt, screen)
     }
 
     // Right: the cursor goes on by a byte, unless it stands at the end.
     pub(crate) fn right(mut self, history: History, screen: &mut [u8]) -> KeyAnswer
         requires { ⌜ goodLine self ≡ true ⌝ }
-        ensures { λ r. ⌜ ActsFor (λ slots. right (inMode (stateOf self history slots) Mode.Typing)) self history (now (screen .entry)) r (now (screen .exit)) ⌝ }
+        ensures { λ r. ⌜ ActsFor (λ slots. right (stateOf self history slots)) self history (now (screen .entry)) r (now (screen .exit)) ⌝ }
     {
         let cursor = self.cursor;
         let length = self.length;
-        let before = self;
-        self = self.in_mode(Mode::Typing);
         if length <= cursor {
             return KeyAnswer {
                 editor: self,
@@ -84,6 +77,7 @@ impl Editor {
                 answer: Pressed::Shown(0),
             };
         }
+        let before = self;
         self = self.moved(cursor + 1);
         show_arrow(before, self, history, 0x43, screen)
     }
@@ -91,11 +85,9 @@ impl Editor {
     // Left: the cursor goes back by a byte, unless it stands at the beginning.
     pub(crate) fn left(mut self, history: History, screen: &mut [u8]) -> KeyAnswer
         requires { ⌜ goodLine self ≡ true ⌝ }
-        ensures { λ r. ⌜ ActsFor (λ slots. left (inMode (stateOf self history slots) Mode.Typing)) self history (now (screen .entry)) r (now (screen .exit)) ⌝ }
+        ensures { λ r. ⌜ ActsFor (λ slots. left (stateOf self history slots)) self history (now (screen .entry)) r (now (screen .exit)) ⌝ }
     {
         let cursor = self.cursor;
-        let before = self;
-        self = self.in_mode(Mode::Typing);
         if cursor == 0 {
             return KeyAnswer {
                 editor: self,
@@ -103,6 +95,7 @@ impl Editor {
                 answer: Pressed::Shown(0),
             };
         }
+        let before = self;
         self = self.moved(cursor - 1);
         show_arrow(before, self, history, 0x44, screen)
     }

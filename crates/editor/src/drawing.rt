@@ -4,7 +4,8 @@ ghost use mathlib.Core.Path.{_≡_};
 ghost use lib.ListN.{length};
 ghost use Rattle.screen.specs.Redraw.{redraw};
 ghost use Rattle.editor.specs.Line.{limit, lineOf, content};
-ghost use Rattle.editor.specs.Keys.{arrow};
+ghost use Rattle.editor.specs.Turns.{arrow};
+ghost use Rattle.editor.specs.Answer.{refused};
 ghost use Rattle.editor.specs.Steps.{Shows};
 use super::line::Editor;
 use buffer::push;
@@ -29,6 +30,22 @@ pub enum Pressed {
     NoRoom(usize),
 }
 
+impl Pressed {
+    // Whether it is a refusal: then the state stays.
+    pub fn is_refusal(self) -> bool
+        ensures { λ r. ⌜ r ≡ refused self ⌝ }
+    {
+        match self {
+            Pressed::Shown(_) => false,
+            Pressed::Entered(_) => false,
+            Pressed::Dropped => false,
+            Pressed::BadState => true,
+            Pressed::BadPrompt(_) => true,
+            Pressed::NoRoom(_) => true,
+        }
+    }
+}
+
 // The state after a key, and its answer.
 pub struct KeyAnswer {
     pub editor: Editor,
@@ -49,14 +66,14 @@ pub fn shown_part(line: &[u8]) -> &[u8]
 // Draws the line of an editor anew; where that has no room, the editor and the history before it stay.
 pub fn redraw(
     stays: Editor,
-    past: History,
+    before: History,
     goes: Editor,
     history: History,
     prompt: &[u8],
     screen: &mut [u8],
 ) -> KeyAnswer
     requires { ⌜ (goes .length ≤ limit) × (length (goes .line) ≡ limit) × (length (now prompt) ≤ 128) ⌝ }
-    ensures { λ r. ⌜ Shows (redraw (now (prompt .entry)) (content (lineOf goes)) (goes .cursor)) stays past goes history (now (screen .entry)) r (now (screen .exit)) ⌝ }
+    ensures { λ r. ⌜ Shows (redraw (now (prompt .entry)) (content (lineOf goes)) (goes .cursor)) stays before goes history (now (screen .entry)) r (now (screen .exit)) ⌝ }
 {
     let line = goes.line;
     let length = goes.length;
@@ -68,7 +85,7 @@ pub fn redraw(
         },
         Redrawn::NoRoom(n) => KeyAnswer {
             editor: stays,
-            history: past,
+            history: before,
             answer: Pressed::NoRoom(n),
         },
     }

@@ -3,9 +3,10 @@ mod arrows;
 mod drawing;
 mod line;
 mod pressing;
+mod saving;
 mod typing;
 
 pub use drawing::KeyAnswer;
 pub use drawing::Pressed;
 pub use line::Editor;
-pub use line::Mode;
+pub use saving::Restored;

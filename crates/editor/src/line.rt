@@ -5,15 +5,7 @@ ghost use mathlib.Core.Bool.{true};
 ghost use lib.ListN.{length};
 ghost use Rattle.editor.specs.Line.{limit, holding, lineOf, freshEditor, goodLine, inserted, erased};
 use buffer::greatest_byte;
-
-// What the keys before this one began.
-pub enum Mode {
-    Typing,
-    // ESC has come.
-    Escape,
-    // ESC `[` has come.
-    Sequence,
-}
+use keys::Mode;
 
 pub struct Editor {
     pub line: [u8; 255],

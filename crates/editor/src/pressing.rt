@@ -1,18 +1,19 @@
-// `key`: the state, the prompt and the line buffer are tested, and then the byte goes where the keys before it lead.
+// `key`: the state, the prompt and the line buffer are tested; then the byte is given its meaning, and that is done.
 ghost use Prim.Native.Nat.{_≤_};
 ghost use mathlib.Core.Path.{_≡_};
 ghost use mathlib.Core.Bool.{true};
 ghost use lib.ListN.{length};
-ghost use Rattle.editor.specs.Line.{limit, goodLine};
-ghost use Rattle.editor.specs.Keys.{inMode, escaped, typed, sequenced, turnOf};
+ghost use Rattle.editor.specs.Line.{limit};
+ghost use Rattle.editor.specs.Turns.{turnBy, turnOf};
 ghost use Rattle.editor.specs.Answer.{stateOf, goodState, goodPrompt, Pressing};
-ghost use Rattle.editor.specs.Steps.{Acts, ActsFor, Does};
+ghost use Rattle.editor.specs.Steps.{Does};
 use super::drawing::KeyAnswer;
 use super::drawing::Pressed;
 use super::line::Editor;
-use super::line::Mode;
 use history::History;
 use history::is_good;
+use keys::Action;
+use keys::meaning_of;
 use text::well_formed_prefix;
 
 // Whether the prompt is 0 to 128 bytes of UTF-8.
@@ -36,90 +37,37 @@ impl Editor {
         false
     }
 
-    // The byte after ESC: `[` is waited for, and any other byte is swallowed.
-    fn escaped(mut self, history: History, byte: u8, screen: &mut [u8]) -> KeyAnswer
-        requires { ⌜ goodLine self ≡ true ⌝ }
-        ensures { λ r. ⌜ ActsFor (λ slots. escaped (stateOf self history slots) byte) self history (now (screen .entry)) r (now (screen .exit)) ⌝ }
-    {
-        if byte == 0x5B {
-            self = self.in_mode(Mode::Sequence);
-            return KeyAnswer {
-                editor: self,
-                history,
-                answer: Pressed::Shown(0),
-            };
-        }
-        self = self.in_mode(Mode::Typing);
-        KeyAnswer {
-            editor: self,
-            history,
-            answer: Pressed::Shown(0),
-        }
-    }
-
-    // A byte that is typed: the ranges of 01.
-    fn typed(
+    // What an action does, in a good state.
+    fn act(
         mut self,
+        action: Action,
         history: History,
         slots: &mut [u8],
         prompt: &[u8],
-        byte: u8,
         line: &mut [u8],
         screen: &mut [u8],
     ) -> KeyAnswer
-        requires { ⌜ (goodState self history (now slots) ≡ true) × (self .mode ≡ Mode.Typing) ⌝ }
+        requires { ⌜ goodState self history (now slots) ≡ true ⌝ }
         requires { ⌜ (length (now prompt) ≤ 128) × (limit ≤ length (now line)) ⌝ }
-        ensures { λ r. ⌜ Does self history (typed (now (prompt .entry)) (stateOf self history (now (slots .entry))) byte) (now (slots .entry)) (now (line .entry)) (now (screen .entry)) r (now (slots .exit)) (now (line .exit)) (now (screen .exit)) ⌝ }
+        ensures { λ r. ⌜ Does self history (turnBy (now (prompt .entry)) (stateOf self history (now (slots .entry))) action) (now (slots .entry)) (now (line .entry)) (now (screen .entry)) r (now (slots .exit)) (now (line .exit)) (now (screen .exit)) ⌝ }
     {
-        match byte {
-            0x0D | 0x0A => self.enter(history, slots, line, screen),
-            0x08 | 0x7F => self.erase_key(history, prompt, screen),
-            0x1B => {
-                self = self.in_mode(Mode::Escape);
-                KeyAnswer {
-                    editor: self,
-                    history,
-                    answer: Pressed::Shown(0),
-                }
-            }
-            0x00..=0x1F => KeyAnswer {
+        match action {
+            Action::Nothing => KeyAnswer {
                 editor: self,
                 history,
                 answer: Pressed::Shown(0),
             },
-            _ => self.insert_key(history, prompt, byte, screen),
+            Action::Enter => self.enter(history, slots, line, screen),
+            Action::Erase => self.erase_key(history, prompt, screen),
+            Action::Insert(byte) => self.insert_key(history, prompt, byte, screen),
+            Action::Up => self.up(history, slots, prompt, screen),
+            Action::Down => self.down(history, slots, prompt, screen),
+            Action::Right => self.right(history, screen),
+            Action::Left => self.left(history, screen),
         }
     }
 
-    // The byte after ESC `[`: an arrow, or swallowed.
-    fn sequenced(
-        mut self,
-        history: History,
-        slots: &[u8],
-        prompt: &[u8],
-        byte: u8,
-        screen: &mut [u8],
-    ) -> KeyAnswer
-        requires { ⌜ (goodState self history (now slots) ≡ true) × (length (now prompt) ≤ 128) ⌝ }
-        ensures { λ r. ⌜ Acts self history (sequenced (now (prompt .entry)) (inMode (stateOf self history (now (slots .entry))) Mode.Typing) byte) (now (screen .entry)) r (now (screen .exit)) ⌝ }
-    {
-        match byte {
-            0x41 => self.up(history, slots, prompt, screen),
-            0x42 => self.down(history, slots, prompt, screen),
-            0x43 => self.right(history, screen),
-            0x44 => self.left(history, screen),
-            _ => {
-                self = self.in_mode(Mode::Typing);
-                KeyAnswer {
-                    editor: self,
-                    history,
-                    answer: Pressed::Shown(0),
-                }
-            }
-        }
-    }
-
-    // One key, in a good state.
+    // One key, in a good state: what it means, then what that does. A refusal hands back the editor as it was, the mode too.
     fn press(
         mut self,
         history: History,
@@ -133,12 +81,22 @@ impl Editor {
         requires { ⌜ (length (now prompt) ≤ 128) × (limit ≤ length (now line)) ⌝ }
         ensures { λ r. ⌜ Does self history (turnOf (now (prompt .entry)) (stateOf self history (now (slots .entry))) byte) (now (slots .entry)) (now (line .entry)) (now (screen .entry)) r (now (slots .exit)) (now (line .exit)) (now (screen .exit)) ⌝ }
     {
+        let before = self;
         let mode = self.mode;
-        match mode {
-            Mode::Typing => self.typed(history, slots, prompt, byte, line, screen),
-            Mode::Escape => self.escaped(history, byte, screen),
-            Mode::Sequence => self.sequenced(history, slots, prompt, byte, screen),
+        let meant = meaning_of(mode, byte);
+        let action = meant.action;
+        let next = meant.mode;
+        self = self.in_mode(next);
+        let done = self.act(action, history, slots, prompt, line, screen);
+        let answer = done.answer;
+        if answer.is_refusal() {
+            return KeyAnswer {
+                editor: before,
+                history,
+                answer,
+            };
         }
+        done
     }
 
     // One key, in any state and with any buffers.

@@ -4,7 +4,7 @@ ghost use mathlib.Core.Path.{_≡_};
 ghost use mathlib.Core.Bool.{true};
 ghost use lib.ListN.{length};
 ghost use Rattle.editor.specs.Line.{limit, goodLine};
-ghost use Rattle.editor.specs.Keys.{enter, erase, insert};
+ghost use Rattle.editor.specs.Turns.{enter, erase, insert};
 ghost use Rattle.editor.specs.Answer.{stateOf, goodState};
 ghost use Rattle.editor.specs.Steps.{ActsFor, Does};
 use super::drawing::KeyAnswer;
@@ -12,7 +12,6 @@ use super::drawing::Pressed;
 use super::drawing::redraw;
 use super::drawing::shown_part;
 use super::line::Editor;
-use super::line::Mode;
 use buffer::push;
 use buffer::push_byte;
 use history::History;
@@ -48,12 +47,12 @@ impl Editor {
             };
         }
         let typed = self.line;
-        let past = offer(history, slots, shown_part(&typed[..n]));
+        let offered = offer(history, slots, shown_part(&typed[..n]));
         push(&typed[..n], line, 0);
         self = Editor::fresh();
         KeyAnswer {
             editor: self,
-            history: past,
+            history: offered,
             answer: Pressed::Entered(n),
         }
     }
@@ -65,7 +64,7 @@ impl Editor {
         prompt: &[u8],
         screen: &mut [u8],
     ) -> KeyAnswer
-        requires { ⌜ (goodLine self ≡ true) × (self .mode ≡ Mode.Typing) × (length (now prompt) ≤ 128) ⌝ }
+        requires { ⌜ (goodLine self ≡ true) × (length (now prompt) ≤ 128) ⌝ }
         ensures { λ r. ⌜ ActsFor (λ slots. erase (now (prompt .entry)) (stateOf self history slots)) self history (now (screen .entry)) r (now (screen .exit)) ⌝ }
     {
         if self.cursor == 0 {
@@ -88,7 +87,7 @@ impl Editor {
         byte: u8,
         screen: &mut [u8],
     ) -> KeyAnswer
-        requires { ⌜ (goodLine self ≡ true) × (self .mode ≡ Mode.Typing) × (length (now prompt) ≤ 128) ⌝ }
+        requires { ⌜ (goodLine self ≡ true) × (length (now prompt) ≤ 128) ⌝ }
         ensures { λ r. ⌜ ActsFor (λ slots. insert (now (prompt .entry)) (stateOf self history slots) byte) self history (now (screen .entry)) r (now (screen .exit)) ⌝ }
     {
         if Editor::LIMIT <= self.length {

@@ -6,10 +6,9 @@ use mathlib.Core.List.{List}
 use lib.ListN.{length}
 use borrow.Author.Tests.{lt-ltb, le-ltb, eq-eqb, ne-eqb}
 use Rattle.buffer.proofs.Choices.{then-is, else-is}
-use Rattle.text.specs.Decoding.{wellFormedLength}
-use Rattle.text.specs.Decoding.{wellFormed}
-use Rattle.history.specs.Slots.{good}
-use Rattle.history.specs.Answer.{addAnswer, historyBy, slotsBy, entriesAfter, Addition}
+use Rattle.text.specs.Decoding.{wellFormedLength, wellFormed}
+use Rattle.history.specs.Journal.{offered, journalOf, good}
+use Rattle.history.specs.Answer.{addAnswer, recordBy, slotsBy, Addition}
 use Rattle.history.specs.declared.stepping.History.{History}
 use Rattle.history.specs.declared.adding.Added.{Added}
 use Rattle.history.specs.declared.adding.Added.the-variants.{Done, BadState, TooLong, IllFormed}
@@ -21,11 +20,11 @@ formed-whole text n p q = eq-eqb _ _ (sym p ∙ q)
 
 module _ (h : History) (slots text : List ℕ) where
   -- the tests in their order
-  pub answer-bad : good (h .count) (h .place) slots ≡ false → addAnswer h slots text ≡ BadState
+  pub answer-bad : good h slots ≡ false → addAnswer h slots text ≡ BadState
   unfolding addAnswer
   answer-bad e = else-is _ _ _ e
 
-  module _ (is : good (h .count) (h .place) slots ≡ true) where
+  module _ (is : good h slots ≡ true) where
     pub answer-long : 255 < length text → addAnswer h slots text ≡ TooLong (length text)
     unfolding addAnswer
     answer-long l = then-is _ _ _ is ∙ then-is _ _ _ (lt-ltb _ _ l)
@@ -40,12 +39,12 @@ module _ (h : History) (slots text : List ℕ) where
 
   -- the contract, once the answer is known
   pub addition : (told : Added) (r : History) (left : List ℕ) → addAnswer h slots text ≡ told
-      → r ≡ historyBy told h (entriesAfter h slots text) → left ≡ slotsBy told slots (entriesAfter h slots text) → Addition h slots text r told left
+      → r ≡ recordBy told h (offered text (journalOf h slots)) → left ≡ slotsBy told slots (offered text (journalOf h slots)) → Addition h slots text r told left
   addition told r left e s b =
       record {
         answer = sym e;
-        state = s ∙ ap (λ (a : Added). historyBy a h (entriesAfter h slots text)) (sym e);
-        bytes = b ∙ ap (λ (a : Added). slotsBy a slots (entriesAfter h slots text)) (sym e);
+        state = s ∙ ap (λ (a : Added). recordBy a h (offered text (journalOf h slots))) (sym e);
+        bytes = b ∙ ap (λ (a : Added). slotsBy a slots (offered text (journalOf h slots))) (sym e);
       }
 
   -- no second answer, state or buffer satisfies it

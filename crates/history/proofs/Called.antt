@@ -1,4 +1,4 @@
--- What holds of a history's calls: a text that is added was asked of a good state and leaves good entries.
+-- What holds of a history's calls: a text that is added was asked of a good state.
 use Prim.Native.Nat.{ℕ, _≤_}
 use mathlib.Core.Path.{_≡_, refl}
 use mathlib.Core.Bool.{Bool, true, false, cond}
@@ -7,38 +7,30 @@ use native.Mathlib.Omega.{arith}
 use lib.Dec.{ltb}
 use lib.ListN.{length}
 use borrow.Author.Tests.{ltb-false}
-use Rattle.text.specs.Decoding.{wellFormedLength}
-use Rattle.text.specs.Decoding.{wellFormed}
-use Rattle.history.specs.Slots.{entriesOf, good}
-use Rattle.history.specs.Answer.{entriesIn, entriesAfter, addAnswer}
+use Rattle.text.specs.Decoding.{wellFormedLength, wellFormed}
+use Rattle.history.specs.Journal.{offered, journalOf, good}
+use Rattle.history.specs.Answer.{addAnswer}
 use Rattle.history.specs.declared.stepping.History.{History}
 use Rattle.history.specs.declared.adding.Added.the-variants.{Done, BadState as BadHistory, TooLong, IllFormed}
-use Rattle.history.proofs.Layouts.{length-entries}
-use Rattle.history.proofs.States.{good-has, good-short}
-use Rattle.history.proofs.Kept.{Entries, added-entries}
+use Rattle.history.proofs.Journals.{Fair, good-fair, fair-offered}
 
 -- a text that is added is short and well-formed, and the state good
 pub record Taken (h : History) (slots text : List ℕ) : Type 0 where
-  pub is-good : good (h .count) (h .place) slots ≡ true
+  pub is-good : good h slots ≡ true
   pub short : length text ≤ 255
   pub formed : wellFormed text ≡ true
 
 pub done-has : (h : History) (slots text : List ℕ) → addAnswer h slots text ≡ Done → Taken h slots text
 unfolding addAnswer
-done-has h slots text d = by (good (h .count) (h .place) slots) (ltb 255 (length text)) (wellFormed text) refl refl refl d
+done-has h slots text d = by (good h slots) (ltb 255 (length text)) (wellFormed text) refl refl refl d
   where
-    by : (a b w : Bool) → good (h .count) (h .place) slots ≡ a → ltb 255 (length text) ≡ b → wellFormed text ≡ w
+    by : (a b w : Bool) → good h slots ≡ a → ltb 255 (length text) ≡ b → wellFormed text ≡ w
         → cond a (cond b (TooLong (length text)) (cond w Done (IllFormed (wellFormedLength text)))) BadHistory ≡ Done → Taken h slots text
     by true false true p q r e = record { is-good = p; short = ltb-false _ _ q; formed = r }
     by true false false p q r e = absurd (let z : _≡_ {A = ℕ} 0 1 = cc in omega arith)
     by true true w p q r e = absurd (let z : _≡_ {A = ℕ} 0 1 = cc in omega arith)
     by false b w p q r e = absurd (let z : _≡_ {A = ℕ} 0 1 = cc in omega arith)
 
-pub entries-after : (h : History) (slots text : List ℕ) → Taken h slots text → Entries (entriesAfter h slots text)
-unfolding entriesAfter entriesIn
-entries-after h slots text t =
-    let g = good-has (h .count) (h .place) slots (t .is-good) in
-    let n = length-entries (h .count) slots in
-    let k = g .counted in
-    added-entries (entriesOf (h .count) slots) text
-    (record { short = good-short (h .count) (h .place) slots g; few = omega arith; is-sound = g .is-sound }) (t .short) (t .formed)
+-- and the history after it keeps the rules
+pub taken-fair : (h : History) (slots text : List ℕ) → Taken h slots text → Fair (offered text (journalOf h slots))
+taken-fair h slots text t = fair-offered text (journalOf h slots) (good-fair h slots (t .is-good)) (t .short) (t .formed)

@@ -19,7 +19,9 @@ use Rattle.text.proofs.Pieces.{pieces-none}
 use Rattle.text.specs.Apart.{blank, allWhite}
 use Rattle.history.specs.Entries.{mostEntries, usable, sound}
 use Rattle.buffer.specs.Lend.{zeros}
-use Rattle.history.specs.Slots.{slot, run, layout, entry, entriesOf, good}
+use Rattle.history.specs.Slots.{slot, run, layout, entry, entriesOf}
+use Rattle.history.specs.Journal.{slotsOf, journalOf, good}
+use Rattle.history.specs.declared.stepping.History.{History}
 use Rattle.history.specs.Steps.{unused, goodSlot, slotBefore, judged}
 use Rattle.history.proofs.Layouts.{length-slot, length-entries, entry-slot}
 
@@ -72,7 +74,7 @@ module _ (bs : List ℕ) (fits : 256 ≤ length bs) (byte : getD bs 0 0 ≤ 255)
   short-entry : length (entry bs) ≤ 255
   short-entry = let l = length-entry in omega arith
 
-head-at : (s : List ℕ) (at : ℕ) → getD (drop at s) 0 0 ≡ getD s at 0
+pub head-at : (s : List ℕ) (at : ℕ) → getD (drop at s) 0 0 ≡ getD s at 0
 head-at s at = let e : at + 0 ≡ at = omega arith in getD-drop at s 0 0 ∙ ap (λ (k : ℕ). getD s k 0) e
 
 -- the slot before and its entry; before the first slot there is neither
@@ -159,14 +161,14 @@ slot-by-slot (suc m) (suc n) before prev bs h l b f =
         ∙ joined (sameBytes prev e) (sound e es) _ (judged (take 256 bs) n (drop 256 bs)) (later (take 256 bs) is)
 
 -- and so the whole state
-pub good-is : (count place : ℕ) (slots : List ℕ) → Bytes slots → length slots ≡ 25600 → count ≤ 100 → place ≤ count
-    → judged [] count slots ≡ good count place slots
-unfolding good layout mostEntries
-good-is count place slots b l h k =
-    let es : List (List ℕ) = entriesOf count slots in
-    slot-by-slot 100 count [] [] slots h l b first
-    ∙ ap (λ (n : ℕ). cond (sound [] es) (sameBytes (run es ++ zeros (25600 - 256 * n)) slots) false) (sym (length-entries count slots))
-    ∙ sym (then-is _ _ _ (eq-eqb _ _ l) ∙ then-is _ _ _ (le-leb _ _ h) ∙ then-is _ _ _ (le-leb _ _ k))
+pub good-is : (h : History) (slots : List ℕ) → Bytes slots → length slots ≡ 25600 → h .count ≤ 100 → h .place ≤ h .count
+    → judged [] (h .count) slots ≡ good h slots
+unfolding good slotsOf journalOf layout mostEntries
+good-is h slots b l c k =
+    let es : List (List ℕ) = entriesOf (h .count) slots in
+    slot-by-slot 100 (h .count) [] [] slots c l b first
+    ∙ ap (λ (n : ℕ). cond (sound [] es) (sameBytes (run es ++ zeros (25600 - 256 * n)) slots) false) (sym (length-entries (h .count) slots))
+    ∙ sym (then-is _ _ _ (eq-eqb _ _ l) ∙ then-is _ _ _ (le-leb _ _ c) ∙ then-is _ _ _ (le-leb _ _ k))
 
 before-next : (s : List ℕ) (at : ℕ) → slotBefore (at + 256) s ≡ take 256 (drop at s)
 unfolding slotBefore

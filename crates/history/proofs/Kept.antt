@@ -1,4 +1,4 @@
--- Adding keeps a state good, and so does a step through it.
+-- Entries of which a good state can be made, and that adding keeps them so.
 use Prim.Native.Nat.{ℕ, _+_, _-_, _<_, _≤_}
 use mathlib.Core.Path.{_≡_, refl, sym, ap, _∙_}
 use mathlib.Core.Bool.{Bool, true, false, cond, not}
@@ -13,19 +13,16 @@ use Rattle.buffer.specs.Compare.{sameBytes}
 use Rattle.text.specs.Apart.{blank}
 use Rattle.text.specs.Decoding.{wellFormed}
 use Rattle.history.specs.Entries.{mostEntries, newestIs, isNew, withRoom, added, usable, sound}
-use Rattle.history.specs.Slots.{layout, entriesOf, good}
-use Rattle.history.specs.Steps.{back, recalledAt, onward}
+use Rattle.history.specs.Journal.{slotsOf, journalOf, good}
 use Rattle.history.specs.declared.stepping.History.{History}
-use Rattle.history.specs.declared.stepping.Recalled.the-variants.{Entry, Nothing}
-use Rattle.history.specs.declared.stepping.Step.{Step}
-use Rattle.history.proofs.Layouts.{Short, none, more, length-layout, entries-layout}
+use Rattle.history.proofs.Layouts.{Short, none, more}
 use Rattle.history.proofs.Judging.{usable-some}
-use Rattle.history.proofs.States.{holds, Good, good-has}
+use Rattle.history.proofs.States.{holds, Good}
 
 -- the facts of a good state are enough for it
-pub good-of : (count place : ℕ) (slots : List ℕ) → Good count place slots → good count place slots ≡ true
-unfolding good mostEntries
-good-of count place slots g =
+pub good-of : (h : History) (slots : List ℕ) → Good h slots → good h slots ≡ true
+unfolding good mostEntries slotsOf journalOf
+good-of h slots g =
     then-is _ _ _ (eq-eqb _ _ (g .size))
     ∙ then-is _ _ _ (le-leb _ _ (g .counted))
     ∙ then-is _ _ _ (le-leb _ _ (g .placed))
@@ -37,18 +34,6 @@ pub record Entries (es : List (List ℕ)) : Type 0 where
   pub short : Short es
   pub few : length es ≤ 100
   pub is-sound : sound [] es ≡ true
-
-pub entries-good : (es : List (List ℕ)) (place : ℕ) → Entries es → place ≤ length es → good (length es) place (layout es) ≡ true
-entries-good es place e h =
-    let back : entriesOf (length es) (layout es) ≡ es = entries-layout es (e .short) in
-    good-of (length es) place (layout es)
-    (record {
-      size = length-layout es (e .short) (e .few);
-      counted = e .few;
-      placed = h;
-      is-sound = ap (sound []) back ∙ e .is-sound;
-      laid = ap layout back;
-    })
 
 -- the entry before what is to come
 latest : List ℕ → List (List ℕ) → List ℕ
@@ -135,28 +120,3 @@ added-entries es t g l w = by (blank t) (newestIs t es) refl refl
     by true n p q = g
     by false true p q = g
     by false false p q = with-room es t (ltb (length es) 100) refl g l (usable-of t p w) q
-
--- a step back and a step on move the place only, and keep it within the count
-pub placed-good : (count place place′ : ℕ) (slots : List ℕ) → good count place slots ≡ true → place′ ≤ count → good count place′ slots ≡ true
-placed-good count place place′ slots g h =
-    let k = good-has count place slots g in
-    good-of count place′ slots (record { size = k .size; counted = k .counted; placed = h; is-sound = k .is-sound; laid = k .laid })
-
-pub back-good : (h : History) (slots : List ℕ) → good (h .count) (h .place) slots ≡ true → good (back h .history .count) (back h .history .place) slots ≡ true
-unfolding back
-back-good h slots g = by (eqb (h .place) 0)
-  where
-    placed : h .place ≤ h .count
-    placed = good-has (h .count) (h .place) slots g .placed
-
-    by : (t : Bool) → let r : Step = cond t (record { history = h; recalled = Nothing }) (record { history = record { count = h .count; place = h .place - 1 }; recalled = Entry (h .place - 1) }) in good (r .history .count) (r .history .place) slots ≡ true
-    by true = g
-    by false = placed-good (h .count) (h .place) (h .place - 1) slots g (let p = placed in omega arith)
-
-pub onward-good : (h : History) (slots : List ℕ) → good (h .count) (h .place) slots ≡ true → good (onward h .history .count) (onward h .history .place) slots ≡ true
-unfolding onward
-onward-good h slots g = by (ltb (h .place) (h .count)) refl
-  where
-    by : (t : Bool) → ltb (h .place) (h .count) ≡ t → let r : Step = cond t (record { history = record { count = h .count; place = h .place + 1 }; recalled = recalledAt (h .count) (h .place + 1) }) (record { history = h; recalled = Nothing }) in good (r .history .count) (r .history .place) slots ≡ true
-    by true q = placed-good (h .count) (h .place) (h .place + 1) slots g (let l = ltb-true (h .place) (h .count) q in omega arith)
-    by false q = g

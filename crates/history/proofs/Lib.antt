@@ -6,5 +6,7 @@ pub mod Newest
 pub mod States
 pub mod Answers
 pub mod Kept
+pub mod Journals
+pub mod Saved
 pub mod Called
 pub mod Lasting

@@ -4,7 +4,7 @@ use mathlib.Core.Path.{_≡_, ap, _∙_}
 use native.Mathlib.Omega.{arith}
 use borrow.Author.Tests.{lt-ltb, le-ltb}
 use Rattle.buffer.proofs.Choices.{then-is, else-is}
-use Rattle.history.specs.Steps.{recalledAt, onward}
+use Rattle.history.specs.Steps.{placedAt, recalledAt, onward}
 use Rattle.history.specs.declared.stepping.History.{History}
 use Rattle.history.specs.declared.stepping.Recalled.{Recalled}
 use Rattle.history.specs.declared.stepping.Recalled.the-variants.{Entry, Nothing}
@@ -12,7 +12,7 @@ use Rattle.history.specs.declared.stepping.Step.{Step}
 
 -- a step on, with what it recalls
 abbrev stepped : History → Recalled → Step
-stepped h r = record { history = record { count = h .count; place = h .place + 1 }; recalled = r }
+stepped h r = record { history = placedAt h (h .place + 1); recalled = r }
 
 onward-below : (h : History) → h .place < h .count → onward h ≡ stepped h (recalledAt (h .count) (h .place + 1))
 unfolding onward

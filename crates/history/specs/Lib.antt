@@ -1,6 +1,8 @@
--- Definitions of the crate `history`: the entries and what adding does to them, where they lie in the lent buffer, how the code steps through
--- them, and what adding answers and leaves.
+-- Definitions of the crate `history`: the entries and what adding does to them, where they lie in the lent buffer, a history as one value with what
+-- holds it, what adding answers and leaves, the bytes that are saved of it; and how the code steps through it.
 pub mod Entries
 pub mod Slots
-pub mod Steps
+pub mod Journal
 pub mod Answer
+pub mod Saved
+pub mod Steps

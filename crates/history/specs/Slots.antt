@@ -1,12 +1,8 @@
 -- Where a history lies (01): a lent buffer of 25,600 bytes in slots of 256, a length byte then the text, oldest in slot 0, all unused bytes zero.
-use Prim.Native.Nat.{ℕ, zero, suc, _-_, _*_, _/_}
-use mathlib.Core.Bool.{Bool, false, cond}
+use Prim.Native.Nat.{ℕ, zero, suc, _-_, _*_}
 use mathlib.Core.List.{List, [], _∷_, _++_}
-use lib.Dec.{ltb, leb, eqb}
-use lib.ListN.{length, take, drop, getD, replicate}
-use Rattle.buffer.specs.Compare.{sameBytes}
+use lib.ListN.{length, take, drop, getD}
 use Rattle.buffer.specs.Lend.{zeros}
-use Rattle.history.specs.Entries.{mostEntries, sound}
 
 -- one entry in its slot
 unfoldable pub slot : List ℕ → List ℕ
@@ -27,19 +23,3 @@ entry bytes = take (getD bytes 0 0) (drop 1 bytes)
 unfoldable pub entriesOf : ℕ → List ℕ → List (List ℕ)
 entriesOf zero bytes = []
 entriesOf (suc n) bytes = entry bytes ∷ entriesOf n (drop 256 bytes)
-
--- A state is bad exactly if the buffer has another length, the count exceeds 100, the place exceeds the count, a used slot has length 0 or is
--- blank or ill-formed, two neighbours are equal, or an unused byte is not zero.
-unfoldable pub good : ℕ → ℕ → List ℕ → Bool
-good count place slots =
-    cond (eqb (length slots) 25600)
-    (cond (leb count mostEntries)
-    (cond (leb place count)
-    (cond (sound [] (entriesOf count slots)) (sameBytes (layout (entriesOf count slots)) slots) false)
-    false)
-    false)
-    false
-
--- the entry of a number in any bytes: empty where they have no such slot
-unfoldable pub entryAt : ℕ → List ℕ → List ℕ
-entryAt number slots = cond (ltb number (length slots / 256)) (entry (drop (256 * number) slots)) []

@@ -13,11 +13,15 @@ use Rattle.history.specs.declared.stepping.Recalled.{Recalled}
 use Rattle.history.specs.declared.stepping.Recalled.the-variants.{Entry, Nothing}
 use Rattle.history.specs.declared.stepping.Step.{Step}
 
+-- the same history at another place
+abbrev pub placedAt : History → ℕ → History
+placedAt h place = record { count = h .count; place = place }
+
 -- Up: at place 0 nothing; otherwise the place steps back, and the entry there is recalled
 unfoldable pub back : History → Step
 back h =
     cond (eqb (h .place) 0) (record { history = h; recalled = Nothing })
-    (record { history = record { count = h .count; place = h .place - 1 }; recalled = Entry (h .place - 1) })
+    (record { history = placedAt h (h .place - 1); recalled = Entry (h .place - 1) })
 
 -- Down: below the count the place steps on, and the entry there is recalled unless it has arrived at the count
 unfoldable pub recalledAt : ℕ → ℕ → Recalled
@@ -26,7 +30,7 @@ recalledAt count place = cond (ltb place count) (Entry place) Nothing
 unfoldable pub onward : History → Step
 onward h =
     cond (ltb (h .place) (h .count))
-    (record { history = record { count = h .count; place = h .place + 1 }; recalled = recalledAt (h .count) (h .place + 1) })
+    (record { history = placedAt h (h .place + 1); recalled = recalledAt (h .count) (h .place + 1) })
     (record { history = h; recalled = Nothing })
 
 -- what lies behind the entry in the slot that bytes begin with

@@ -5,10 +5,9 @@ ghost use mathlib.Core.Bool.{true};
 ghost use lib.ListN.{length};
 ghost use Rattle.text.specs.Decoding.{wellFormed};
 ghost use Rattle.history.specs.Entries.{isNew};
-ghost use Rattle.history.specs.Slots.{good};
-ghost use Rattle.history.specs.Answer.{entriesIn, Offered, Addition};
+ghost use Rattle.history.specs.Journal.{journalOf, good};
+ghost use Rattle.history.specs.Answer.{Offered, Addition};
 use super::slots::drop_oldest;
-use super::slots::recall;
 use super::slots::store;
 use super::stepping::History;
 use super::testing::is_good;
@@ -35,8 +34,7 @@ pub struct Adding {
 
 // Whether a text is added: it is not blank and differs from the newest entry.
 fn is_new(history: History, slots: &[u8], text: &[u8]) -> bool
-    requires { ⌜ good (history .count) (history .place) (now slots) ≡ true ⌝ }
-    ensures { λ r. ⌜ r ≡ isNew (now (text .entry)) (entriesIn history (now (slots .entry))) ⌝ }
+    ensures { λ r. ⌜ r ≡ isNew (now (text .entry)) (journalOf history (now (slots .entry)) .entries) ⌝ }
 {
     if is_blank(text) {
         return false;
@@ -44,12 +42,12 @@ fn is_new(history: History, slots: &[u8], text: &[u8]) -> bool
     if history.count == 0 {
         return true;
     }
-    !same(recall(slots, history.count - 1), text)
+    !same(history.recall(slots, history.count - 1), text)
 }
 
 // Offers a well-formed text of at most 255 bytes to a good state.
 pub fn offer(history: History, slots: &mut [u8], text: &[u8]) -> History
-    requires { ⌜ good (history .count) (history .place) (now slots) ≡ true ⌝ }
+    requires { ⌜ good history (now slots) ≡ true ⌝ }
     requires { ⌜ length (now text) ≤ 255 ⌝ }
     requires { ⌜ wellFormed (now text) ≡ true ⌝ }
     ensures { λ r. ⌜ Offered history (now (slots .entry)) (now (text .entry)) r (now (slots .exit)) ⌝ }

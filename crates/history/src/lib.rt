@@ -1,5 +1,6 @@
 // History: at most 100 entries in a lent buffer of 25,600 bytes, the state test, adding a text, and the steps that the arrow keys take.
 mod adding;
+mod saving;
 mod slots;
 mod stepping;
 mod testing;
@@ -8,7 +9,6 @@ pub use adding::Added;
 pub use adding::Adding;
 pub use adding::add_command;
 pub use adding::offer;
-pub use slots::recall;
 pub use stepping::History;
 pub use stepping::Recalled;
 pub use stepping::Step;

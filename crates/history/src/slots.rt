@@ -1,33 +1,12 @@
-// The slots of 256 bytes: the entry in one, storing one, and moving all down by one.
+// The slots of 256 bytes: storing an entry in one, clearing, and moving all down by one.
 ghost use Prim.Native.Nat.{_+_, _-_, _≤_};
 ghost use mathlib.Core.Path.{_≡_};
-ghost use lib.ListN.{length, drop, getD};
+ghost use lib.ListN.{length, drop};
 ghost use Rattle.buffer.specs.Write.{over, overAt};
 ghost use Rattle.buffer.specs.Lend.{zeros};
-ghost use Rattle.history.specs.Slots.{slot, entryAt};
+ghost use Rattle.history.specs.Slots.{slot};
 use buffer::push;
 use buffer::push_byte;
-
-// The byte at a place, as a number to count with.
-pub fn wide(s: &[u8], at: usize) -> usize
-    requires { ⌜ at + 1 ≤ length (now s) ⌝ }
-    ensures { λ r. ⌜ (r ≡ getD (now (s .entry)) at 0) × (r ≤ 255) ⌝ }
-{
-    s[at] as usize
-}
-
-// The text of an entry, as a part of the slots; empty where they have no such slot.
-pub fn recall(slots: &[u8], number: usize) -> &[u8]
-    ensures { λ r. ⌜ now r ≡ entryAt number (now (slots .entry)) ⌝ }
-{
-    if slots.len() / 256 <= number {
-        return &slots[0..0];
-    }
-    let at = 256 * number;
-    let start = at + 1;
-    let end = start + wide(slots, at);
-    &slots[start..end]
-}
 
 // Writes zeros from a place up to another.
 pub fn clear(out: &mut [u8], at: usize, end: usize)

@@ -1,9 +1,12 @@
-// A history by value: how many entries it has and the place among them, with the steps that the arrow keys take.
+// A history by value: how many entries it has and the place among them, the steps that the arrow keys take, and the entry of a number.
 ghost use lib.ListN.{length};
 ghost use mathlib.Core.Path.{_≡_};
 ghost use Rattle.history.specs.Steps.{back, onward};
-ghost use Rattle.history.specs.Answer.{atEnd, Emptied};
+ghost use Rattle.history.specs.Journal.{noEntries, entryOf, recordOf, journalOf};
+ghost use Rattle.history.specs.Answer.{Emptied};
 use super::slots::clear;
+use buffer::byte_at;
+use buffer::part;
 
 pub struct History {
     pub count: usize,
@@ -26,7 +29,7 @@ pub struct Step {
 impl History {
     // No entry.
     pub fn fresh() -> History
-        ensures { λ r. ⌜ r ≡ atEnd 0 ⌝ }
+        ensures { λ r. ⌜ r ≡ recordOf noEntries ⌝ }
     {
         History { count: 0, place: 0 }
     }
@@ -80,5 +83,18 @@ impl History {
             history: self,
             recalled: Recalled::Entry(place),
         }
+    }
+    // The text of an entry, as a part of the slots; empty where there is no entry of that number.
+    pub fn recall(self, slots: &[u8], number: usize) -> &[u8]
+        ensures { λ r. ⌜ now r ≡ entryOf (journalOf self (now (slots .entry))) number ⌝ }
+    {
+        if self.count <= number {
+            return part(slots, 0, 0);
+        }
+        if slots.len() / 256 < number {
+            return part(slots, 0, 0);
+        }
+        let at = 256 * number;
+        part(slots, at + 1, byte_at(slots, at))
     }
 }

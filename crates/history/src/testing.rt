@@ -5,10 +5,10 @@ ghost use mathlib.Core.List.{[]};
 ghost use lib.ListN.{length, take, drop};
 ghost use Rattle.buffer.specs.Compare.{sameBytes};
 ghost use Rattle.history.specs.Entries.{usable};
-ghost use Rattle.history.specs.Slots.{good};
+ghost use Rattle.history.specs.Journal.{good};
 ghost use Rattle.history.specs.Steps.{goodSlot, slotBefore, judged};
-use super::slots::wide;
 use super::stepping::History;
+use buffer::byte_at;
 use buffer::greatest_byte;
 use buffer::same_throughout;
 use text::is_blank;
@@ -33,7 +33,7 @@ fn is_good_slot(slots: &[u8], at: usize) -> bool
     ensures { λ r. ⌜ r ≡ goodSlot (drop at (now (slots .entry))) ⌝ }
 {
     let start = at + 1;
-    let end = start + wide(slots, at);
+    let end = start + byte_at(slots, at);
     let next = at + 256;
     if !is_usable(&slots[start..end]) {
         return false;
@@ -76,7 +76,7 @@ fn are_good(slots: &[u8], count: usize) -> bool
 
 // Whether a state is good.
 pub fn is_good(history: History, slots: &[u8]) -> bool
-    ensures { λ r. ⌜ r ≡ good (history .count) (history .place) (now (slots .entry)) ⌝ }
+    ensures { λ r. ⌜ r ≡ good history (now (slots .entry)) ⌝ }
 {
     let count = history.count;
     if slots.len() != 25600 {

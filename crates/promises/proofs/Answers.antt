@@ -32,7 +32,7 @@ use Rattle.frame.specs.Text.{Bytes}
 use Rattle.frame.specs.Framed.{frameOf}
 use Rattle.layout.specs.Texts.{helpText}
 use Rattle.message.specs.Messages.{goodbye}
-use Rattle.editor.proofs.Seats.{over-nothing}
+use Rattle.editor.proofs.States.{over-nothing}
 use Rattle.help.specs.Paths.{Led, found, lost, onSubtree, followed}
 use Rattle.help.specs.Answer.{Reply, said, unknown, wordless, replyBy, helpIn, helpOf, helpLine, bytesOf, roomFor, answerBy, answerIn, answerFor as helpAnswer, leavesBy as helpedLeaves, leavesFor as helpLeaves, Helping, number as helpedNumber, value as helpedValue}
 use Rattle.help.specs.declared.call.Helped.{Helped}

@@ -11,17 +11,21 @@ use Rattle.text.specs.Apart.{trimmed, wordsBetween}
 use Rattle.words.specs.Tokens.{wordsOf, wordFrames}
 use Rattle.words.specs.declared.tokenizer.Tokens.{Tokens}
 use Rattle.words.specs.Answer.{number as wordsNumber, value as wordsValue}
-use Rattle.history.specs.Answer.{entriesIn, entriesAfter, historyBy, Addition, number as addNumber, value as addValue}
+use Rattle.history.specs.Journal.{offered, journalOf}
+use Rattle.history.specs.Answer.{recordBy, Addition, number as addNumber, value as addValue}
 use Rattle.history.specs.declared.stepping.History.{History}
 use Rattle.history.specs.declared.adding.Added.{Added}
 use Rattle.history.specs.declared.adding.Added.the-variants.{Done, BadState as BadHistory, TooLong, IllFormed}
-use Rattle.editor.specs.declared.line.Mode.the-variants.{Typing}
+use Rattle.keys.specs.declared.meaning.Mode.the-variants.{Typing}
 use Rattle.editor.specs.declared.drawing.KeyAnswer.{KeyAnswer}
 use Rattle.editor.specs.declared.drawing.Pressed.{Pressed}
 use Rattle.editor.specs.declared.drawing.Pressed.the-variants.{Shown, Entered, Dropped, BadState, BadPrompt, NoRoom}
-use Rattle.editor.specs.Line.{limit}
+use Rattle.editor.specs.declared.line.Editor.{Editor}
+use Rattle.editor.specs.Line.{limit, goodLine}
 use Rattle.editor.specs.Answer.{stateOf, goodPrompt, refused, number as keyNumber, value as keyValue, kind as keyKind, beside as keyBeside}
-use Rattle.editor.proofs.Seats.{good-parts}
+use Rattle.editor.proofs.Lines.{good-line, length-of}
+use Rattle.editor.proofs.States.{good-parts}
+use Rattle.editor.proofs.Fine.{stays-good}
 use Rattle.state.specs.State.{savedOf, editorIn, historyIn, goodSaved}
 use Rattle.state.specs.Calls.{Beginning, turnIn, number as begunNumber, value as begunValue}
 use Rattle.state.specs.declared.calls.Begun.{Begun}
@@ -202,7 +206,7 @@ abbrev pub shellIn : List ℕ → List ℕ → Shell
 shellIn state slots = shellOf (stateOf (editorIn state) (historyIn state) slots)
 
 abbrev pub commandsIn : List ℕ → List ℕ → CommandHistory
-commandsIn state slots = original (entriesIn (historyIn state) slots) (historyIn state .place)
+commandsIn state slots = original (journalOf (historyIn state) slots)
 
 -- one turn of the Rust's loop: the state, the bytes in both buffers, and the answer, whose number, value, kind and second value are the 64 bits
 pub record PacksTurn (prompt : List ℕ) (shell : Shell) (byte : ℕ) (line screen : List ℕ) (p : ℕ) (after : Shell) (line′ screen′ : List ℕ) : Type 0 where
@@ -254,35 +258,41 @@ done-add BadHistory p e z = absurd (omega arith)
 done-add (TooLong n) p e z = absurd (omega arith)
 done-add (IllFormed n) p e z = absurd (omega arith)
 
+-- a good editor's line has all its bytes
+line-whole : (e : Editor) → goodLine e ≡ true → length (e .line) ≡ 255
+line-whole e g = length-of e (good-line e g) .0
+
 module _ (state slots prompt : List ℕ) (byte : ℕ) (line screen : List ℕ) (p : ℕ) (state′ slots′ line′ screen′ : List ℕ) where
   key-as-rust : KeyCall state slots prompt byte line screen p state′ slots′ line′ screen′ → goodSaved state slots ≡ true → numberIn p ≡ 0
       → PacksTurn prompt (shellIn state slots) byte line screen p (shellIn state′ slots′) line′ screen′
-  key-as-rust c good zero =
+  key-as-rust c fine zero =
       let b = key-behind state slots prompt byte line screen p state′ slots′ line′ screen′ c in
-      let is = good-saved-parts state slots good in
+      let is = good-saved-parts state slots fine in
       let k : KeyAnswer = keyFor state (turnIn state slots prompt byte) (b .0) in
       let saved : state′ ≡ savedOf (k .editor) (k .history) = key-saved state slots prompt byte line screen (b .0) state′ slots′ line′ screen′ (b .1) (is .0) in
-      let d = key (editorIn state) (historyIn state) slots prompt byte line screen k slots′ line′ screen′
-      (key-by-value state slots prompt byte line screen (b .0) state′ slots′ line′ screen′ (b .1) (is .0)) (taken-key (b .0) p (b .2) zero) (is .1) in
+      let by-value = key-by-value state slots prompt byte line screen (b .0) state′ slots′ line′ screen′ (b .1) (is .0) in
+      let d = key (editorIn state) (historyIn state) slots prompt byte line screen k slots′ line′ screen′ by-value (taken-key (b .0) p (b .2) zero) (is .1) in
+      let stays = stays-good (editorIn state) (historyIn state) slots prompt byte line screen k slots′ line′ screen′ (is .1) by-value in
+      let whole = line-whole (k .editor) (good-parts (k .editor) (k .history) slots′ stays .0) in
       record {
         told = b .0;
         bits = b .2;
-        turn = record { state = ap (λ (x : List ℕ). shellIn x slots′) saved ∙ ap shellOf (held-saved (k .editor) (k .history) slots′) ∙ d .state; answer = d .answer; given = d .given; shown = d .shown };
+        turn = record { state = ap (λ (x : List ℕ). shellIn x slots′) saved ∙ ap shellOf (held-saved (k .editor) (k .history) slots′ whole) ∙ d .state; answer = d .answer; given = d .given; shown = d .shown };
       }
 
 module _ (state slots text : List ℕ) (p : ℕ) (state′ slots′ : List ℕ) where
   add-as-rust : AddCall state slots text p state′ slots′ → goodSaved state slots ≡ true → numberIn p ≡ 0 → addCommand (commandsIn state slots) text ≡ commandsIn state′ slots′
-  add-as-rust c good zero =
+  add-as-rust c fine zero =
       let b = add-behind state slots text p state′ slots′ c in
-      let is = good-saved-parts state slots good in
+      let is = good-saved-parts state slots fine in
       let fair = good-parts (editorIn state) (historyIn state) slots (is .1) .0 in
       let done = done-add (b .0) p (b .2) zero in
-      let after : Added → History = λ x. historyBy x (historyIn state) (entriesAfter (historyIn state) slots text) in
+      let after : Added → History = λ x. recordBy x (historyIn state) (offered text (journalOf (historyIn state) slots)) in
       let held : historyIn state′ ≡ after Done =
-      ap historyIn (add-saved state slots text (b .0) state′ slots′ (b .1) (is .0) fair) ∙ history-saved (editorIn state) (after (b .0)) ∙ ap after done in
+      ap historyIn (add-saved state slots text (b .0) state′ slots′ (b .1) (is .0) fair) ∙ history-saved (editorIn state) (after (b .0)) (line-whole (editorIn state) fair) ∙ ap after done in
       add-command (historyIn state) slots text (after Done) slots′
       (subst (λ (x : Added). Addition (historyIn state) slots text (after x) x slots′) done (add-by-value state slots text (b .0) state′ slots′ (b .1) (is .0) fair))
-      ∙ ap (λ (h : History). original (entriesIn h slots′) (h .place)) (sym held)
+      ∙ ap (λ (h : History). original (journalOf h slots′)) (sym held)
 
 pub packs-as-rust : (image : List ℕ) (tree : Commands) → SameAsRust image tree → PacksAsRust image tree
 packs-as-rust image tree same =

@@ -8,22 +8,24 @@ use lib.ListN.{length}
 use Rattle.buffer.specs.Write.{over}
 use Rattle.text.specs.Decoding.{wellFormedLength}
 use Rattle.text.specs.Decoding.{wellFormed}
-use Rattle.history.specs.Slots.{layout, good}
-use Rattle.history.specs.Answer.{atEnd, entriesAfter, addAnswer, historyBy, slotsBy, Addition, number as addedNumber, value as addedValue}
+use Rattle.history.specs.Journal.{Journal, noEntries, offered, recordOf, journalOf, good, slotsOf as journalSlots}
+use Rattle.history.specs.Answer.{addAnswer, recordBy, slotsBy, Addition, number as addedNumber, value as addedValue}
 use Rattle.history.specs.declared.stepping.History.{History}
 use Rattle.history.specs.declared.adding.Added.{Added}
 use Rattle.history.specs.declared.adding.Added.the-variants.{Done, BadState as BadHistory, TooLong, IllFormed}
 use Rattle.screen.specs.Redraw.{redraw, greatest, roomAnswer, Redraw, leavesBy as drawnLeaves, number as drawnNumber, value as drawnValue}
 use Rattle.screen.specs.declared.line.Redrawn.{Redrawn}
+use Rattle.history.specs.Saved.{savedSize as historySize}
+use Rattle.editor.specs.Saved.{savedSize as editorSize}
 use Rattle.editor.specs.declared.line.Editor.{Editor}
 use Rattle.editor.specs.declared.drawing.KeyAnswer.{KeyAnswer}
 use Rattle.editor.specs.declared.drawing.Pressed.{Pressed}
 use Rattle.editor.specs.declared.drawing.Pressed.the-variants.{BadState, BadPrompt, NoRoom}
 use Rattle.editor.specs.Line.{limit, freshEditor, goodLine}
-use Rattle.editor.specs.Keys.{Kind, shows, enters, drops, Turn, turnOf}
+use Rattle.editor.specs.Turns.{Kind, shows, enters, drops, Turn, turnOf}
 use Rattle.editor.specs.Answer.{stateOf, editorOf, historyOf, slotsOf, goodState, goodPrompt, taken, turnAnswer, keyAnswer, refused, Pressing, number as pressedNumber, value as pressedValue, kindNumber, kind as pressedKind, beside as pressedBeside}
 use Rattle.editor.proofs.Called.{counted}
-use Rattle.state.specs.State.{savedOf, isState, editorIn, historyIn, goodSaved}
+use Rattle.state.specs.State.{stateSize, savedOf, isState, editorIn, historyIn, goodSaved}
 use Rattle.state.specs.Calls.{beginAnswer, isReady, Beginning, turnIn, pressAnswer, savedAfter, SavedKey, savedAnswer, stateBy, SavedAdd, number as begunNumber, value as begunValue}
 use Rattle.state.specs.declared.calls.Begun.{Begun}
 use Rattle.promises.proofs.Tables.{Answered, told, Row, row, first, lacks, either, telling, pair}
@@ -32,21 +34,21 @@ use Rattle.promises.proofs.Tables.{Answered, told, Row, row, first, lac
 unfoldable pub addTable : History → List ℕ → List ℕ → Answered (History × List ℕ)
 addTable h slots text =
     first
-    (row 12 (not (good (h .count) (h .place) slots)) 0 (h, slots)
+    (row 12 (not (good h slots)) 0 (h, slots)
     ∷ row 13 (ltb 255 (length text)) (length text) (h, slots)
     ∷ row 3 (not (wellFormed text)) (wellFormedLength text) (h, slots)
     ∷ [])
-    (told 0 0 (atEnd (length (entriesAfter h slots text)), layout (entriesAfter h slots text)))
+    (told 0 0 (recordOf (offered text (journalOf h slots)), journalSlots (offered text (journalOf h slots))))
 
 pub add-tells : (h : History) (slots text : List ℕ) (r : History) (a : Added) (left : List ℕ) → Addition h slots text r a left
     → told (addedNumber a) (addedValue a) (r, left) ≡ addTable h slots text
 unfolding addTable first addAnswer
 add-tells h slots text r a left t =
     telling addedNumber addedValue _ _ (r, left) _ (t .answer) (pair (t .state) (t .bytes))
-    ∙ by (good (h .count) (h .place) slots) (ltb 255 (length text)) (wellFormed text)
+    ∙ by (good h slots) (ltb 255 (length text)) (wellFormed text)
   where
     tells : Added → Answered (History × List ℕ)
-    tells x = told (addedNumber x) (addedValue x) (historyBy x h (entriesAfter h slots text), slotsBy x slots (entriesAfter h slots text))
+    tells x = told (addedNumber x) (addedValue x) (recordBy x h (offered text (journalOf h slots)), slotsBy x slots (offered text (journalOf h slots)))
 
     by : (g l w : Bool) → tells (cond g (cond l (TooLong (length text)) (cond w Done (IllFormed (wellFormedLength text)))) BadHistory)
         ≡ cond (not g) (told 12 0 (h, slots)) (cond l (told 13 (length text) (h, slots)) (cond (not w) (told 3 (wellFormedLength text) (h, slots)) (tells Done)))
@@ -196,13 +198,13 @@ press-tells state slots prompt byte line screen r state′ slots′ line′ scre
 -- ADD on a saved state: 12 also for a bad line, 13, 3
 unfoldable pub savedAddTable : List ℕ → List ℕ → List ℕ → Answered (List ℕ × List ℕ)
 savedAddTable state slots text =
-    let es : List (List ℕ) = entriesAfter (historyIn state) slots text in
+    let j : Journal = offered text (journalOf (historyIn state) slots) in
     first
     (row 12 (not (goodSaved state slots)) 0 (state, slots)
     ∷ row 13 (ltb 255 (length text)) (length text) (state, slots)
     ∷ row 3 (not (wellFormed text)) (wellFormedLength text) (state, slots)
     ∷ [])
-    (told 0 0 (savedOf (editorIn state) (atEnd (length es)), layout es))
+    (told 0 0 (savedOf (editorIn state) (recordOf j), journalSlots j))
 
 pub saved-add-tells : (state slots text : List ℕ) (r : Added) (state′ slots′ : List ℕ) → SavedAdd state slots text r state′ slots′
     → told (addedNumber r) (addedValue r) (state′, slots′) ≡ savedAddTable state slots text
@@ -210,12 +212,12 @@ unfolding savedAddTable first savedAnswer addAnswer goodSaved goodState
 saved-add-tells state slots text r state′ slots′ p =
     ap (told (addedNumber r) (addedValue r)) (pair (p .kept) (p .held))
     ∙ ap tells (p .answer)
-    ∙ by (isState state) (goodLine (editorIn state)) (good (historyIn state .count) (historyIn state .place) slots) (ltb 255 (length text)) (wellFormed text)
+    ∙ by (isState state) (goodLine (editorIn state)) (good (historyIn state) slots) (ltb 255 (length text)) (wellFormed text)
   where
     tells : Added → Answered (List ℕ × List ℕ)
     tells x =
         told (addedNumber x) (addedValue x)
-        (stateBy x state (length (entriesAfter (historyIn state) slots text)), slotsBy x slots (entriesAfter (historyIn state) slots text))
+        (stateBy x state (offered text (journalOf (historyIn state) slots)), slotsBy x slots (offered text (journalOf (historyIn state) slots)))
 
     by : (s g h l w : Bool) → tells (cond s (cond g (cond h (cond l (TooLong (length text)) (cond w Done (IllFormed (wellFormedLength text)))) BadHistory) BadHistory) BadHistory)
         ≡ cond (not (cond s (cond g h false) false)) (told 12 0 (state, slots)) (cond l (told 13 (length text) (state, slots)) (cond (not w) (told 3 (wellFormedLength text) (state, slots)) (tells Done)))
@@ -235,11 +237,11 @@ beginTable state slots =
     ∷ row 12 (ltb 260 (length state)) 0 (state, slots)
     ∷ row 12 (ltb 25600 (length slots)) 0 (state, slots)
     ∷ [])
-    (told 0 0 (savedOf freshEditor (atEnd 0), layout []))
+    (told 0 0 (savedOf freshEditor (recordOf noEntries), journalSlots noEntries))
 
 pub begin-tells : (state slots : List ℕ) (r : Begun) (state′ slots′ : List ℕ) → Beginning state slots r state′ slots′
     → told (begunNumber r) (begunValue r) (state′, slots′) ≡ beginTable state slots
-unfolding beginTable first beginAnswer
+unfolding beginTable first beginAnswer stateSize editorSize historySize
 begin-tells state slots r state′ slots′ p =
     ap (told (begunNumber r) (begunValue r)) (pair (p .kept) (p .held))
     ∙ ap tells (p .answer)
@@ -247,4 +249,4 @@ begin-tells state slots r state′ slots′ p =
     (either tells (ltb (length slots) 25600) _ _ _ _ refl (either tells (ltb 260 (length state)) _ _ _ _ refl (either tells (ltb 25600 (length slots)) _ _ _ _ refl refl)))
   where
     tells : Begun → Answered (List ℕ × List ℕ)
-    tells x = told (begunNumber x) (begunValue x) (cond (isReady x) (savedOf freshEditor (atEnd 0)) state, cond (isReady x) (layout []) slots)
+    tells x = told (begunNumber x) (begunValue x) (cond (isReady x) (savedOf freshEditor (recordOf noEntries)) state, cond (isReady x) (journalSlots noEntries) slots)

@@ -9,16 +9,15 @@ use borrow.Author.Tests.{ltb-true, ltb-false}
 use Rattle.tree.specs.declared.check.Checked.{Checked}
 use Rattle.tree.specs.declared.check.Checked.the-variants.{Good, BadFrame}
 use Rattle.growth.specs.Growth.{admits}
-use Rattle.history.specs.Slots.{layout}
-use Rattle.history.specs.Answer.{atEnd}
+use Rattle.history.specs.Journal.{noEntries, recordOf, good, slotsOf as journalSlots}
 use Rattle.history.specs.declared.stepping.History.{History}
-use Rattle.editor.specs.declared.line.Mode.the-variants.{Typing}
+use Rattle.keys.specs.declared.meaning.Mode.the-variants.{Typing}
 use Rattle.editor.specs.declared.line.Editor.{Editor}
 use Rattle.editor.specs.declared.drawing.KeyAnswer.{KeyAnswer}
 use Rattle.editor.specs.declared.drawing.Pressed.{Pressed}
 use Rattle.editor.specs.declared.drawing.Pressed.the-variants.{Dropped}
 use Rattle.editor.specs.Line.{limit, freshEditor}
-use Rattle.editor.specs.Keys.{State}
+use Rattle.editor.specs.Turns.{State}
 use Rattle.editor.specs.Answer.{stateOf, goodState, goodPrompt, refused, Pressing}
 use Rattle.editor.proofs.Fine.{fine-of, fine-good, turn-fine, stays-good}
 use Rattle.editor.proofs.Called.{dropped, typing-back}
@@ -72,7 +71,7 @@ full-line-saved = dropped-saved
 
 -- NO BAD STATE in a session: what its lines and keys reach from `Session::fresh` and slots that hold no entry, each with buffers of its own, refused or not
 pub data ReachedInSession : Session → List ℕ → Type 0 where
-  begun : ReachedInSession fresh (layout [])
+  begun : ReachedInSession fresh (journalSlots noEntries)
   by-line : {h : Session} {slots line image frame image′ frame′ : List ℕ} {r : Took} → ReachedInSession h slots → TakingLine h line image frame r image′ frame′
       → ReachedInSession (r .session) slots
   by-key : {h : Session} {image slots out slots′ out′ : List ℕ} {byte : ℕ} {r : SessionKey} → ReachedInSession h slots → PressingKey h image slots byte out r slots′ out′
@@ -129,7 +128,7 @@ key-good h image slots byte out r slots′ out′ p g = by (ltb (length out) key
         ∙ fine-good s (turn-fine prompt (stateOf (h .editor) (h .history) slots) byte (fine-of (h .editor) (h .history) slots g))
 
 pub never-bad-in-session : (h : Session) (slots : List ℕ) → ReachedInSession h slots → goodState (h .editor) (h .history) slots ≡ true
-never-bad-in-session _ _ begun = never-bad-by-value freshEditor (atEnd 0) (layout []) (by-fresh (record { state = refl; bytes = refl }))
+never-bad-in-session _ _ begun = never-bad-by-value freshEditor (recordOf noEntries) (journalSlots noEntries) (by-fresh (record { state = refl; bytes = refl }))
 never-bad-in-session _ slots (by-line {h} {line = line} {image = image} {frame = frame} {image′ = image′} {frame′ = frame′} {r = r} m t) =
     line-good h slots line image frame image′ frame′ r t (never-bad-in-session h slots m)
 never-bad-in-session _ slots′ (by-key {h} {image} {slots} {out} {out′ = out′} {byte = byte} {r = r} m p) =

@@ -15,8 +15,8 @@ use Rattle.words.proofs.Answers.{one-answer as one-tokenize}
 use Rattle.quote.specs.Answer.{Quotation}
 use Rattle.quote.specs.declared.quoter.Quoted.{Quoted}
 use Rattle.quote.proofs.Answers.{one-answer as one-quote}
-use Rattle.history.specs.Slots.{layout}
-use Rattle.history.specs.Answer.{atEnd, entriesAfter, slotsBy, Addition}
+use Rattle.history.specs.Journal.{noEntries, offered, recordOf, journalOf, slotsOf as journalSlots}
+use Rattle.history.specs.Answer.{slotsBy, Addition}
 use Rattle.history.specs.declared.stepping.History.{History}
 use Rattle.history.specs.declared.adding.Added.{Added}
 use Rattle.history.proofs.Answers.{one-answer as one-add}
@@ -123,16 +123,16 @@ module _ (state slots : List ℕ) (state₁ slots₁ state₂ slots₂ : List �
   begin r q a b =
       let e = one r q _ (a .answer) (b .answer) in (
         e,
-        a .kept ∙ ap (λ (x : Begun). cond (isReady x) (savedOf freshEditor (atEnd 0)) state) e ∙ sym (b .kept),
-        a .held ∙ ap (λ (x : Begun). cond (isReady x) (layout []) slots) e ∙ sym (b .held),
+        a .kept ∙ ap (λ (x : Begun). cond (isReady x) (savedOf freshEditor (recordOf noEntries)) state) e ∙ sym (b .kept),
+        a .held ∙ ap (λ (x : Begun). cond (isReady x) (journalSlots noEntries) slots) e ∙ sym (b .held),
       )
 
   pub add : (text : List ℕ) (r q : Added) → SavedAdd state slots text r state₁ slots₁ → SavedAdd state slots text q state₂ slots₂ → (r ≡ q) × (state₁ ≡ state₂) × (slots₁ ≡ slots₂)
   add text r q a b =
       let e = one r q _ (a .answer) (b .answer) in (
         e,
-        a .kept ∙ ap (λ (x : Added). stateBy x state (length (entriesAfter (historyIn state) slots text))) e ∙ sym (b .kept),
-        a .held ∙ ap (λ (x : Added). slotsBy x slots (entriesAfter (historyIn state) slots text)) e ∙ sym (b .held),
+        a .kept ∙ ap (λ (x : Added). stateBy x state (offered text (journalOf (historyIn state) slots))) e ∙ sym (b .kept),
+        a .held ∙ ap (λ (x : Added). slotsBy x slots (offered text (journalOf (historyIn state) slots))) e ∙ sym (b .held),
       )
 
   pub rissemat-fresh : (r q : ℕ) → FreshCall state slots r state₁ slots₁ → FreshCall state slots q state₂ slots₂ → (r ≡ q) × (state₁ ≡ state₂) × (slots₁ ≡ slots₂)

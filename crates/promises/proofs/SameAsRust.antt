@@ -54,8 +54,8 @@ use Rattle.session.specs.Lines.{Standing, pressKeys, session}
 use Rattle.session.specs.Calls.{imageOf, isEnter, keyRoom, PressingKey}
 use Rattle.session.specs.declared.standing.Session.{Session}
 use Rattle.session.specs.declared.pressing.Pressing.{Pressing as Press}
-use Rattle.history.specs.Slots.{good}
-use Rattle.history.specs.Answer.{entriesIn, Addition}
+use Rattle.history.specs.Journal.{noEntries, journalOf, good}
+use Rattle.history.specs.Answer.{Addition}
 use Rattle.history.specs.Steps.{back, onward}
 use Rattle.history.specs.declared.stepping.History.{History}
 use Rattle.history.specs.declared.adding.Added.the-variants.{Done}
@@ -64,24 +64,24 @@ use Rattle.screen.specs.Redraw.{redraw}
 use Rattle.screen.proofs.Numerals.{Digits, decimal-one, decimal-value, decimal-digits, decimal-lead}
 use Rattle.editor.specs.declared.line.Editor.{Editor}
 use Rattle.editor.specs.declared.drawing.KeyAnswer.{KeyAnswer}
-use Rattle.editor.specs.Keys.{State, turnOf}
+use Rattle.editor.specs.Turns.{State, turnOf}
 use Rattle.editor.specs.Answer.{stateOf, goodState, refused, Pressing}
 use Rattle.editor.proofs.Fine.{Fine}
 use Rattle.promises.proofs.Std.{propList, Listed, white-is-listed, listed-is-white, Splitting, splitting}
 
 -- HISTORY (002): `CommandHistory::new(100)`, and its add_command on the entries and the place that record and slots hold
-pub history-new : original [] 0 ≡ new 100
+pub history-new : original noEntries ≡ new 100
 history-new = fresh-is
 
 pub add-command : (h : History) (slots text : List ℕ) (r : History) (left : List ℕ) → Addition h slots text r Done left
-    → addCommand (original (entriesIn h slots) (h .place)) text ≡ original (entriesIn r left) (r .place)
+    → addCommand (original (journalOf h slots)) text ≡ original (journalOf r left)
 add-command = add-as-rust
 
 -- its previous and next: the place that a step leads to, and the entry of the number that it recalls, in a good state
-pub step-back : (h : History) (slots : List ℕ) → good (h .count) (h .place) slots ≡ true → previous (original (entriesIn h slots) (h .place)) ≡ stepIn (entriesIn h slots) (back h)
+pub step-back : (h : History) (slots : List ℕ) → good h slots ≡ true → previous (original (journalOf h slots)) ≡ stepIn (journalOf h slots) (back h)
 step-back = previous-as-rust
 
-pub step-on : (h : History) (slots : List ℕ) → good (h .count) (h .place) slots ≡ true → next (original (entriesIn h slots) (h .place)) ≡ stepIn (entriesIn h slots) (onward h)
+pub step-on : (h : History) (slots : List ℕ) → good h slots ≡ true → next (original (journalOf h slots)) ≡ stepIn (journalOf h slots) (onward h)
 step-on = next-as-rust
 
 -- its clear_line_and_redraw: the bytes that a redraw shows

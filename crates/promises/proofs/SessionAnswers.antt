@@ -7,7 +7,7 @@ use lib.ListN.{length}
 use Rattle.buffer.proofs.Choices.{then-is}
 use Rattle.tree.specs.Rules.{checkTree}
 use Rattle.tree.specs.declared.check.Checked.the-variants.{Good, BadFrame}
-use Rattle.history.specs.Slots.{layout}
+use Rattle.history.specs.Journal.{noEntries, slotsOf as journalSlots}
 use Rattle.editor.specs.Answer.{goodState}
 use Rattle.session.specs.Lines.{Standing, beginning, takeLine, pressKey}
 use Rattle.session.specs.Held.{Laid}
@@ -65,7 +65,7 @@ pub refuse-9 : (n : ℕ) (out : List ℕ) (r : Printing) (out′ : List ℕ) →
 refuse-9 n out r out′ p e = (ap number (p .short e .0), ap value (p .short e .0), p .short e .1)
 
 -- FROM FRESH: a session that is held stays held, and each line and each key is answered as the definitions say
-pub begins : (image : List ℕ) → Holds beginning fresh image (layout [])
+pub begins : (image : List ℕ) → Holds beginning fresh image (journalSlots noEntries)
 begins = holds-fresh
 
 module _ (s : Standing) (h : Session) (image slots : List ℕ) (k : Holds s h image slots) where
@@ -79,7 +79,7 @@ module _ (s : Standing) (h : Session) (image slots : List ℕ) (k : Holds s h im
 
 -- THE PROGRAM'S BYTES: `console bytes` is all that is written for all that is read, bytes cut into lines, the lines a session, a house line a frame. A stream that
 -- begins with slots of zeros stands at the start and is one that a step can be made of, and each step leaves one (`Stepped`).
-pub stream-begins : (line image : List ℕ) → length line ≡ lineRoom → length image ≡ 32768 → Sound starting line image (layout []) × (standOf starting line image (layout []) ≡ start)
+pub stream-begins : (line image : List ℕ) → length line ≡ lineRoom → length image ≡ 32768 → Sound starting line image (journalSlots noEntries) × (standOf starting line image (journalSlots noEntries) ≡ start)
 stream-begins line image l i = (start-sound line image l i, start-stands line image)
 
 -- a step prints what the definition prints next, whatever bytes may follow the piece, and what is still to be printed then is printed from where it leads

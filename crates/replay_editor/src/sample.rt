@@ -1,5 +1,5 @@
 // The stored sample: each line of the input is a stream of keys in hexadecimal, and is answered by a line.
-use crate::keys::press_all;
+use crate::pressing::press_all;
 use replay::hex::read_hex;
 use replay::input::line_end;
 use replay::input::read_input;

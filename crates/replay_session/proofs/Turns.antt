@@ -1,16 +1,16 @@
 -- Where a stream begins, and what is left of a piece.
 use Prim.Native.Nat.{ℕ, _+_, _≤_}
 use mathlib.Core.Path.{_≡_, ap}
-use mathlib.Core.List.{List, []}
+use mathlib.Core.List.{List}
 use native.Mathlib.Omega.{arith}
 use lib.ListN.{length, drop, length-drop}
-use Rattle.history.specs.Slots.{layout}
+use Rattle.history.specs.Journal.{noEntries, slotsOf}
 use Rattle.stream.specs.Bytes.{lineRoom}
 use Rattle.stream.specs.Held.{starting, Sound}
 use Rattle.stream.proofs.Standings.{start-sound}
 
 -- at the beginning
-pub begins : (line image slots : List ℕ) → length line ≡ lineRoom → length image ≡ 32768 → slots ≡ layout [] → Sound starting line image slots
+pub begins : (line image slots : List ℕ) → length line ≡ lineRoom → length image ≡ 32768 → slots ≡ slotsOf noEntries → Sound starting line image slots
 begins line image slots l m s = rw s (start-sound line image l m)
 
 -- what is taken of the rest of a piece lies within the piece

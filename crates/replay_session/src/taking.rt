@@ -10,7 +10,7 @@ ghost use mathlib.Core.Bool.{false};
 ghost use mathlib.Core.List.{[]};
 ghost use Prim.Native.Nat.{_<_, _≤_};
 ghost use lib.ListN.{length};
-ghost use Rattle.history.specs.Slots.{layout};
+ghost use Rattle.history.specs.Journal.{noEntries, slotsOf};
 ghost use Rattle.stream.specs.Bytes.{lineRoom};
 ghost use Rattle.stream.specs.Held.{busyWith, Sound};
 
@@ -113,7 +113,7 @@ pub fn take_all(
     out: &mut [u8],
     answer: &mut [u8],
 ) -> usize
-    requires { ⌜ (length (now line) ≡ lineRoom) × (length (now image) ≡ 32768) × (now slots ≡ layout []) × (0 < size) × (7 ≤ length (now out)) ⌝ }
+    requires { ⌜ (length (now line) ≡ lineRoom) × (length (now image) ≡ 32768) × (now slots ≡ slotsOf noEntries) × (0 < size) × (7 ≤ length (now out)) ⌝ }
 {
     let mut told = Taken {
         stream: Stream::start(),

@@ -1,33 +1,14 @@
 // The ways by which a session is replayed: in pieces of 1, 7, 64 and 1,000 bytes and all at once, and with room for what one key may print or two.
 use crate::taking::take_all;
+use stream::blank_image;
+use stream::blank_line;
+use stream::blank_slots;
 ghost use mathlib.Core.Path.{_≡_};
-ghost use mathlib.Core.List.{[]};
 ghost use Prim.Native.Nat.{_<_, _≤_};
 ghost use lib.ListN.{length};
-ghost use Rattle.history.specs.Slots.{layout};
-ghost use Rattle.stream.specs.Bytes.{lineRoom};
 
 // The number of ways: five sizes of pieces, and one of them again with more room.
 pub const WAYS: usize = 6;
-
-// No entry.
-fn blank_slots() -> [u8; 25600]
-    ensures { λ r. ⌜ r ≡ layout [] ⌝ }
-{
-    [0; 25600]
-}
-
-fn blank_image() -> [u8; 32768]
-    ensures { λ r. ⌜ length r ≡ 32768 ⌝ }
-{
-    [0; 32768]
-}
-
-fn blank_line() -> [u8; 1026]
-    ensures { λ r. ⌜ length r ≡ lineRoom ⌝ }
-{
-    [0; 1026]
-}
 
 // Room for what one key may print.
 fn blank_out() -> [u8; 131101]

@@ -9,8 +9,8 @@ use Rattle.words.specs.Answer.{Tokenized, number, value}
 use Rattle.quote.specs.declared.quoter.Quoted.{Quoted}
 use Rattle.quote.specs.Answer.{Quotation, number as quoteNumber, value as quoteValue}
 use Rattle.buffer.specs.Write.{over}
-use Rattle.history.specs.Slots.{layout}
-use Rattle.history.specs.Answer.{atEnd, entriesAfter, slotsBy, number as addNumber, value as addValue}
+use Rattle.history.specs.Journal.{noEntries, offered, recordOf, slotsOf as journalSlots, journalOf}
+use Rattle.history.specs.Answer.{slotsBy, number as addNumber, value as addValue}
 use Rattle.history.specs.declared.adding.Added.{Added}
 use Rattle.editor.specs.declared.drawing.Pressed.{Pressed}
 use Rattle.editor.specs.Line.{freshEditor}
@@ -43,8 +43,8 @@ pub fresh-call : (state slots state′ slots′ : List ℕ) (r q : Begun) (p : �
 fresh-call state slots state′ slots′ r q p h e f =
     record {
       answer = f ∙ ap (λ (x : Begun). plain (beginNumber x) (beginValue x)) (sym e ∙ h .answer);
-      kept = h .kept ∙ ap (λ (x : Begun). cond (isReady x) (savedOf freshEditor (atEnd 0)) state) (h .answer);
-      held = h .held ∙ ap (λ (x : Begun). cond (isReady x) (layout []) slots) (h .answer);
+      kept = h .kept ∙ ap (λ (x : Begun). cond (isReady x) (savedOf freshEditor (recordOf noEntries)) state) (h .answer);
+      held = h .held ∙ ap (λ (x : Begun). cond (isReady x) (journalSlots noEntries) slots) (h .answer);
     }
 
 pub key-call : (state slots prompt : List ℕ) (byte : ℕ) (line screen state′ slots′ line′ screen′ : List ℕ) (r q : Pressed) (p : ℕ)
@@ -64,8 +64,8 @@ pub add-call : (state slots text state′ slots′ : List ℕ) (r q : Added) (p 
 add-call state slots text state′ slots′ r q p h e f =
     record {
       answer = f ∙ ap (λ (x : Added). plain (addNumber x) (addValue x)) (sym e ∙ h .answer);
-      kept = h .kept ∙ ap (λ (x : Added). stateBy x state (length (entriesAfter (historyIn state) slots text))) (h .answer);
-      held = h .held ∙ ap (λ (x : Added). slotsBy x slots (entriesAfter (historyIn state) slots text)) (h .answer);
+      kept = h .kept ∙ ap (λ (x : Added). stateBy x state (offered text (journalOf (historyIn state) slots))) (h .answer);
+      held = h .held ∙ ap (λ (x : Added). slotsBy x slots (offered text (journalOf (historyIn state) slots))) (h .answer);
     }
 
 pub tree-call : (image : List ℕ) (r q : Checked) (p : ℕ) → r ≡ checkTree image → r ≡ q → p ≡ plain (treeNumber q) (treeValue q) → TreeCall image p

@@ -8,8 +8,8 @@ use lib.ListN.{length}
 use Rattle.buffer.specs.Write.{over}
 use Rattle.words.specs.Answer.{answerFor, leavesFor, number, value}
 use Rattle.quote.specs.Answer.{quoteAnswer, quoteLeaves, number as quoteNumber, value as quoteValue}
-use Rattle.history.specs.Slots.{layout}
-use Rattle.history.specs.Answer.{atEnd, entriesAfter, slotsBy, number as addNumber, value as addValue}
+use Rattle.history.specs.Journal.{noEntries, offered, recordOf, slotsOf as journalSlots, journalOf}
+use Rattle.history.specs.Answer.{slotsBy, number as addNumber, value as addValue}
 use Rattle.editor.specs.declared.drawing.Pressed.{Pressed}
 use Rattle.editor.specs.Line.{freshEditor}
 use Rattle.editor.specs.Answer.{slotsOf, refused, number as keyNumber, value as keyValue, kind as keyKind, beside as keyBeside}
@@ -33,8 +33,8 @@ pub record QuoteCall (words out : List ℕ) (r : ℕ) (left : List ℕ) : Type 0
 
 pub record FreshCall (state slots : List ℕ) (r : ℕ) (state′ slots′ : List ℕ) : Type 0 where
   pub answer : r ≡ plain (beginNumber (beginAnswer (length state) (length slots))) (beginValue (beginAnswer (length state) (length slots)))
-  pub kept : state′ ≡ cond (isReady (beginAnswer (length state) (length slots))) (savedOf freshEditor (atEnd 0)) state
-  pub held : slots′ ≡ cond (isReady (beginAnswer (length state) (length slots))) (layout []) slots
+  pub kept : state′ ≡ cond (isReady (beginAnswer (length state) (length slots))) (savedOf freshEditor (recordOf noEntries)) state
+  pub held : slots′ ≡ cond (isReady (beginAnswer (length state) (length slots))) (journalSlots noEntries) slots
 
 -- a key has three kinds of answer: 1 at Enter, with the length of the line that is submitted as second value; 2 when the byte was dropped; 0 otherwise
 unfoldable pub keyTold : Pressed → ℕ
@@ -52,8 +52,8 @@ pub record KeyCall (state slots prompt : List ℕ) (byte : ℕ) (line screen : L
 
 pub record AddCall (state slots text : List ℕ) (r : ℕ) (state′ slots′ : List ℕ) : Type 0 where
   pub answer : r ≡ plain (addNumber (savedAnswer state slots text)) (addValue (savedAnswer state slots text))
-  pub kept : state′ ≡ stateBy (savedAnswer state slots text) state (length (entriesAfter (historyIn state) slots text))
-  pub held : slots′ ≡ slotsBy (savedAnswer state slots text) slots (entriesAfter (historyIn state) slots text)
+  pub kept : state′ ≡ stateBy (savedAnswer state slots text) state (offered text (journalOf (historyIn state) slots))
+  pub held : slots′ ≡ slotsBy (savedAnswer state slots text) slots (offered text (journalOf (historyIn state) slots))
 
 pub record TreeCall (image : List ℕ) (r : ℕ) : Type 0 where
   pub answer : r ≡ plain (treeNumber (checkTree image)) (treeValue (checkTree image))

@@ -17,8 +17,9 @@ use Rattle.tree.specs.Forest.{Forest, bare, grown}
 use Rattle.ink.specs.Ascii.{ascii}
 use Rattle.screen.specs.Decimal.{digitsIn, decimal}
 use Rattle.report.specs.Report.{optionFrame, flagFrame, reportOf}
-use Rattle.editor.specs.declared.line.Mode.the-variants.{Typing}
-use Rattle.editor.specs.Keys.{freshState}
+use Rattle.history.specs.Journal.{noEntries}
+use Rattle.keys.specs.declared.meaning.Mode.the-variants.{Typing}
+use Rattle.editor.specs.Turns.{freshState}
 use Rattle.session.specs.Prints.{screen, handler, exit, shown}
 use Rattle.rust.specs.Std.{isUtf8, join, leftIn, println, startsWith, stripPrefix, utf8OrEmpty}
 use Rattle.rust.specs.Tree.{Commands, insertNode, get, someOf, optionDefs, flagDefs, commandsOf}
@@ -109,9 +110,9 @@ sessions :
     ∷ screen (ascii "axvisor:$ ")
     ∷ [])
     × (printedBy all tree (turnsFrom freshState (ascii "\n") .events) ≡ screen (0x0A ∷ []) ∷ screen (ascii "axvisor:$ ") ∷ [])
-    × (printedBy all tree (turnFrom (record { line = 0xFF ∷ []; cursor = 1; mode = Typing; entries = []; place = 0 }) 0x0A .events)
+    × (printedBy all tree (turnFrom (record { line = 0xFF ∷ []; cursor = 1; mode = Typing; history = noEntries }) 0x0A .events)
     ≡ screen (0x0A ∷ []) ∷ screen (ascii "Error: Input contains invalid UTF-8 characters\n") ∷ screen (ascii "axvisor:$ ") ∷ [])
-    × (printedBy all tree (turnFrom (record { line = ascii "exit"; cursor = 4; mode = Typing; entries = []; place = 0 }) 0x0D .events) ≡ screen (0x0A ∷ []) ∷ screen (ascii "Goodbye!\n") ∷ exit ∷ [])
-    × (endedBy all tree (turnFrom (record { line = ascii "exit"; cursor = 4; mode = Typing; entries = []; place = 0 }) 0x0D .events) ≡ true)
+    × (printedBy all tree (turnFrom (record { line = ascii "exit"; cursor = 4; mode = Typing; history = noEntries }) 0x0D .events) ≡ screen (0x0A ∷ []) ∷ screen (ascii "Goodbye!\n") ∷ exit ∷ [])
+    × (endedBy all tree (turnFrom (record { line = ascii "exit"; cursor = 4; mode = Typing; history = noEntries }) 0x0D .events) ≡ true)
 unfolding forest tree ascii sameBytes order insertNode get someOf optionDefs flagDefs commandsOf all decodeFirst table decodeTwo decodeThree decodeFour leastSecond greatestSecond within piecesFrom piecesOf codesOf codesIn bytesAll encode encodeAll among whiteSpace isWhiteSpace behindRun trimEnd trimmed wordsAfter wordsBetween wellFormedLength closed tokenizeFrom tokenize insert containsKey deepest findCommand any find isOption isFlag isShortOption isShortFlag optionNameByShort flagNameByShort stripPrefix startsWith findEquals optionValue longName shortNames shortOrPositional long turn parseArgsFrom parseArgs validateRequired parseCommand parseTokens parse println leftIn join forEach forEachNode labelStr optionLine flagLine nodeLine helpLines nodeUnder showHelp availableLine showAvailableCommands isUtf8 utf8OrEmpty along nodeAt report handle executeCommand runCmdBytes digitOf hexIn escapeUnicode isPrintable escapeDebug debugChars debugError handleBuiltinCommands runLine enter textOf numberBytes frameOf frameRuns optionFrame flagFrame reportOf keysOf reportFor digitsIn decimal last pushed kept addCommand clearLineAndRedraw promptWithoutFs crlf other normal rustIn rustKey rustKeys shown printedBy endedBy
 sessions = (refl, refl, refl, refl, refl)

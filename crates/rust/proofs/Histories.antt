@@ -13,17 +13,16 @@ use Rattle.text.specs.Decoding.{Piece, piecesOf, bytesAll}
 use Rattle.text.specs.Apart.{white, behindRun, trimEnd, beforeEnd, trimmed, allWhite, blank}
 use Rattle.text.proofs.Sights.{some-bytes}
 use Rattle.history.specs.Entries.{mostEntries, newestIs, isNew, withRoom, added}
-use Rattle.history.specs.Slots.{good}
-use Rattle.history.specs.Answer.{atEnd, entriesIn, entriesAfter, addAnswer, historyBy, slotsBy, Addition}
-use Rattle.history.specs.Steps.{back, recalledAt, onward}
+use Rattle.history.specs.Journal.{Journal, noEntries, count, entryOf, offered, atPlace, recordOf, slotsOf, journalOf, good}
+use Rattle.history.specs.Answer.{addAnswer, recordBy, slotsBy, Addition}
+use Rattle.history.specs.Steps.{placedAt, back, recalledAt, onward}
 use Rattle.history.specs.declared.stepping.History.{History}
 use Rattle.history.specs.declared.stepping.Recalled.the-variants.{Entry, Nothing}
 use Rattle.history.specs.declared.stepping.Step.{Step}
 use Rattle.history.specs.declared.adding.Added.{Added}
 use Rattle.history.specs.declared.adding.Added.the-variants.{Done}
-use Rattle.history.proofs.Layouts.{length-entries, entries-layout}
-use Rattle.history.proofs.States.{good-has}
-use Rattle.history.proofs.Called.{done-has, entries-after}
+use Rattle.history.proofs.Journals.{good-fair, fair-held, count-held, place-held}
+use Rattle.history.proofs.Called.{done-has, taken-fair}
 use Rattle.rust.specs.Std.{isEmpty}
 use Rattle.rust.specs.History.{new, last, isSome, pushed, kept, addCommand, Stepped, previous, next}
 use Rattle.rust.specs.Same.{original, stepIn}
@@ -80,12 +79,12 @@ kept-is es t =
     by false false = refl
 
 -- it begins as the Rust's does
-pub fresh-is : original [] 0 ≡ new 100
+pub fresh-is : original noEntries ≡ new 100
 fresh-is = refl
 
-pub add-is : (es : List (List ℕ)) (place : ℕ) (t : List ℕ) → addCommand (original es place) t ≡ original (added t es) (length (added t es))
+pub add-is : (j : Journal) (t : List ℕ) → addCommand (original j) t ≡ original (offered t j)
 unfolding addCommand
-add-is es place t = ap (λ (l : List (List ℕ)). original l (length l)) (kept-is es t)
+add-is j t = ap (λ (l : List (List ℕ)). original (record { entries = l; place = length l })) (kept-is (j .entries) t)
 
 -- an entry that is there
 found : (es : List (List ℕ)) (n : ℕ) → n < length es → getElem? es n ≡ some (getD es n [])
@@ -94,96 +93,86 @@ found (e ∷ es) zero h = refl
 found (e ∷ es) (suc n) h = found es n (omega arith)
 
 -- a step back and a step on, at a place among the entries: what the Rust gives back is the entry there
-pub previous-is : (es : List (List ℕ)) (place : ℕ) → place ≤ length es
-    → previous (original es place) ≡ cond (eqb place 0) (record { after = original es place; text = none }) (record { after = original es (place - 1); text = some (getD es (place - 1) []) })
-unfolding previous
-previous-is es place h = by (eqb place 0) refl
-  where
-    by : (t : Bool) → eqb place 0 ≡ t
-        → cond {A = Stepped} (ltb 0 place) (record { after = original es (place - 1); text = getElem? es (place - 1) }) (record { after = original es place; text = none })
-        ≡ cond t (record { after = original es place; text = none }) (record { after = original es (place - 1); text = some (getD es (place - 1) []) })
-    by true q = let z = eqb-true place 0 q in else-is _ _ _ (le-ltb 0 place (omega arith))
-    by false q =
-        let z = eqb-false place 0 q in
-        then-is _ _ _ (lt-ltb 0 place (omega arith))
-        ∙ ap (λ (x : Option (List ℕ)). record { after = original es (place - 1); text = x }) (found es (place - 1) (omega arith))
+module _ (j : Journal) (h : j .place ≤ count j) where
+  -- the Rust's history at another place, and what it gives back there
+  at : ℕ → Option (List ℕ) → Stepped
+  at place text = record { after = original (atPlace j place); text = text }
 
-pub next-is : (es : List (List ℕ)) (place : ℕ) → place ≤ length es
-    → next (original es place)
-    ≡ cond (ltb place (length es))
-    (record { after = original es (place + 1); text = cond (ltb (place + 1) (length es)) (some (getD es (place + 1) [])) none })
-    (record { after = original es place; text = none })
-unfolding next
-next-is es place h = by (ltb place (length es)) (ltb (place + 1) (length es)) refl refl
-  where
-    by : (t u : Bool) → ltb place (length es) ≡ t → ltb (place + 1) (length es) ≡ u
-        → cond {A = Stepped} t (record { after = original es (place + 1); text = cond u (getElem? es (place + 1)) none }) (record { after = original es place; text = none })
-        ≡ cond t (record { after = original es (place + 1); text = cond u (some (getD es (place + 1) [])) none }) (record { after = original es place; text = none })
-    by false u p q = refl
-    by true false p q = refl
-    by true true p q = ap (λ (x : Option (List ℕ)). record { after = original es (place + 1); text = x }) (found es (place + 1) (ltb-true _ _ q))
+  pub previous-is : previous (original j)
+      ≡ cond (eqb (j .place) 0) (record { after = original j; text = none }) (record { after = original (atPlace j (j .place - 1)); text = some (entryOf j (j .place - 1)) })
+  unfolding previous at
+  previous-is = by (eqb (j .place) 0) refl
+    where
+      by : (t : Bool) → eqb (j .place) 0 ≡ t
+          → cond {A = Stepped} (ltb 0 (j .place)) (at (j .place - 1) (getElem? (j .entries) (j .place - 1))) (record { after = original j; text = none })
+          ≡ cond t (record { after = original j; text = none }) (at (j .place - 1) (some (entryOf j (j .place - 1))))
+      by true q = let z = eqb-true (j .place) 0 q in else-is _ _ _ (le-ltb 0 (j .place) (omega arith))
+      by false q =
+          let z = eqb-false (j .place) 0 q in
+          then-is _ _ _ (lt-ltb 0 (j .place) (omega arith)) ∙ ap (at (j .place - 1)) (found (j .entries) (j .place - 1) (omega arith))
+
+  pub next-is : next (original j)
+      ≡ cond (ltb (j .place) (count j))
+      (record { after = original (atPlace j (j .place + 1)); text = cond (ltb (j .place + 1) (count j)) (some (entryOf j (j .place + 1))) none })
+      (record { after = original j; text = none })
+  unfolding next at
+  next-is = by (ltb (j .place) (count j)) (ltb (j .place + 1) (count j)) refl refl
+    where
+      by : (t u : Bool) → ltb (j .place) (count j) ≡ t → ltb (j .place + 1) (count j) ≡ u
+          → cond {A = Stepped} t (at (j .place + 1) (cond u (getElem? (j .entries) (j .place + 1)) none)) (record { after = original j; text = none })
+          ≡ cond t (at (j .place + 1) (cond u (some (entryOf j (j .place + 1))) none)) (record { after = original j; text = none })
+      by false u p q = refl
+      by true false p q = refl
+      by true true p q = ap (at (j .place + 1)) (found (j .entries) (j .place + 1) (ltb-true _ _ q))
 
 -- THE CALLS
--- the Rust's add_command on the entries and the place that record and slots hold
-holds : {r q : History} {s t : List ℕ} → r ≡ q → s ≡ t → entriesIn r s ≡ entriesIn q t
+-- the Rust's add_command on the history that record and slots hold
+holds : {r q : History} {s t : List ℕ} → r ≡ q → s ≡ t → journalOf r s ≡ journalOf q t
 holds p q = cc
 
-same : {es fs : List (List ℕ)} {n m : ℕ} → es ≡ fs → n ≡ m → original es n ≡ original fs m
-same p q = cc
-
 pub add-as-rust : (h : History) (slots text : List ℕ) (r : History) (left : List ℕ) → Addition h slots text r Done left
-    → addCommand (original (entriesIn h slots) (h .place)) text ≡ original (entriesIn r left) (r .place)
-unfolding entriesAfter entriesIn
+    → addCommand (original (journalOf h slots)) text ≡ original (journalOf r left)
 add-as-rust h slots text r left a =
-    let es : List (List ℕ) = entriesAfter h slots text in
+    let j : Journal = offered text (journalOf h slots) in
     let done : addAnswer h slots text ≡ Done = sym (a .answer) in
-    let short = entries-after h slots text (done-has h slots text done) .short in
-    let record-is : r ≡ atEnd (length es) = a .state ∙ ap (λ (x : Added). historyBy x h es) done in
-    let held : entriesIn r left ≡ es = holds record-is (a .bytes ∙ ap (λ (x : Added). slotsBy x slots es) done) ∙ entries-layout es short in
-    add-is (entriesIn h slots) (h .place) text ∙ same (sym held) (ap (λ (x : History). x .place) (sym record-is))
+    let fair = taken-fair h slots text (done-has h slots text done) in
+    let state : r ≡ recordOf j = a .state ∙ ap (λ (x : Added). recordBy x h j) done in
+    let bytes : left ≡ slotsOf j = a .bytes ∙ ap (λ (x : Added). slotsBy x slots j) done in
+    add-is (journalOf h slots) text ∙ ap original (sym (holds state bytes ∙ fair-held j fair))
 
 -- its previous and next: the place that a step leads to, and the entry of the number that it recalls
-module _ (h : History) (slots : List ℕ) (is : good (h .count) (h .place) slots ≡ true) where
-  counted : length (entriesIn h slots) ≡ h .count
-  unfolding entriesIn
-  counted = length-entries (h .count) slots
+module _ (h : History) (slots : List ℕ) (is : good h slots ≡ true) where
+  -- a step back from a place, and a step on among so many entries
+  backFrom : ℕ → Step
+  backFrom place = cond (eqb place 0) (record { history = h; recalled = Nothing }) (record { history = placedAt h (place - 1); recalled = Entry (place - 1) })
 
-  within : h .place ≤ length (entriesIn h slots)
-  within = let p = good-has (h .count) (h .place) slots is .placed in let n = counted in omega arith
+  onFrom : ℕ → ℕ → Step
+  onFrom place n = cond (ltb place n) (record { history = placedAt h (place + 1); recalled = recalledAt n (place + 1) }) (record { history = h; recalled = Nothing })
 
-  pub previous-as-rust : previous (original (entriesIn h slots) (h .place)) ≡ stepIn (entriesIn h slots) (back h)
-  unfolding back
-  previous-as-rust = previous-is (entriesIn h slots) (h .place) within ∙ by (eqb (h .place) 0)
+  pub previous-as-rust : previous (original (journalOf h slots)) ≡ stepIn (journalOf h slots) (back h)
+  unfolding back backFrom
+  previous-as-rust =
+      let j : Journal = journalOf h slots in
+      previous-is j (good-fair h slots is .placed) ∙ by (eqb (j .place) 0) ∙ ap (λ (p : ℕ). stepIn j (backFrom p)) (place-held h slots)
     where
-      es : List (List ℕ)
-      es = entriesIn h slots
-
-      by : (t : Bool)
-          → _≡_ {A = Stepped} (cond t (record { after = original es (h .place); text = none }) (record { after = original es (h .place - 1); text = some (getD es (h .place - 1) []) }))
-          (stepIn es (cond t (record { history = h; recalled = Nothing }) (record { history = record { count = h .count; place = h .place - 1 }; recalled = Entry (h .place - 1) })))
-      by true = refl
+      by : (t : Bool) → let j : Journal = journalOf h slots in
+          _≡_ {A = Stepped} (cond t (record { after = original j; text = none }) (record { after = original (atPlace j (j .place - 1)); text = some (entryOf j (j .place - 1)) }))
+          (stepIn j (cond t (record { history = h; recalled = Nothing }) (record { history = placedAt h (j .place - 1); recalled = Entry (j .place - 1) })))
+      by true = ap (λ (p : ℕ). record { after = original (atPlace (journalOf h slots) p); text = none }) (place-held h slots)
       by false = refl
 
-  -- a step on, among so many entries
-  stepAmong : ℕ → Step
-  stepAmong n =
-      cond (ltb (h .place) n)
-      (record { history = record { count = h .count; place = h .place + 1 }; recalled = recalledAt n (h .place + 1) })
-      (record { history = h; recalled = Nothing })
-
-  pub next-as-rust : next (original (entriesIn h slots) (h .place)) ≡ stepIn (entriesIn h slots) (onward h)
-  unfolding onward stepAmong recalledAt
+  pub next-as-rust : next (original (journalOf h slots)) ≡ stepIn (journalOf h slots) (onward h)
+  unfolding onward onFrom recalledAt
   next-as-rust =
-      next-is (entriesIn h slots) (h .place) within
-      ∙ by (ltb (h .place) (length (entriesIn h slots))) (ltb (h .place + 1) (length (entriesIn h slots)))
-      ∙ ap (λ (n : ℕ). stepIn (entriesIn h slots) (stepAmong n)) counted
+      let j : Journal = journalOf h slots in
+      next-is j (good-fair h slots is .placed)
+      ∙ by (ltb (j .place) (count j)) (ltb (j .place + 1) (count j))
+      ∙ ap (λ (n : ℕ). stepIn j (onFrom (j .place) n)) (count-held h slots)
+      ∙ ap (λ (p : ℕ). stepIn j (onFrom p (h .count))) (place-held h slots)
     where
-      es : List (List ℕ)
-      es = entriesIn h slots
-
-      by : (t u : Bool)
-          → _≡_ {A = Stepped} (cond t (record { after = original es (h .place + 1); text = cond u (some (getD es (h .place + 1) [])) none }) (record { after = original es (h .place); text = none }))
-          (stepIn es (cond t (record { history = record { count = h .count; place = h .place + 1 }; recalled = cond u (Entry (h .place + 1)) Nothing }) (record { history = h; recalled = Nothing })))
+      by : (t u : Bool) → let j : Journal = journalOf h slots in
+          _≡_ {A = Stepped} (cond t (record { after = original (atPlace j (j .place + 1)); text = cond u (some (entryOf j (j .place + 1))) none }) (record { after = original j; text = none }))
+          (stepIn j (cond t (record { history = placedAt h (j .place + 1); recalled = cond u (Entry (j .place + 1)) Nothing }) (record { history = h; recalled = Nothing })))
       by true true = refl
       by true false = refl
-      by false u = refl
+      by false u = ap (λ (p : ℕ). record { after = original (atPlace (journalOf h slots) p); text = none }) (place-held h slots)

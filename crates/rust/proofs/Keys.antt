@@ -1,36 +1,37 @@
 -- Each key does what the Rust's loop does, in every state within the rules: it leaves the same line, cursor, mode and history, shows the bytes that the loop writes, and submits the
 -- line that the loop runs.
 use Prim.Native.Nat.{ℕ, zero, suc, _+_, _-_, min}
-use mathlib.Core.Path.{_≡_, refl, sym, ap, _∙_}
+use mathlib.Core.Path.{_≡_, refl, sym, ap, _∙_, subst}
 use mathlib.Core.Bool.{Bool, true, false, cond, not}
 use mathlib.Core.List.{List, [], _∷_, _++_}
 use mathlib.Core.Option.{none, some}
 use native.Mathlib.Omega.{arith}
 use lib.Dec.{eqb, ltb}
-use lib.ListN.{length, take, getD}
+use lib.ListN.{length, take}
 use lib.Seq.{take-all}
 use borrow.Author.Tests.{lt-ltb, le-ltb, ltb-true, ltb-false, eqb-true, eqb-false, ne-eqb}
 use Rattle.buffer.proofs.Choices.{then-is, else-is, true-is-not-false}
-use Rattle.buffer.specs.Compare.{sameBytes}
 use Rattle.buffer.specs.Write.{over}
-use Rattle.text.specs.Decoding.{wellFormedLength}
-use Rattle.text.specs.Apart.{blank}
 use Rattle.text.proofs.Prefix.{prefix-fits}
-use Rattle.text.specs.Decoding.{wellFormed}
-use Rattle.history.specs.Entries.{usable, sound}
+use Rattle.text.specs.Decoding.{wellFormedLength, wellFormed}
+use Rattle.history.specs.Journal.{Journal, count, entryOf, atPlace}
 use Rattle.history.specs.declared.stepping.History.{History}
-use Rattle.history.proofs.States.{holds, short-at}
+use Rattle.history.proofs.Journals.{fair-short, fair-formed}
 use Rattle.screen.specs.Decimal.{decimal}
 use Rattle.screen.specs.Redraw.{clearLine, moveBack, redraw}
 use Rattle.screen.proofs.Drawing.{move-none, move-some}
-use Rattle.editor.specs.declared.line.Mode.{Mode}
-use Rattle.editor.specs.declared.line.Mode.the-variants.{Typing, Escape, Sequence}
+use Rattle.keys.specs.declared.meaning.Mode.{Mode}
+use Rattle.keys.specs.declared.meaning.Mode.the-variants.{Typing, Escape, Sequence}
 use Rattle.editor.specs.declared.line.Editor.{Editor}
 use Rattle.editor.specs.declared.drawing.KeyAnswer.{KeyAnswer}
 use Rattle.editor.specs.Line.{limit, inserted, erased, content}
-use Rattle.editor.specs.Keys.{State, Kind, shows, enters, drops, Turn, lineFeed, showing, redrawn, redrawing, inMode, withLine, atPlace, enter, erase, insert, typed, escaped, recalling, up, onPlace, down, right, left, sequenced, turnIn, turnOf}
+use Rattle.keys.specs.declared.meaning.Action.the-variants.{Nothing}
+use Rattle.keys.specs.declared.meaning.Meaning.{Meaning}
+use Rattle.keys.specs.Keys.{doing, awaiting, typed, escaped, sequenced, meaning}
+use Rattle.editor.specs.Turns.{State, Kind, shows, enters, drops, Turn, lineFeed, showing, redrawn, redrawing, cleared, inMode, withLine, recalled, enter, erase, insert, up, onPlace, down, right, left, turnBy, turnOf}
 use Rattle.editor.specs.Answer.{stateOf, goodState, taken, refused, Pressing}
 use Rattle.editor.proofs.Fine.{Fine, fine-of, formed-nothing}
+use Rattle.editor.proofs.KeyTurns.{own-mode}
 use Rattle.editor.proofs.Called.{key-taken, state-after}
 use Rattle.ink.specs.Ascii.{ascii}
 use Rattle.rust.specs.Std.{ifSome, isUtf8, println, utf8OrEmpty}
@@ -89,21 +90,7 @@ same-redraw prompt text cursor = ap (λ (l : List ℕ). clearLine ++ (prompt ++ 
     by true q = let h = ltb-true cursor (length text) q in sym (move-some (length text - cursor) (λ e. omega arith))
     by false q = let h = ltb-false cursor (length text) q in sym (move-none (length text - cursor) (omega arith))
 
--- every entry is well-formed, so it is shown as it is
-formed-at : (before : List ℕ) (es : List (List ℕ)) (n : ℕ) → sound before es ≡ true → wellFormed (getD es n []) ≡ true
-unfolding sound usable
-formed-at before [] n s = formed-nothing
-formed-at before (e ∷ es) zero s = formed (blank e) (wellFormed e) (holds (usable e) _ s .0)
-  where
-    formed : (b w : Bool) → cond b false w ≡ true → w ≡ true
-    formed true w k = absurd (true-is-not-false (sym k))
-    formed false w k = k
-formed-at before (e ∷ es) (suc n) s = formed-at e es n (rest (sameBytes before e) _ (holds (usable e) _ s .1))
-  where
-    rest : (p q : Bool) → cond p false q ≡ true → q ≡ true
-    rest true q k = absurd (true-is-not-false (sym k))
-    rest false q k = k
-
+-- what is well-formed is shown as it is
 formed-content : (l : List ℕ) → wellFormed l ≡ true → content l ≡ l
 unfolding content
 formed-content l w = then-is _ _ _ w
@@ -158,86 +145,76 @@ module _ (prompt : List ℕ) (s : State) (f : Fine s) where
         tidy = refl;
       }
 
-  module _ (m : s .mode ≡ Typing) where
-    -- in the mode Normal the state says so
-    edited : (l : List ℕ) (c : ℕ)
-        → Same prompt (turned (record { buf = l; cursor = c; input = inputOf (s .mode); history = original (s .entries) (s .place) }) (writes (clearLineAndRedraw prompt (utf8OrEmpty l) c) ∷ []))
-        (redrawing prompt (withLine s l c))
-    edited l c = redraws (withLine s l c) _ (utf8OrEmpty l) c (shells refl refl (ap inputOf m) refl) (str-is l) refl
+  -- while typing goes on
+  edited : (l : List ℕ) (c : ℕ)
+      → Same prompt (turned (record { buf = l; cursor = c; input = Normal; history = original (s .history) }) (writes (clearLineAndRedraw prompt (utf8OrEmpty l) c) ∷ []))
+      (redrawing prompt (withLine (inMode s Typing) l c))
+  edited l c = redraws (withLine (inMode s Typing) l c) _ (utf8OrEmpty l) c refl (str-is l) refl
 
-    same-enter : Same prompt (crlf prompt (shellOf s)) (enter s)
-    unfolding crlf enter
-    same-enter =
-        none-or prompt (length (s .line)) _ _ _ _
-        (λ e. record { loop = loops refl (ap (λ (bytes : List ℕ). writes bytes ∷ writes prompt ∷ []) line-feed); tidy = tt })
-        (λ n. record {
-          loop = loops (shells refl refl (ap inputOf m) (ap (addCommand (original (s .entries) (s .place))) (str-is (s .line)) ∙ add-is (s .entries) (s .place) (content (s .line))))
-              (ap (λ (bytes : List ℕ). writes bytes ∷ runs (utf8OrEmpty (s .line)) (s .line) ∷ writes prompt ∷ []) line-feed ∙ one-run prompt lineFeed (s .line) n);
-          tidy = tt;
-        })
+  same-enter : Same prompt (crlf prompt (shellOf (inMode s Typing))) (enter (inMode s Typing))
+  unfolding crlf enter
+  same-enter =
+      none-or prompt (length (s .line)) _ _ _ _
+      (λ e. record { loop = loops refl (ap (λ (bytes : List ℕ). writes bytes ∷ writes prompt ∷ []) line-feed); tidy = tt })
+      (λ n. record {
+        loop = loops (shells refl refl refl (ap (addCommand (original (s .history))) (str-is (s .line)) ∙ add-is (s .history) (content (s .line))))
+            (ap (λ (bytes : List ℕ). writes bytes ∷ runs (utf8OrEmpty (s .line)) (s .line) ∷ writes prompt ∷ []) line-feed ∙ one-run prompt lineFeed (s .line) n);
+        tidy = tt;
+      })
 
-    same-erase : Same prompt (bsdl prompt (shellOf s)) (erase prompt s)
-    unfolding bsdl erase erased
-    same-erase = none-or prompt (s .cursor) _ _ _ _ (λ e. quiet s) (λ n. edited _ (s .cursor - 1))
+  same-erase : Same prompt (bsdl prompt (shellOf (inMode s Typing))) (erase prompt (inMode s Typing))
+  unfolding bsdl erase erased
+  same-erase = none-or prompt (s .cursor) _ _ _ _ (λ e. quiet (inMode s Typing)) (λ n. edited _ (s .cursor - 1))
 
-    same-insert : (c : ℕ) → Same prompt (other prompt (shellOf s) c) (insert prompt s c)
-    unfolding other insert inserted limit
-    same-insert c = both prompt (ltb (length (s .line)) 255) _ _ _ _ (λ q. edited _ (s .cursor + 1)) (λ q. record { loop = refl; tidy = (refl, refl) })
+  same-insert : (c : ℕ) → Same prompt (other prompt (shellOf (inMode s Typing)) c) (insert prompt (inMode s Typing) c)
+  unfolding other insert inserted limit
+  same-insert c = both prompt (ltb (length (s .line)) 255) _ _ _ _ (λ q. edited _ (s .cursor + 1)) (λ q. record { loop = refl; tidy = (refl, refl) })
 
-    same-normal : (c : ℕ) → Same prompt (normal prompt (shellOf s) c) (typed prompt s c)
-    unfolding normal typed
-    same-normal c =
-        both prompt (eqb c 0x0D) _ _ _ _ (λ q. same-enter)
-        (λ q. both prompt (eqb c 0x0A) _ _ _ _ (λ q. same-enter)
-        (λ q. both prompt (eqb c 0x08) _ _ _ _ (λ q. same-erase)
-        (λ q. both prompt (eqb c 0x7F) _ _ _ _ (λ q. same-erase)
-        (λ q. both prompt (eqb c 0x1B) _ _ _ _ (λ q. quiet (inMode s Escape))
-        (λ q. both prompt (ltb c 0x20) _ _ _ _ (λ q. quiet s)
-        (λ q. same-insert c))))))
-
-  -- after ESC `[` typing goes on
-  recalled-same : (n : ℕ) → Same prompt (recalledIn prompt (original (s .entries) n) (getD (s .entries) n [])) (recalling prompt (inMode s Typing) n)
+  -- an entry recalled, and the line cleared
+  recalled-same : (n : ℕ) → Same prompt (recalledIn prompt (original (atPlace (s .history) n)) (entryOf (s .history) n)) (redrawing prompt (recalled (inMode s Typing) n))
   unfolding recalledIn
   recalled-same n =
-      let cmd : List ℕ = getD (s .entries) n [] in
-      let short = short-at (s .entries) n (f .entries .short) in
+      let cmd : List ℕ = entryOf (s .history) n in
+      let short = fair-short (s .history) n (f .fair) in
       let all : min (length cmd) 255 ≡ length cmd = omega arith in
-      redraws (atPlace (withLine (inMode s Typing) cmd (length cmd)) n) _ cmd _
-      (shells (ap (λ (k : ℕ). take k cmd) all ∙ take-all (length cmd) cmd (omega arith)) all refl refl) (sym (formed-content cmd (formed-at [] (s .entries) n (f .entries .is-sound)))) all
+      redraws (recalled (inMode s Typing) n) _ cmd _
+      (shells (ap (λ (k : ℕ). take k cmd) all ∙ take-all (length cmd) cmd (omega arith)) all refl refl) (sym (formed-content cmd (fair-formed (s .history) n (f .fair)))) all
 
   cleared-same : (n : ℕ)
-      → Same prompt (turned (record { buf = []; cursor = 0; input = Normal; history = original (s .entries) n }) (writes (clearLineAndRedraw prompt [] 0) ∷ []))
-      (redrawing prompt (atPlace (withLine (inMode s Typing) [] 0) n))
-  cleared-same n = redraws (atPlace (withLine (inMode s Typing) [] 0) n) _ [] 0 refl (sym (formed-content [] formed-nothing)) refl
+      → Same prompt (turned (record { buf = []; cursor = 0; input = Normal; history = original (atPlace (s .history) n) }) (writes (clearLineAndRedraw prompt [] 0) ∷ []))
+      (redrawing prompt (cleared (atPlace (s .history) n)))
+  cleared-same n = redraws (cleared (atPlace (s .history) n)) _ [] 0 refl (sym (formed-content [] formed-nothing)) refl
 
   same-a : Same prompt (keyA prompt (shellOf s)) (up prompt (inMode s Typing))
   unfolding keyA up
-  same-a = rw (previous-is (s .entries) (s .place) (f .placed)) (by (eqb (s .place) 0))
+  same-a = rw (previous-is (s .history) (f .fair .placed)) (by (eqb (s .history .place) 0))
     where
       made : Stepped → Loop
       made p = ifSome (p .text) (recalledIn prompt (p .after)) (turned (record { buf = s .line; cursor = s .cursor; input = Normal; history = p .after }) [])
 
-      by : (t : Bool) → Same prompt (made (cond t (record { after = original (s .entries) (s .place); text = none }) (record { after = original (s .entries) (s .place - 1); text = some (getD (s .entries) (s .place - 1) []) })))
-          (cond t (showing (inMode s Typing) []) (recalling prompt (inMode s Typing) (s .place - 1)))
+      by : (t : Bool) → let j : Journal = s .history in
+          Same prompt (made (cond t (record { after = original j; text = none }) (record { after = original (atPlace j (j .place - 1)); text = some (entryOf j (j .place - 1)) })))
+          (cond t (showing (inMode s Typing) []) (redrawing prompt (recalled (inMode s Typing) (j .place - 1))))
       by true = quiet (inMode s Typing)
-      by false = recalled-same (s .place - 1)
+      by false = recalled-same (s .history .place - 1)
 
   same-b : Same prompt (keyB prompt (shellOf s)) (down prompt (inMode s Typing))
   unfolding keyB down onPlace
-  same-b = rw (next-is (s .entries) (s .place) (f .placed)) (by (ltb (s .place) (length (s .entries))) (ltb (s .place + 1) (length (s .entries))) refl refl)
+  same-b =
+      rw (next-is (s .history) (f .fair .placed)) (by (ltb (s .history .place) (count (s .history))) (ltb (s .history .place + 1) (count (s .history))) refl refl)
     where
       made : Stepped → Loop
       made p = ifSome (p .text) (recalledIn prompt (p .after)) (turned (record { buf = []; cursor = 0; input = Normal; history = p .after }) (writes (clearLineAndRedraw prompt [] 0) ∷ []))
 
       turn : ℕ → Turn
-      turn n = cond (ltb n (length (s .entries))) (recalling prompt (inMode s Typing) n) (redrawing prompt (atPlace (withLine (inMode s Typing) [] 0) n))
+      turn n = cond (ltb n (count (s .history))) (redrawing prompt (recalled (inMode s Typing) n)) (redrawing prompt (cleared (atPlace (s .history) n)))
 
-      by : (t u : Bool) → ltb (s .place) (length (s .entries)) ≡ t → ltb (s .place + 1) (length (s .entries)) ≡ u
-          → Same prompt (made (cond t (record { after = original (s .entries) (s .place + 1); text = cond u (some (getD (s .entries) (s .place + 1) [])) none }) (record { after = original (s .entries) (s .place); text = none })))
-          (turn (cond t (s .place + 1) (s .place)))
-      by true true p q = rw q (recalled-same (s .place + 1))
-      by true false p q = rw q (cleared-same (s .place + 1))
-      by false u p q = rw p (cleared-same (s .place))
+      by : (t u : Bool) → let j : Journal = s .history in ltb (j .place) (count j) ≡ t → ltb (j .place + 1) (count j) ≡ u
+          → Same prompt (made (cond t (record { after = original (atPlace j (j .place + 1)); text = cond u (some (entryOf j (j .place + 1))) none }) (record { after = original j; text = none })))
+          (turn (cond t (j .place + 1) (j .place)))
+      by true true p q = rw q (recalled-same (s .history .place + 1))
+      by true false p q = rw q (cleared-same (s .history .place + 1))
+      by false u p q = rw p (cleared-same (s .history .place))
 
   same-c : Same prompt (keyC (shellOf s)) (right (inMode s Typing))
   unfolding keyC right
@@ -247,33 +224,50 @@ module _ (prompt : List ℕ) (s : State) (f : Fine s) where
   unfolding keyD left
   same-d = none-or prompt (s .cursor) _ _ _ _ (λ e. quiet (inMode s Typing)) (λ n. record { loop = refl; tidy = refl })
 
-  same-sequence : (c : ℕ) → Same prompt (escapeSeq prompt (shellOf s) c) (sequenced prompt (inMode s Typing) c)
-  unfolding escapeSeq sequenced
-  same-sequence c =
-      both prompt (eqb c 0x41) _ _ _ _ (λ q. same-a)
-      (λ q. both prompt (eqb c 0x42) _ _ _ _ (λ q. same-b)
-      (λ q. both prompt (eqb c 0x43) _ _ _ _ (λ q. same-c)
-      (λ q. both prompt (eqb c 0x44) _ _ _ _ (λ q. same-d)
-      (λ q. quiet (inMode s Typing)))))
+  -- a byte's meaning on our side, the Rust's own choice on its side
+  turnFor : Meaning → Turn
+  turnFor m = turnBy prompt (inMode s (m .mode)) (m .action)
 
-  same-escape : (c : ℕ) → Same prompt (escape (shellOf s) c) (escaped s c)
-  unfolding escape escaped
+  means : (b : Bool) (x y : Loop) (m n : Meaning) → Same prompt x (turnFor m) → Same prompt y (turnFor n) → Same prompt (cond b x y) (turnFor (cond b m n))
+  means true x y m n p q = p
+  means false x y m n p q = q
+
+  same-normal : (c : ℕ) → Same prompt (normal prompt (shellOf (inMode s Typing)) c) (turnFor (typed c))
+  unfolding normal typed turnFor
+  same-normal c =
+      means (eqb c 0x0D) _ _ _ _ same-enter
+      (means (eqb c 0x0A) _ _ _ _ same-enter
+      (means (eqb c 0x08) _ _ _ _ same-erase
+      (means (eqb c 0x7F) _ _ _ _ same-erase
+      (means (eqb c 0x1B) _ _ _ _ (quiet (inMode s Escape))
+      (means (ltb c 0x20) _ _ _ _ (quiet (inMode s Typing)) (same-insert c))))))
+
+  same-sequence : (c : ℕ) → Same prompt (escapeSeq prompt (shellOf s) c) (turnFor (sequenced c))
+  unfolding escapeSeq sequenced turnFor
+  same-sequence c =
+      means (eqb c 0x41) _ _ _ _ same-a
+      (means (eqb c 0x42) _ _ _ _ same-b
+      (means (eqb c 0x43) _ _ _ _ same-c
+      (means (eqb c 0x44) _ _ _ _ same-d (quiet (inMode s Typing)))))
+
+  same-escape : (c : ℕ) → Same prompt (escape (shellOf s) c) (turnFor (escaped c))
+  unfolding escape escaped turnFor
   same-escape c = by (eqb c 0x5B)
     where
-      by : (t : Bool) → Same prompt (turned (record { buf = s .line; cursor = s .cursor; input = cond t EscapeSeq Normal; history = original (s .entries) (s .place) }) [])
-          (showing (inMode s (cond t Sequence Typing)) [])
+      by : (t : Bool) → Same prompt (turned (record { buf = s .line; cursor = s .cursor; input = cond t EscapeSeq Normal; history = original (s .history) }) [])
+          (turnFor (cond t (awaiting Sequence) (doing Nothing)))
       by true = quiet (inMode s Sequence)
       by false = quiet (inMode s Typing)
 
-  in-mode : (c : ℕ) (m : Mode) → s .mode ≡ m → Same prompt (rustIn (inputOf m) prompt (shellOf s) c) (turnIn m prompt s c)
-  unfolding rustIn turnIn
-  in-mode c Typing e = same-normal e c
+  in-mode : (c : ℕ) (m : Mode) → s .mode ≡ m → Same prompt (rustIn (inputOf m) prompt (shellOf s) c) (turnFor (meaning m c))
+  unfolding rustIn
+  in-mode c Typing e = subst (λ (x : State). Same prompt (normal prompt (shellOf x) c) (turnFor (typed c))) (own-mode s Typing e) (same-normal c)
   in-mode c Escape e = same-escape c
   in-mode c Sequence e = same-sequence c
 
   -- the Rust's loop and ours, in every state within the rules and for every byte
   pub same-key : (c : ℕ) → Same prompt (rustKey prompt (shellOf s) c) (turnOf prompt s c)
-  unfolding rustKey turnOf
+  unfolding rustKey turnOf turnFor
   same-key c = in-mode c (s .mode) refl
 
 -- what the events of a turn say: the bytes that are written first are those shown, and the line that is run is that submitted

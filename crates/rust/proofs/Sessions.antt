@@ -16,7 +16,7 @@ use Rattle.tree.specs.declared.check.Checked.the-variants.{Good}
 use Rattle.tree.proofs.Forests.{StandsFor, forest-good}
 use Rattle.ink.specs.Ascii.{ascii}
 use Rattle.shell.specs.Lines.{Said, silence, text, farewell, handed as handsOver, builtinOf, beginsHelp, otherSaid, lineSaid, saidOf}
-use Rattle.editor.specs.Keys.{State, Kind, shows, enters, drops, Turn, lineFeed, turnOf}
+use Rattle.editor.specs.Turns.{State, Kind, shows, enters, drops, Turn, lineFeed, turnOf}
 use Rattle.editor.specs.Answer.{stateOf, editorOf, historyOf, goodState}
 use Rattle.editor.proofs.Fine.{Fine, fine-of, turn-fine}
 use Rattle.editor.proofs.Called.{held-state}
@@ -27,7 +27,7 @@ use Rattle.session.specs.Calls.{imageOf, isEnter, treeBefore, keyRoom, Pressing
 use Rattle.session.specs.declared.running.Printing.{Printing}
 use Rattle.session.specs.declared.standing.Session.{Session}
 use Rattle.session.specs.declared.pressing.Pressing.{Pressing}
-use Rattle.session.proofs.Screens.{Plain, screen-plain}
+use Rattle.session.proofs.Screens.{Plain, screen-plain, enters-byte}
 use Rattle.rust.specs.Tree.{Commands, commandsOf}
 use Rattle.rust.specs.Shell.{runLine, enter}
 use Rattle.rust.specs.Loop.{Shell, Event, writes, runs, Loop, turned, promptWithoutFs, rustKeys}
@@ -99,17 +99,17 @@ module _ (image : List ℕ) (f : Forest) (printable : ℕ → Bool) where
     t = turnOf prompt s byte
 
     -- by the kind of the turn
-    prints-by : (q : Kind) → Plain byte q (t .screen) → Tidy t q
+    prints-by : (q : Kind) → t .kind ≡ q → Plain q (t .screen) → Tidy t q
         → EachQuoted printable (commandsOf f) (eventsBy prompt t q)
         → (turnPrints (framesOf image) t q ≡ printedBy printable (commandsOf f) (eventsBy prompt t q)) × (turnEnds (framesOf image) t q ≡ endedBy printable (commandsOf f) (eventsBy prompt t q))
-    unfolding printedBy endedBy
-    prints-by shows plain tidy p = (written-printed printable (commandsOf f) (t .screen), written-goes printable (commandsOf f) (t .screen))
-    prints-by enters plain tidy p =
-        let line = entered-printed (stands (plain .1)) (t .submitted) p in (
-          ap (λ (l : List Printed). shown lineFeed ++ l) (line .0) ∙ ap (λ (bytes : List ℕ). shown bytes ++ printedBy printable (commandsOf f) (entered (t .submitted) ++ (writes prompt ∷ []))) (sym (plain .0)),
+    unfolding printedBy endedBy t
+    prints-by shows e plain tidy p = (written-printed printable (commandsOf f) (t .screen), written-goes printable (commandsOf f) (t .screen))
+    prints-by enters e plain tidy p =
+        let line = entered-printed (stands (enters-byte prompt s byte fine e)) (t .submitted) p in (
+          ap (λ (l : List Printed). shown lineFeed ++ l) (line .0) ∙ ap (λ (bytes : List ℕ). shown bytes ++ printedBy printable (commandsOf f) (entered (t .submitted) ++ (writes prompt ∷ []))) (sym plain),
           line .1,
         )
-    prints-by drops plain tidy p = (refl, refl)
+    prints-by drops e plain tidy p = (refl, refl)
 
     -- what a key prints is what one turn of the Rust's loop does, and it is the last exactly if the process ends
     pub key-printed : EachQuoted printable (commandsOf f) (turnFrom s byte .events)
@@ -118,7 +118,7 @@ module _ (image : List ℕ) (f : Forest) (printable : ℕ → Bool) where
     unfolding keyPrints keyEnds t
     key-printed p =
         let same = same-turn s fine byte in
-        let q = rw (same .loop) at p in rw (same .loop) (prints-by (t .kind) (screen-plain prompt s byte fine) (same .tidy) q)
+        let q = rw (same .loop) at p in rw (same .loop) (prints-by (t .kind) refl (screen-plain prompt s byte fine) (same .tidy) q)
 
 -- TURN AFTER TURN: what a process that has ended would do besides is not done
 module _ (printable : ℕ → Bool) (tree : Commands) where

@@ -9,7 +9,7 @@ use borrow.Author.Tests.{lt-ltb}
 use Rattle.buffer.proofs.Choices.{then-is}
 use Rattle.tree.specs.Forest.{Forest}
 use Rattle.tree.proofs.Forests.{StandsFor}
-use Rattle.editor.specs.Keys.{turnOf}
+use Rattle.editor.specs.Turns.{turnOf}
 use Rattle.editor.proofs.Fine.{Fine, turn-fine}
 use Rattle.session.specs.Prints.{prompt}
 use Rattle.session.specs.Lines.{Form, keys, lineForm, Standing, withKeys, inState, takeForm, takeLine, Course, behind, pressKey, pressKeys, onTaking, lineCourse, session}

@@ -5,14 +5,15 @@ use mathlib.Core.Bool.{Bool, true, cond}
 use mathlib.Core.List.{List, [], _∷_, _++_}
 use mathlib.Core.Option.{Option, none, some}
 use lib.Dec.{eqb, ltb}
-use lib.ListN.{drop, getD}
+use lib.ListN.{drop}
 use Rattle.text.specs.Decoding.{codesIn}
+use Rattle.history.specs.Journal.{Journal, entryOf, atPlace}
 use Rattle.history.specs.declared.stepping.Recalled.{Recalled}
 use Rattle.history.specs.declared.stepping.Recalled.the-variants.{Entry, Nothing}
 use Rattle.history.specs.declared.stepping.Step.{Step}
-use Rattle.editor.specs.declared.line.Mode.{Mode}
-use Rattle.editor.specs.declared.line.Mode.the-variants.{Typing, Escape, Sequence}
-use Rattle.editor.specs.Keys.{State}
+use Rattle.keys.specs.declared.meaning.Mode.{Mode}
+use Rattle.keys.specs.declared.meaning.Mode.the-variants.{Typing, Escape, Sequence}
+use Rattle.editor.specs.Turns.{State}
 use Rattle.ink.specs.Ascii.{ascii}
 use Rattle.image.specs.Limits.{both}
 use Rattle.table.specs.Map.{Map}
@@ -29,17 +30,17 @@ use Rattle.rust.specs.Shell.{Effect, returns, prints, fails, garbled, ca
 use Rattle.rust.specs.History.{CommandHistory, Stepped}
 use Rattle.rust.specs.Loop.{InputState, Normal, Escape as EscapeState, EscapeSeq, Shell, Event, writes, runs}
 
--- the Rust's history with these entries, at this place
-abbrev pub original : List (List ℕ) → ℕ → CommandHistory
-original es place = record { history = es; index = place; size = 100 }
+-- the Rust's history with the entries and the place of ours
+abbrev pub original : Journal → CommandHistory
+original j = record { history = j .entries; index = j .place; size = 100 }
 
--- a step of ours among these entries: the place that it leads to, and the entry of the number that it recalls
-abbrev pub recalledIn : List (List ℕ) → Recalled → Option (List ℕ)
-recalledIn es (Entry n) = some (getD es n [])
-recalledIn es Nothing = none
+-- a step of ours in a history: the place that it leads to, and the entry of the number that it recalls
+abbrev pub recalledIn : Journal → Recalled → Option (List ℕ)
+recalledIn j (Entry n) = some (entryOf j n)
+recalledIn j Nothing = none
 
-abbrev pub stepIn : List (List ℕ) → Step → Stepped
-stepIn es step = record { after = original es (step .history .place); text = recalledIn es (step .recalled) }
+abbrev pub stepIn : Journal → Step → Stepped
+stepIn j step = record { after = original (atPlace j (step .history .place)); text = recalledIn j (step .recalled) }
 
 -- the Rust's shell in a state of ours
 abbrev pub inputOf : Mode → InputState
@@ -48,7 +49,7 @@ inputOf Escape = EscapeState
 inputOf Sequence = EscapeSeq
 
 abbrev pub shellOf : State → Shell
-shellOf s = record { buf = s .line; cursor = s .cursor; input = inputOf (s .mode); history = original (s .entries) (s .place) }
+shellOf s = record { buf = s .line; cursor = s .cursor; input = inputOf (s .mode); history = original (s .history) }
 
 -- what a caller of ours does with bytes that are shown, and at Enter with the line that is submitted: it writes them, it runs the line, and writes the prompt
 abbrev pub written : List ℕ → List Event

@@ -4,7 +4,7 @@ use Prim.Native.Nat.{ℕ}
 use mathlib.Core.Path.{_≡_}
 use mathlib.Core.Bool.{Bool, true, false}
 use mathlib.Core.List.{List, [], _∷_, _++_}
-use Rattle.editor.specs.Keys.{State}
+use Rattle.editor.specs.Turns.{State}
 use Rattle.session.specs.Prints.{Printed, handler, exit, shown}
 use Rattle.session.specs.Lines.{keys, lineForm, Course}
 use Rattle.session.specs.Held.{Laid}

@@ -35,7 +35,9 @@ use Rattle.screen.specs.Redraw.{moveBack, redraw, roomAnswer}
 use Rattle.text.specs.Decoding.{wellFormed}
 use Rattle.history.specs.Entries.{mostEntries, newestIs, isNew, withRoom, added, usable, sound}
 use Rattle.editor.specs.Line.{limit, padded, holding, lineOf, goodLine, inserted, erased, content}
-use Rattle.editor.specs.Keys.{redrawn, enter, erase, insert, typed, escaped, up, onPlace, down, right, left, sequenced, turnIn, turnOf, afterKeys}
+use Rattle.history.specs.Journal.{recordOf, slotsOf, journalOf}
+use Rattle.keys.specs.Keys.{typed, escaped, sequenced}
+use Rattle.editor.specs.Turns.{redrawn, enter, erase, insert, up, onPlace, down, right, left, turnOf, afterKeys}
 use Rattle.session.specs.Prints.{wide, frameOf as frameOfSession, linesOf, shown, prompt, answered, leaves, keyPrints, keyEnds}
 use Rattle.growth.specs.Growth.{oneFrame, takes}
 use Rattle.session.specs.Lines.{beginning, formOf as formOfSession, lineForm, takeForm, takeLine, pressKey, pressKeys, onTaking, lineCourse, session}
@@ -53,5 +55,5 @@ output =
     ++ ascii "2261787669736f723a2420\n"))))
 
 in-full : linesOf (session beginning input) ≡ output
-unfolding encode encodeAll leastSecond greatestSecond within decodeTwo decodeThree decodeFour table decodeFirst letter letterHead letterFirst piecesFrom piecesOf bytesAll codesOf codesIn wellFormedLength whiteSpace among isWhiteSpace lowWhite gap runOf behindRun trimEnd trimmed allWhite blank wordsAfter wordsBetween nextWord order sameBytes Bytes numberBytes numberOf textOf readText frameOf frameFirst textsFrom textsIn runs houseLine ended digitsOf readDigits readHouse houseLeaves writeHouse lineLeaves digitOf hexOf digitValue pairOf unhex firstBad text perhaps encodeImage span nodeLengths definitionLengths nodeFirst optionFirst flagFirst headFirst perhapsIn nodeIn optionIn flagIn definedIn frameFirstImage readFirst allShown isName isNote isShort definable fair itemsFrom items framesIn framesOf flat rises follows obeys after judge obeyAll checkTree upTo onFrom subtree treeNamed roleOf tokensFrom tokens wordsOf wordFrames put look has amongTable putWithin definitionsOf definitionsAt firstName meaning isOption beforeEquals longForm formOf withOption withFlag withPositional shortSteps args optionFrame flagFrame reportOf faultOf dashed reportAnswer reportLeaves descend isMissing missingRequired concluded parseIn parseWords parseLine toldIn outcomeAnswer outcomeLeaves parseAnswer parseLeaves ascii builtinOf beginsHelp helpWords faultMessage joined handlerOf carried executeIn execute otherSaid lineSaid saidOf digitsIn decimal valueBehind valueOf moveBack redraw roomAnswer mostEntries newestIs isNew withRoom added wellFormed usable sound limit padded holding lineOf goodLine inserted erased content redrawn enter erase insert typed escaped up onPlace down right left sequenced turnIn turnOf afterKeys wide frameOfSession linesOf shown prompt answered leaves keyPrints keyEnds formOfSession lineForm oneFrame takes takeForm takeLine pressKey pressKeys onTaking lineCourse session input output
+unfolding encode encodeAll leastSecond greatestSecond within decodeTwo decodeThree decodeFour table decodeFirst letter letterHead letterFirst piecesFrom piecesOf bytesAll codesOf codesIn wellFormedLength whiteSpace among isWhiteSpace lowWhite gap runOf behindRun trimEnd trimmed allWhite blank wordsAfter wordsBetween nextWord order sameBytes Bytes numberBytes numberOf textOf readText frameOf frameFirst textsFrom textsIn runs houseLine ended digitsOf readDigits readHouse houseLeaves writeHouse lineLeaves digitOf hexOf digitValue pairOf unhex firstBad text perhaps encodeImage span nodeLengths definitionLengths nodeFirst optionFirst flagFirst headFirst perhapsIn nodeIn optionIn flagIn definedIn frameFirstImage readFirst allShown isName isNote isShort definable fair itemsFrom items framesIn framesOf flat rises follows obeys after judge obeyAll checkTree upTo onFrom subtree treeNamed roleOf tokensFrom tokens wordsOf wordFrames put look has amongTable putWithin definitionsOf definitionsAt firstName meaning isOption beforeEquals longForm formOf withOption withFlag withPositional shortSteps args optionFrame flagFrame reportOf faultOf dashed reportAnswer reportLeaves descend isMissing missingRequired concluded parseIn parseWords parseLine toldIn outcomeAnswer outcomeLeaves parseAnswer parseLeaves ascii builtinOf beginsHelp helpWords faultMessage joined handlerOf carried executeIn execute otherSaid lineSaid saidOf digitsIn decimal valueBehind valueOf moveBack redraw roomAnswer mostEntries newestIs isNew withRoom added wellFormed usable sound limit padded holding lineOf goodLine inserted erased content redrawn enter erase insert typed escaped sequenced up onPlace down right left turnOf afterKeys recordOf slotsOf journalOf wide frameOfSession linesOf shown prompt answered leaves keyPrints keyEnds formOfSession lineForm oneFrame takes takeForm takeLine pressKey pressKeys onTaking lineCourse session input output
 in-full = refl

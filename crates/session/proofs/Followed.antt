@@ -24,7 +24,7 @@ use Rattle.tree.specs.Steps.{stepIf}
 use Rattle.tree.specs.declared.walk.Step.{Step}
 use Rattle.growth.specs.Growth.{takes, admits, passedBy}
 use Rattle.growth.proofs.Standing.{Growth, grows as grows-by, grows-whole}
-use Rattle.editor.specs.Keys.{State, Kind, shows, enters, drops, Turn, turnOf}
+use Rattle.editor.specs.Turns.{State, Kind, shows, enters, drops, Turn, turnOf}
 use Rattle.editor.specs.Answer.{goodState}
 use Rattle.editor.proofs.Fine.{Fine}
 use Rattle.session.specs.Prints.{prompt, turnPrints, keyPrints, turnEnds, keyEnds}
@@ -37,7 +37,7 @@ use Rattle.session.specs.declared.standing.Session.{Session}
 use Rattle.session.specs.declared.taking.Taken.the-variants.{Tree, Keys, BadLine}
 use Rattle.session.specs.declared.taking.Took.{Took}
 use Rattle.session.proofs.Takings.{house-room, both-wide}
-use Rattle.session.proofs.Screens.{Plain, screen-plain}
+use Rattle.session.proofs.Screens.{enters-byte}
 use Rattle.session.proofs.Held.{Holds}
 
 -- what a line is by its house line: the frame of a tree line, and the keys behind a 20
@@ -102,7 +102,7 @@ module _ (s : Standing) (h : Session) (image slots : List ℕ) (k : Holds s h im
         record {
           editor = k .editor;
           history = k .history;
-          entries = k .entries;
+          held = k .held;
           fine = k .fine;
           stands = g .stands;
           tree = g .image ∙ ap (λ (x : List ℕ). x ++ frame) (k .tree);
@@ -118,7 +118,7 @@ module _ (s : Standing) (h : Session) (image slots : List ℕ) (k : Holds s h im
       record {
         editor = k .editor;
         history = k .history;
-        entries = k .entries;
+        held = k .held;
         fine = k .fine;
         stands = k .stands;
         tree = k .tree;
@@ -168,14 +168,14 @@ module _ (s : Standing) (h : Session) (image slots : List ℕ) (k : Holds s h im
 pub treeless : (frames other : List TreeFrame) (s : State) (byte : ℕ) → Fine s → isEnter byte ≡ false
     → (keyPrints frames (turnOf prompt s byte) ≡ keyPrints other (turnOf prompt s byte)) × (keyEnds frames (turnOf prompt s byte) ≡ keyEnds other (turnOf prompt s byte))
 unfolding keyPrints keyEnds
-treeless frames other s byte f n = by (turnOf prompt s byte .kind) (screen-plain prompt s byte f)
+treeless frames other s byte f n = by (turnOf prompt s byte .kind) refl
   where
     t : Turn
     t = turnOf prompt s byte
 
-    by : (q : Kind) → Plain byte q (turnOf prompt s byte .screen) → (turnPrints frames t q ≡ turnPrints other t q) × (turnEnds frames t q ≡ turnEnds other t q)
+    by : (q : Kind) → turnOf prompt s byte .kind ≡ q → (turnPrints frames t q ≡ turnPrints other t q) × (turnEnds frames t q ≡ turnEnds other t q)
     by shows p = (refl, refl)
-    by enters p = absurd (true-is-not-false (sym (p .1) ∙ n))
+    by enters p = absurd (true-is-not-false (sym (enters-byte prompt s byte f p) ∙ n))
     by drops p = (refl, refl)
 
 -- no second answer

@@ -8,14 +8,13 @@ use Rattle.tree.specs.Images.{framesOf}
 use Rattle.tree.specs.Rules.{checkTree}
 use Rattle.tree.specs.declared.check.Checked.the-variants.{Good}
 use Rattle.growth.proofs.Standing.{Stands, start-stands, stands-good}
-use Rattle.history.specs.Slots.{layout, entriesOf}
-use Rattle.history.specs.Answer.{entriesIn}
+use Rattle.history.specs.Journal.{noEntries, slotsOf as journalSlots}
 use Rattle.history.specs.declared.stepping.History.{History}
 use Rattle.editor.specs.declared.line.Editor.{Editor}
-use Rattle.editor.specs.Line.{holding, lineOf}
-use Rattle.editor.specs.Keys.{State, Turn, freshState, turnOf, afterKeys}
+use Rattle.editor.specs.Line.{holding}
+use Rattle.editor.specs.Turns.{State, Turn, turnOf}
 use Rattle.editor.specs.Answer.{stateOf, editorOf, historyOf, slotsOf, goodState}
-use Rattle.editor.proofs.Fine.{Fine, fine-of, turn-fine, fine-good, never-bad}
+use Rattle.editor.proofs.Fine.{Fine, fresh-fine, turn-fine, fine-good}
 use Rattle.editor.proofs.Called.{held-state}
 use Rattle.session.specs.Prints.{prompt, keyPrints, keyEnds}
 use Rattle.session.specs.Lines.{Standing, beginning, pressKey}
@@ -28,7 +27,7 @@ use Rattle.session.specs.declared.pressing.Pressing.{Pressing}
 pub record Holds (s : Standing) (h : Session) (image slots : List ℕ) : Type 0 where
   pub editor : h .editor ≡ editorOf (s .state)
   pub history : h .history ≡ historyOf (s .state)
-  pub entries : slots ≡ slotsOf (s .state)
+  pub held : slots ≡ slotsOf (s .state)
   pub fine : Fine (s .state)
   pub stands : Stands image (h .walk)
   pub tree : imageOf h image ≡ s .image
@@ -36,18 +35,10 @@ pub record Holds (s : Standing) (h : Session) (image slots : List ℕ) : Type 0 
   pub lines : h .lines ≡ s .lines
 
 -- at the beginning
-fresh-state : stateOf (editorOf freshState) (historyOf freshState) (slotsOf freshState) ≡ freshState
-unfolding stateOf editorOf historyOf entriesIn entriesOf holding lineOf
-fresh-state = refl
-
-fresh-fine : Fine freshState
-unfolding afterKeys
-fresh-fine = subst Fine fresh-state (fine-of (editorOf freshState) (historyOf freshState) (slotsOf freshState) (never-bad [] []))
-
-pub holds-fresh : (image : List ℕ) → Holds beginning fresh image (layout [])
-unfolding editorOf historyOf slotsOf holding
+pub holds-fresh : (image : List ℕ) → Holds beginning fresh image (journalSlots noEntries)
+unfolding editorOf holding
 holds-fresh image =
-    record { editor = refl; history = refl; entries = refl; fine = fresh-fine; stands = start-stands image; tree = refl; keyed = refl; lines = refl }
+    record { editor = refl; history = refl; held = refl; fine = fresh-fine; stands = start-stands image; tree = refl; keyed = refl; lines = refl }
 
 module _ (s : Standing) (h : Session) (image slots : List ℕ) (k : Holds s h image slots) where
   same-state : {e e′ : Editor} {p p′ : History} {l l′ : List ℕ} → e ≡ e′ → p ≡ p′ → l ≡ l′ → (stateOf e p l ≡ stateOf e′ p′ l′) × (goodState e p l ≡ goodState e′ p′ l′)
@@ -55,10 +46,10 @@ module _ (s : Standing) (h : Session) (image slots : List ℕ) (k : Holds s h im
 
   -- its state is good, and its tree well-formed
   pub holds-state : stateOf (h .editor) (h .history) slots ≡ s .state
-  holds-state = same-state (k .editor) (k .history) (k .entries) .0 ∙ held-state (s .state) (k .fine)
+  holds-state = same-state (k .editor) (k .history) (k .held) .0 ∙ held-state (s .state) (k .fine)
 
   pub holds-good : goodState (h .editor) (h .history) slots ≡ true
-  holds-good = same-state (k .editor) (k .history) (k .entries) .1 ∙ fine-good (s .state) (k .fine)
+  holds-good = same-state (k .editor) (k .history) (k .held) .1 ∙ fine-good (s .state) (k .fine)
 
   pub holds-tree : checkTree (imageOf h image) ≡ Good
   holds-tree = stands-good image (h .walk) (k .stands)
@@ -86,7 +77,7 @@ module _ (s : Standing) (h : Session) (image slots : List ℕ) (k : Holds s h im
         record {
           editor = ap (λ (x : Session). x .editor) (d .session) ∙ ap (λ (x : Turn). editorOf (x .after)) t;
           history = ap (λ (x : Session). x .history) (d .session) ∙ ap (λ (x : Turn). historyOf (x .after)) t;
-          entries = d .held ∙ ap (λ (x : Turn). slotsOf (x .after)) t;
+          held = d .held ∙ ap (λ (x : Turn). slotsOf (x .after)) t;
           fine = turn-fine prompt (s .state) byte (k .fine);
           stands = subst (Stands image) (sym w) (k .stands);
           tree = tree;

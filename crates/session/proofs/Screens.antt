@@ -13,12 +13,17 @@ use Rattle.tree.specs.Rules.{checkTree}
 use Rattle.tree.specs.declared.check.Checked.{Checked}
 use Rattle.tree.specs.declared.check.Checked.the-variants.{Good}
 use Rattle.text.specs.Decoding.{wellFormed}
+use Rattle.history.specs.Journal.{count}
 use Rattle.screen.specs.Decimal.{digitsIn, decimal}
 use Rattle.screen.specs.Redraw.{clearLine, moveBack, redraw}
-use Rattle.editor.specs.declared.line.Mode.{Mode}
-use Rattle.editor.specs.declared.line.Mode.the-variants.{Typing, Escape, Sequence}
+use Rattle.keys.specs.declared.meaning.Mode.{Mode}
+use Rattle.keys.specs.declared.meaning.Mode.the-variants.{Typing, Escape, Sequence}
+use Rattle.keys.specs.declared.meaning.Action.{Action}
+use Rattle.keys.specs.declared.meaning.Action.the-variants.{Nothing, Enter, Erase, Insert, Up, Down, Right, Left}
+use Rattle.keys.specs.declared.meaning.Meaning.{Meaning}
 use Rattle.editor.specs.Line.{limit, content}
-use Rattle.editor.specs.Keys.{State, Kind, shows, enters, drops, Turn, showing, inMode, redrawn, redrawing, lineFeed, enter, erase, insert, typed, escaped, up, onPlace, down, arrow, right, left, sequenced, turnIn, turnOf}
+use Rattle.keys.specs.Keys.{typed, escaped, sequenced, meaning}
+use Rattle.editor.specs.Turns.{State, Kind, shows, enters, drops, Turn, showing, inMode, redrawn, redrawing, lineFeed, enter, erase, insert, up, onPlace, down, arrow, right, left, turnBy, turnOf}
 use Rattle.editor.proofs.Fine.{Fine, turn-fine}
 use Rattle.session.specs.Calls.{isEnter, treeBefore}
 
@@ -80,90 +85,134 @@ module _ (byte : ℕ) where
   unfolding treeBefore isEnter
   untested image n = sym (else-is _ _ _ (else-is _ _ _ (ne-eqb byte 0x0D (λ e. n (inr e))) ∙ ne-eqb byte 0x0A (λ e. n (inl e))))
 
--- what is shown at Enter, which is a 0D or a 0A, is the line feed; a byte that is dropped shows nothing
-abbrev pub Plain : ℕ → Kind → List ℕ → Type 0
-Plain byte shows bytes = Unit {0}
-Plain byte enters bytes = (bytes ≡ lineFeed) × (isEnter byte ≡ true)
-Plain byte drops bytes = bytes ≡ []
+-- what is shown at Enter is the line feed; a byte that is dropped shows nothing
+abbrev pub Plain : Kind → List ℕ → Type 0
+Plain shows bytes = Unit {0}
+Plain enters bytes = bytes ≡ lineFeed
+Plain drops bytes = bytes ≡ []
 
 -- a turn shows few bytes, or draws the line of its state anew; and it submits at most a line
-data Brief (prompt : List ℕ) (byte : ℕ) (t : Turn) : Type 0 where
-  few : length (t .screen) ≤ 3 → length (t .submitted) ≤ 255 → Plain byte (t .kind) (t .screen) → Brief prompt byte t
-  drawn : t .screen ≡ redrawn prompt (t .after) → length (t .submitted) ≤ 255 → Plain byte (t .kind) (t .screen) → Brief prompt byte t
+data Brief (prompt : List ℕ) (t : Turn) : Type 0 where
+  few : length (t .screen) ≤ 3 → length (t .submitted) ≤ 255 → Plain (t .kind) (t .screen) → Brief prompt t
+  drawn : t .screen ≡ redrawn prompt (t .after) → length (t .submitted) ≤ 255 → Plain (t .kind) (t .screen) → Brief prompt t
 
-module _ (prompt : List ℕ) (byte : ℕ) where
-  either : (b : Bool) (t u : Turn) → (b ≡ true → Brief prompt byte t) → Brief prompt byte u → Brief prompt byte (cond b t u)
-  either true t u p q = p refl
+module _ (prompt : List ℕ) (s : State) where
+  either : (b : Bool) (t u : Turn) → Brief prompt t → Brief prompt u → Brief prompt (cond b t u)
+  either true t u p q = p
   either false t u p q = q
 
   -- a turn that shows these few bytes, or the line drawn anew, and submits nothing
-  brief : (s : State) (bytes : List ℕ) → length bytes ≤ 3 → Brief prompt byte (showing s bytes)
+  brief : (s : State) (bytes : List ℕ) → length bytes ≤ 3 → Brief prompt (showing s bytes)
   brief s bytes h = few h (omega arith) tt
 
-  anew : (s : State) → Brief prompt byte (redrawing prompt s)
+  quiet : (s : State) → Brief prompt (showing s [])
+  quiet s = brief s [] (omega arith)
+
+  anew : (s : State) → Brief prompt (redrawing prompt s)
   anew s = drawn refl (omega arith) tt
 
-  module _ (s : State) (h : length (s .line) ≤ 255) where
-    entered : isEnter byte ≡ true → Brief prompt byte (enter s)
-    unfolding enter
-    entered e = either (eqb (length (s .line)) 0) _ _ (λ z. few (omega arith) (omega arith) (refl, e)) (few (omega arith) h (refl, e))
+  action-brief : length (s .line) ≤ 255 → (a : Action) → Brief prompt (turnBy prompt s a)
+  unfolding enter erase insert up down right left
+  action-brief h Nothing = quiet s
+  action-brief h Enter = either (eqb (length (s .line)) 0) _ _ (few (omega arith) (omega arith) refl) (few (omega arith) h refl)
+  action-brief h Erase = either (eqb (s .cursor) 0) _ _ (quiet s) (anew _)
+  action-brief h (Insert b) = either (ltb (length (s .line)) limit) _ _ (anew _) (few (omega arith) (omega arith) refl)
+  action-brief h Up = either (eqb (s .history .place) 0) _ _ (quiet s) (anew _)
+  action-brief h Down = either (ltb (onPlace (s .history)) (count (s .history))) _ _ (anew _) (anew _)
+  action-brief h Right = either (ltb (s .cursor) (length (s .line))) _ _ (brief _ (arrow 0x43) (omega arith)) (quiet s)
+  action-brief h Left = either (eqb (s .cursor) 0) _ _ (quiet s) (brief _ (arrow 0x44) (omega arith))
 
-    erased : Brief prompt byte (erase prompt s)
-    unfolding erase
-    erased = either (eqb (s .cursor) 0) _ _ (λ z. brief _ [] (omega arith)) (anew _)
+  -- only the action Enter enters
+  Other : Action → Turn → Type 0
+  Other a t = t .kind ≡ enters → a ≡ Enter
 
-    typed-brief : Brief prompt byte (typed prompt s byte)
-    unfolding typed insert
-    typed-brief =
-        either (eqb byte 0x0D) _ _ (λ e. entered (cr-enters byte e))
-        (either (eqb byte 0x0A) _ _ (λ e. entered (lf-enters byte e))
-        (either (eqb byte 0x08) _ _ (λ e. erased)
-        (either (eqb byte 0x7F) _ _ (λ e. erased)
-        (either (eqb byte 0x1B) _ _ (λ e. brief _ [] (omega arith))
-        (either (ltb byte 0x20) _ _ (λ e. brief _ [] (omega arith))
-        (either (ltb (length (s .line)) limit) _ _ (λ e. anew _) (few (omega arith) (omega arith) refl)))))))
+  shows-other : (a : Action) (t : Turn) → t .kind ≡ shows → Other a t
+  unfolding Other
+  shows-other a t e q = absurd (let z : _≡_ {A = ℕ} 0 1 = cc in omega arith)
 
-    sequence-brief : Brief prompt byte (sequenced prompt s byte)
-    unfolding sequenced up down right left
-    sequence-brief =
-        either (eqb byte 0x41) _ _ (λ e. either (eqb (s .place) 0) _ _ (λ z. brief _ [] (omega arith)) (anew _))
-        (either (eqb byte 0x42) _ _ (λ e. either (ltb (onPlace s) (length (s .entries))) _ _ (λ z. anew _) (anew _))
-        (either (eqb byte 0x43) _ _ (λ e. either (ltb (s .cursor) (length (s .line))) _ _ (λ z. brief _ (arrow 0x43) (omega arith)) (brief _ [] (omega arith)))
-        (either (eqb byte 0x44) _ _ (λ e. either (eqb (s .cursor) 0) _ _ (λ z. brief _ [] (omega arith)) (brief _ (arrow 0x44) (omega arith)))
-        (brief _ [] (omega arith)))))
+  drops-other : (a : Action) (t : Turn) → t .kind ≡ drops → Other a t
+  unfolding Other
+  drops-other a t e q = absurd (let z : _≡_ {A = ℕ} 0 1 = cc in omega arith)
+
+  itself : (t : Turn) → Other Enter t
+  unfolding Other
+  itself t e = refl
+
+  each : (a : Action) (b : Bool) (t u : Turn) → Other a t → Other a u → Other a (cond b t u)
+  each a true t u p q = p
+  each a false t u p q = q
+
+  only-enter : (a : Action) → Other a (turnBy prompt s a)
+  unfolding erase insert up down right left
+  only-enter Nothing = shows-other Nothing _ refl
+  only-enter Enter = itself (enter s)
+  only-enter Erase = each Erase (eqb (s .cursor) 0) _ _ (shows-other Erase _ refl) (shows-other Erase _ refl)
+  only-enter (Insert b) = each (Insert b) (ltb (length (s .line)) limit) _ _ (shows-other (Insert b) _ refl) (drops-other (Insert b) _ refl)
+  only-enter Up = each Up (eqb (s .history .place) 0) _ _ (shows-other Up _ refl) (shows-other Up _ refl)
+  only-enter Down = each Down (ltb (onPlace (s .history)) (count (s .history))) _ _ (shows-other Down _ refl) (shows-other Down _ refl)
+  only-enter Right = each Right (ltb (s .cursor) (length (s .line))) _ _ (shows-other Right _ refl) (shows-other Right _ refl)
+  only-enter Left = each Left (eqb (s .cursor) 0) _ _ (shows-other Left _ refl) (shows-other Left _ refl)
+
+-- and only a 0D or a 0A means it
+Enters : ℕ → Meaning → Type 0
+Enters byte m = m .action ≡ Enter → isEnter byte ≡ true
+
+module _ (byte : ℕ) where
+  choose : (b : Bool) (m n : Meaning) → (b ≡ true → Enters byte m) → Enters byte n → Enters byte (cond b m n)
+  choose true m n p q = p refl
+  choose false m n p q = q
+
+  other : (a : Action) (m : Mode) → (a ≡ Enter → ⊥) → Enters byte (record { action = a; mode = m })
+  unfolding Enters
+  other a m n e = absurd (n e)
+
+  meaning-enters : (m : Mode) → Enters byte (meaning m byte)
+  unfolding typed escaped sequenced Enters
+  meaning-enters Typing =
+      choose (eqb byte 0x0D) _ _ (λ q e. cr-enters byte q)
+      (choose (eqb byte 0x0A) _ _ (λ q e. lf-enters byte q)
+      (choose (eqb byte 0x08) _ _ (λ q. other Erase Typing (λ e. let z : _≡_ {A = ℕ} 0 1 = cc in omega arith))
+      (choose (eqb byte 0x7F) _ _ (λ q. other Erase Typing (λ e. let z : _≡_ {A = ℕ} 0 1 = cc in omega arith))
+      (choose (eqb byte 0x1B) _ _ (λ q. other Nothing Escape (λ e. let z : _≡_ {A = ℕ} 0 1 = cc in omega arith))
+      (choose (ltb byte 0x20) _ _ (λ q. other Nothing Typing (λ e. let z : _≡_ {A = ℕ} 0 1 = cc in omega arith)) (other (Insert byte) Typing (λ e. let z : _≡_ {A = ℕ} 0 1 = cc in omega arith)))))))
+  meaning-enters Escape = choose (eqb byte 0x5B) _ _ (λ q. other Nothing Sequence (λ e. let z : _≡_ {A = ℕ} 0 1 = cc in omega arith)) (other Nothing Typing (λ e. let z : _≡_ {A = ℕ} 0 1 = cc in omega arith))
+  meaning-enters Sequence =
+      choose (eqb byte 0x41) _ _ (λ q. other Up Typing (λ e. let z : _≡_ {A = ℕ} 0 1 = cc in omega arith))
+      (choose (eqb byte 0x42) _ _ (λ q. other Down Typing (λ e. let z : _≡_ {A = ℕ} 0 1 = cc in omega arith))
+      (choose (eqb byte 0x43) _ _ (λ q. other Right Typing (λ e. let z : _≡_ {A = ℕ} 0 1 = cc in omega arith))
+      (choose (eqb byte 0x44) _ _ (λ q. other Left Typing (λ e. let z : _≡_ {A = ℕ} 0 1 = cc in omega arith)) (other Nothing Typing (λ e. let z : _≡_ {A = ℕ} 0 1 = cc in omega arith)))))
 
 module _ (prompt : List ℕ) (s : State) (byte : ℕ) (f : Fine s) where
-  turn-brief : Brief prompt byte (turnOf prompt s byte)
-  unfolding turnOf turnIn escaped
-  turn-brief = by (s .mode)
-    where
-      by : (m : Mode) → Brief prompt byte (turnIn m prompt s byte)
-      by Typing = typed-brief prompt byte s (f .short)
-      by Escape = brief prompt byte _ [] (omega arith)
-      by Sequence = sequence-brief prompt byte (inMode s Typing) (f .short)
+  turn-brief : Brief prompt (turnOf prompt s byte)
+  unfolding turnOf
+  turn-brief = let m : Meaning = meaning (s .mode) byte in action-brief prompt (inMode s (m .mode)) (f .short) (m .action)
 
   pub screen-short : length prompt ≤ 128 → length (turnOf prompt s byte .screen) ≤ 1023
   screen-short h = by turn-brief
     where
-      by : Brief prompt byte (turnOf prompt s byte) → length (turnOf prompt s byte .screen) ≤ 1023
+      by : Brief prompt (turnOf prompt s byte) → length (turnOf prompt s byte .screen) ≤ 1023
       by (few k l m) = omega arith
       by (drawn e l m) = let r = redrawn-size prompt (turnOf prompt s byte .after) h (turn-fine prompt s byte f .short) in let l = ap length e in omega arith
 
   pub submitted-short : length (turnOf prompt s byte .submitted) ≤ 255
   submitted-short = by turn-brief
     where
-      by : Brief prompt byte (turnOf prompt s byte) → length (turnOf prompt s byte .submitted) ≤ 255
+      by : Brief prompt (turnOf prompt s byte) → length (turnOf prompt s byte .submitted) ≤ 255
       by (few k l m) = l
       by (drawn e l m) = l
 
-  pub screen-plain : Plain byte (turnOf prompt s byte .kind) (turnOf prompt s byte .screen)
+  pub screen-plain : Plain (turnOf prompt s byte .kind) (turnOf prompt s byte .screen)
   screen-plain = by turn-brief
     where
-      by : Brief prompt byte (turnOf prompt s byte) → Plain byte (turnOf prompt s byte .kind) (turnOf prompt s byte .screen)
+      by : Brief prompt (turnOf prompt s byte) → Plain (turnOf prompt s byte .kind) (turnOf prompt s byte .screen)
       by (few k l m) = m
       by (drawn e l m) = m
 
   -- a turn that runs a line comes from one of the bytes before which the tree is tested
+  pub enters-byte : turnOf prompt s byte .kind ≡ enters → isEnter byte ≡ true
+  unfolding turnOf Other Enters
+  enters-byte e = let m : Meaning = meaning (s .mode) byte in meaning-enters byte (s .mode) (only-enter prompt (inMode s (m .mode)) (m .action) e)
+
   pub enters-tested : (image : List ℕ) → turnOf prompt s byte .kind ≡ enters → treeBefore byte image ≡ checkTree image
   unfolding treeBefore
-  enters-tested image e = then-is _ _ _ (subst (λ (q : Kind). Plain byte q (turnOf prompt s byte .screen)) e screen-plain .1)
+  enters-tested image e = then-is _ _ _ (enters-byte e)

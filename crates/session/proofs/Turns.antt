@@ -32,7 +32,7 @@ use Rattle.editor.specs.declared.drawing.KeyAnswer.{KeyAnswer}
 use Rattle.editor.specs.declared.drawing.Pressed.{Pressed}
 use Rattle.editor.specs.declared.drawing.Pressed.the-variants.{Shown, Entered, Dropped, BadState as BadKey, BadPrompt, NoRoom as NoScreen}
 use Rattle.editor.specs.Line.{limit}
-use Rattle.editor.specs.Keys.{Kind, shows, enters, drops, Turn, lineFeed}
+use Rattle.editor.specs.Turns.{Kind, shows, enters, drops, Turn, lineFeed}
 use Rattle.editor.specs.Answer.{stateOf, editorOf, historyOf, slotsOf, goodState, goodPrompt, taken, turnAnswer, keyAnswer, refused, Pressing as KeyPressing}
 use Rattle.editor.proofs.Fine.{fine-of}
 use Rattle.editor.proofs.drawing.Pressed.{the-type}

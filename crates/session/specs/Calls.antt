@@ -16,10 +16,10 @@ use Rattle.tree.specs.declared.check.Checked.{Checked}
 use Rattle.tree.specs.declared.check.Checked.the-variants.{Good, BadFrame}
 use Rattle.tree.specs.declared.walk.Walk.{Walk}
 use Rattle.growth.specs.Growth.{admits, passedBy}
-use Rattle.history.specs.Answer.{atEnd}
+use Rattle.history.specs.Journal.{noEntries, recordOf}
 use Rattle.editor.specs.declared.drawing.KeyAnswer.{KeyAnswer}
 use Rattle.editor.specs.Line.{freshEditor}
-use Rattle.editor.specs.Keys.{State, Turn, turnOf}
+use Rattle.editor.specs.Turns.{State, Turn, turnOf}
 use Rattle.editor.specs.Answer.{stateOf, editorOf, historyOf, slotsOf, goodState}
 use Rattle.session.specs.Prints.{badLine, prompt, keyPrints, keyEnds}
 use Rattle.session.specs.Lines.{Form, tree, keys, formless, lineForm}
@@ -32,7 +32,7 @@ use Rattle.session.specs.declared.taking.Taken.the-variants.{Tree, Keys,
 use Rattle.session.specs.declared.taking.Took.{Took}
 
 abbrev pub fresh : Session
-fresh = record { editor = freshEditor; history = atEnd 0; walk = startWalk; keyed = false; lines = 0 }
+fresh = record { editor = freshEditor; history = recordOf noEntries; walk = startWalk; keyed = false; lines = 0 }
 
 -- a session with another part; a line more is counted where one is taken
 abbrev pub withState : Session → State → Session

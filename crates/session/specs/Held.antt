@@ -9,7 +9,7 @@ use Rattle.image.specs.Frames.{Frame}
 use Rattle.tree.specs.Images.{framesOf}
 use Rattle.tree.specs.Rules.{checkTree}
 use Rattle.tree.specs.declared.check.Checked.the-variants.{Good}
-use Rattle.editor.specs.Keys.{lineFeed}
+use Rattle.editor.specs.Turns.{lineFeed}
 use Rattle.editor.specs.declared.drawing.Pressed.{Pressed}
 use Rattle.editor.specs.declared.drawing.Pressed.the-variants.{Shown, Entered, Dropped, BadState as BadKey, BadPrompt, NoRoom as NoScreen}
 use Rattle.shell.specs.Lines.{Said, saidOf}

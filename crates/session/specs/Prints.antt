@@ -6,7 +6,7 @@ use Rattle.frame.specs.House.{houseLine}
 use Rattle.ink.specs.Ascii.{ascii}
 use Rattle.image.specs.Frames.{Frame}
 use Rattle.message.specs.Messages.{goodbye}
-use Rattle.editor.specs.Keys.{Kind, shows, enters, drops, Turn, lineFeed}
+use Rattle.editor.specs.Turns.{Kind, shows, enters, drops, Turn, lineFeed}
 use Rattle.shell.specs.Lines.{Said, silence, text, farewell, handed, saidOf}
 
 -- 22 screen bytes, 21 handler and report, 23 exit, 2F a bad line with its number

@@ -10,7 +10,8 @@ use lib.Dec.{ltb}
 use lib.ListN.{length}
 use borrow.Author.Tests.{lt-ltb, le-ltb}
 use Rattle.buffer.proofs.Choices.{then-is, else-is, true-is-not-false}
-use Rattle.history.specs.Answer.{atEnd, Emptied, entriesAfter, addAnswer, historyBy, slotsBy, Addition}
+use Rattle.history.specs.Journal.{Journal, noEntries, offered, recordOf, journalOf}
+use Rattle.history.specs.Answer.{Emptied, addAnswer, recordBy, slotsBy, Addition}
 use Rattle.history.specs.declared.stepping.History.{History}
 use Rattle.history.specs.declared.adding.Added.{Added}
 use Rattle.history.specs.declared.adding.Added.the-variants.{Done, BadState as BadHistory, TooLong, IllFormed}
@@ -22,50 +23,62 @@ use Rattle.editor.specs.declared.line.Editor.{Editor}
 use Rattle.editor.specs.declared.drawing.KeyAnswer.{KeyAnswer}
 use Rattle.editor.specs.declared.drawing.Pressed.the-variants.{BadState}
 use Rattle.editor.specs.Line.{freshEditor, goodLine}
-use Rattle.editor.specs.Keys.{turnOf}
+use Rattle.editor.specs.Turns.{turnOf}
 use Rattle.editor.specs.Answer.{stateOf, editorOf, historyOf, goodState, keyAnswer, refused, Pressing}
-use Rattle.state.specs.State.{savedOf, isState, editorIn, historyIn, goodSaved}
+use Rattle.state.specs.State.{stateSize, savedOf, isState, editorIn, historyIn, goodSaved}
 use Rattle.state.specs.Calls.{beginAnswer, Beginning, turnIn, pressAnswer, savedAfter, SavedKey, savedAnswer, stateBy, SavedAdd}
 use Rattle.state.specs.declared.saving.Restored.{Restored}
 use Rattle.state.specs.declared.calls.Begun.the-variants.{Ready, NoRoom, BadState as NoState}
-use Rattle.state.proofs.Savings.{Fits, Back, good-fits}
+use Rattle.state.proofs.Savings.{size-is, Fits, Back, good-fits}
 
 -- a fresh session
 module _ (state slots : List ℕ) where
   pub short-state : length state < 260 → Beginning state slots (NoRoom 260) state slots
   unfolding beginAnswer
-  short-state a = record { answer = sym (then-is _ _ _ (lt-ltb _ 260 a)); kept = refl; held = refl }
+  short-state a =
+      record {
+        answer = sym (then-is _ _ _ (ap (ltb (length state)) size-is ∙ lt-ltb _ 260 a) ∙ ap NoRoom size-is);
+        kept = refl;
+        held = refl;
+      }
 
   module _ (a : 260 ≤ length state) where
+    room : ltb (length state) stateSize ≡ false
+    room = ap (ltb (length state)) size-is ∙ le-ltb _ 260 a
+
     pub short-slots : length slots < 25600 → Beginning state slots (NoRoom 25600) state slots
     unfolding beginAnswer
-    short-slots b = record { answer = sym (else-is _ _ _ (le-ltb _ 260 a) ∙ then-is _ _ _ (lt-ltb _ 25600 b)); kept = refl; held = refl }
+    short-slots b = record { answer = sym (else-is _ _ _ room ∙ then-is _ _ _ (lt-ltb _ 25600 b)); kept = refl; held = refl }
 
     module _ (b : 25600 ≤ length slots) where
-      roomy : beginAnswer (length state) (length slots) ≡ cond (ltb 260 (length state)) NoState (cond (ltb 25600 (length slots)) NoState Ready)
+      roomy : beginAnswer (length state) (length slots) ≡ cond (ltb stateSize (length state)) NoState (cond (ltb 25600 (length slots)) NoState Ready)
       unfolding beginAnswer
-      roomy = else-is _ _ _ (le-ltb _ 260 a) ∙ else-is _ _ _ (le-ltb _ 25600 b)
+      roomy = else-is _ _ _ room ∙ else-is _ _ _ (le-ltb _ 25600 b)
 
       pub long-state : 260 < length state → Beginning state slots NoState state slots
-      long-state m = record { answer = sym (roomy ∙ then-is _ _ _ (lt-ltb 260 _ m)); kept = refl; held = refl }
+      long-state m = record { answer = sym (roomy ∙ then-is _ _ _ (ap (λ (n : ℕ). ltb n (length state)) size-is ∙ lt-ltb 260 _ m)); kept = refl; held = refl }
 
       module _ (m : length state ≤ 260) where
+        exact : ltb stateSize (length state) ≡ false
+        exact = ap (λ (n : ℕ). ltb n (length state)) size-is ∙ le-ltb 260 _ m
+
         pub long-slots : 25600 < length slots → Beginning state slots NoState state slots
-        long-slots n = record { answer = sym (roomy ∙ else-is _ _ _ (le-ltb 260 _ m) ∙ then-is _ _ _ (lt-ltb 25600 _ n)); kept = refl; held = refl }
+        long-slots n = record { answer = sym (roomy ∙ else-is _ _ _ exact ∙ then-is _ _ _ (lt-ltb 25600 _ n)); kept = refl; held = refl }
 
         pub begin-ready : (e : Editor) (h : History) (state′ slots′ : List ℕ) → length slots ≤ 25600 → e ≡ freshEditor → Emptied h slots′ → state′ ≡ savedOf e h
             → Beginning state slots Ready state′ slots′
         begin-ready e h state′ slots′ n p q w =
             record {
-              answer = sym (roomy ∙ else-is _ _ _ (le-ltb 260 _ m) ∙ else-is _ _ _ (le-ltb 25600 _ n));
+              answer = sym (roomy ∙ else-is _ _ _ exact ∙ else-is _ _ _ (le-ltb 25600 _ n));
               kept = w ∙ ap (λ (x : Editor). savedOf x h) p ∙ ap (savedOf freshEditor) (q .state);
               held = q .bytes;
             }
 
-fresh-small : Fits freshEditor (atEnd 0)
-fresh-small = (omega arith, omega arith, omega arith, omega arith)
+fresh-small : Fits freshEditor (recordOf noEntries)
+unfolding recordOf
+fresh-small = (record { size = omega arith; cursor = omega arith }, record { count = omega arith; place = omega arith })
 
-pub fresh-bytes : (e : Editor) (h : History) → e ≡ freshEditor → h ≡ atEnd 0 → Fits e h
+pub fresh-bytes : (e : Editor) (h : History) → e ≡ freshEditor → h ≡ recordOf noEntries → Fits e h
 fresh-bytes e h p q = rw (p, q) fresh-small
 
 -- a text added
@@ -90,20 +103,20 @@ module _ (state slots text : List ℕ) where
       unfolding savedAnswer
       answered-so = a .answer ∙ sym (then-is _ _ _ (back .is) ∙ then-is _ _ _ line)
 
-      left-so : left ≡ slotsBy told slots (entriesAfter (historyIn state) slots text)
-      left-so = a .bytes ∙ ap (λ (x : Added). slotsBy x slots (entriesAfter (historyIn state) slots text)) (sym (a .answer))
+      left-so : left ≡ slotsBy told slots (offered text (journalOf (historyIn state) slots))
+      left-so = a .bytes ∙ ap (λ (x : Added). slotsBy x slots (offered text (journalOf (historyIn state) slots))) (sym (a .answer))
 
       pub add-done : (state′ : List ℕ) → told ≡ Done → state′ ≡ savedOf (s .editor) r → SavedAdd state slots text told state′ left
       add-done state′ d w =
-          let n : ℕ = length (entriesAfter (historyIn state) slots text) in
+          let j : Journal = offered text (journalOf (historyIn state) slots) in
           let known : addAnswer (historyIn state) slots text ≡ Done = sym (a .answer) ∙ d in
           record {
             answer = answered-so;
             kept =
                 w
                 ∙ ap (λ (x : Editor). savedOf x r) (back .editor)
-                ∙ ap (savedOf (editorIn state)) (a .state ∙ ap (λ (x : Added). historyBy x (historyIn state) (entriesAfter (historyIn state) slots text)) known)
-                ∙ ap (λ (x : Added). stateBy x state n) (sym d);
+                ∙ ap (savedOf (editorIn state)) (a .state ∙ ap (λ (x : Added). recordBy x (historyIn state) (offered text (journalOf (historyIn state) slots))) known)
+                ∙ ap (λ (x : Added). stateBy x state j) (sym d);
             held = left-so;
           }
 
@@ -119,7 +132,7 @@ module _ (state slots text : List ℕ) where
       pub add-refused : OneOf (1 ∷ 2 ∷ 3 ∷ []) (tagOf the-type told) → SavedAdd state slots text told state left
       add-refused k = record { answer = answered-so; kept = sym (stays told k); held = left-so }
         where
-          stays : (x : Added) → OneOf (1 ∷ 2 ∷ 3 ∷ []) (tagOf the-type x) → stateBy x state (length (entriesAfter (historyIn state) slots text)) ≡ state
+          stays : (x : Added) → OneOf (1 ∷ 2 ∷ 3 ∷ []) (tagOf the-type x) → stateBy x state (offered text (journalOf (historyIn state) slots)) ≡ state
           stays Done m = absurd (miss (1 ∷ 2 ∷ 3 ∷ []) 0 tt m)
           stays BadHistory m = refl
           stays (TooLong n) m = refl

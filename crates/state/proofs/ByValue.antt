@@ -5,17 +5,18 @@ use mathlib.Core.Bool.{Bool, true, false, cond}
 use mathlib.Core.List.{List}
 use lib.ListN.{length}
 use Rattle.buffer.proofs.Choices.{then-is}
-use Rattle.history.specs.Answer.{entriesAfter, addAnswer, historyBy, slotsBy, Addition}
+use Rattle.history.specs.Journal.{Journal, offered, journalOf}
+use Rattle.history.specs.Answer.{addAnswer, recordBy, slotsBy, Addition}
 use Rattle.history.specs.declared.stepping.History.{History}
 use Rattle.history.specs.declared.adding.Added.{Added}
 use Rattle.history.specs.declared.adding.Added.the-variants.{Done, BadState, TooLong, IllFormed}
-use Rattle.editor.specs.declared.line.Mode.the-variants.{Typing}
+use Rattle.keys.specs.declared.meaning.Mode.the-variants.{Typing}
 use Rattle.editor.specs.declared.line.Editor.{Editor}
 use Rattle.editor.specs.declared.drawing.KeyAnswer.{KeyAnswer}
 use Rattle.editor.specs.declared.drawing.Pressed.{Pressed}
 use Rattle.editor.specs.declared.drawing.Pressed.the-variants.{Dropped}
 use Rattle.editor.specs.Line.{limit, goodLine}
-use Rattle.editor.specs.Keys.{State, Turn, turnOf}
+use Rattle.editor.specs.Turns.{State, Turn, turnOf}
 use Rattle.editor.specs.Answer.{stateOf, editorOf, historyOf, goodPrompt, keyAnswer, refused, Pressing}
 use Rattle.editor.proofs.Called.{dropped}
 use Rattle.state.specs.State.{savedOf, isState, editorIn, historyIn, goodSaved}
@@ -61,24 +62,24 @@ module _ (state slots prompt : List ℕ) (byte : ℕ) (line screen : List ℕ) (
 
 module _ (state slots text : List ℕ) (told : Added) (state′ slots′ : List ℕ) (p : SavedAdd state slots text told state′ slots′)
     (is : isState state ≡ true) (fair : goodLine (editorIn state) ≡ true) where
-  pub add-by-value : Addition (historyIn state) slots text (historyBy told (historyIn state) (entriesAfter (historyIn state) slots text)) told slots′
+  pub add-by-value : Addition (historyIn state) slots text (recordBy told (historyIn state) (offered text (journalOf (historyIn state) slots))) told slots′
   unfolding savedAnswer
   add-by-value =
       let a : told ≡ addAnswer (historyIn state) slots text = p .answer ∙ then-is _ _ _ is ∙ then-is _ _ _ fair in
       record {
         answer = a;
-        state = ap (λ (x : Added). historyBy x (historyIn state) (entriesAfter (historyIn state) slots text)) a;
-        bytes = p .held ∙ ap (λ (x : Added). slotsBy x slots (entriesAfter (historyIn state) slots text)) a;
+        state = ap (λ (x : Added). recordBy x (historyIn state) (offered text (journalOf (historyIn state) slots))) a;
+        bytes = p .held ∙ ap (λ (x : Added). slotsBy x slots (offered text (journalOf (historyIn state) slots))) a;
       }
 
-  pub add-saved : state′ ≡ savedOf (editorIn state) (historyBy told (historyIn state) (entriesAfter (historyIn state) slots text))
-  add-saved = p .kept ∙ by told (entriesAfter (historyIn state) slots text)
+  pub add-saved : state′ ≡ savedOf (editorIn state) (recordBy told (historyIn state) (offered text (journalOf (historyIn state) slots)))
+  add-saved = p .kept ∙ by told (offered text (journalOf (historyIn state) slots))
     where
-      by : (x : Added) (es : List (List ℕ)) → stateBy x state (length es) ≡ savedOf (editorIn state) (historyBy x (historyIn state) es)
-      by Done es = refl
-      by BadState es = sym (saved-restored state is)
-      by (TooLong n) es = sym (saved-restored state is)
-      by (IllFormed n) es = sym (saved-restored state is)
+      by : (x : Added) (j : Journal) → stateBy x state j ≡ savedOf (editorIn state) (recordBy x (historyIn state) j)
+      by Done j = refl
+      by BadState j = sym (saved-restored state is)
+      by (TooLong n) j = sym (saved-restored state is)
+      by (IllFormed n) j = sym (saved-restored state is)
 
 -- a byte typed into a full line is answered dropped, and nothing changes: not a byte of the state, nor of any buffer
 pub dropped-saved : (state slots prompt : List ℕ) (byte : ℕ) (line screen : List ℕ) (told : Pressed) (state′ slots′ line′ screen′ : List ℕ)

@@ -3,10 +3,9 @@ use Prim.Native.Nat.{ℕ}
 use mathlib.Core.Path.{_≡_, refl, sym, ap, _∙_}
 use mathlib.Core.Bool.{Bool, true, false, cond}
 use mathlib.Core.List.{List, []}
-use lib.ListN.{length}
 use Rattle.buffer.proofs.Choices.{then-is}
-use Rattle.history.specs.Slots.{layout}
-use Rattle.history.specs.Answer.{atEnd, entriesAfter, addAnswer, slotsBy}
+use Rattle.history.specs.Journal.{Journal, noEntries, offered, recordOf, slotsOf as journalSlots, journalOf}
+use Rattle.history.specs.Answer.{addAnswer, slotsBy}
 use Rattle.history.specs.declared.stepping.History.{History}
 use Rattle.history.specs.declared.adding.Added.{Added}
 use Rattle.history.specs.declared.adding.Added.the-variants.{Done, BadState as BadHistory, TooLong, IllFormed}
@@ -16,10 +15,10 @@ use Rattle.history.proofs.Lasting.{offered-good}
 use Rattle.editor.specs.declared.line.Editor.{Editor}
 use Rattle.editor.specs.declared.drawing.Pressed.{Pressed}
 use Rattle.editor.specs.Line.{holding, freshEditor}
-use Rattle.editor.specs.Keys.{State, turnOf, afterKeys}
+use Rattle.editor.specs.Turns.{State, turnOf, afterKeys}
 use Rattle.editor.specs.Answer.{stateOf, editorOf, historyOf, slotsOf, goodState, refused}
 use Rattle.editor.proofs.Lines.{good-line, length-of}
-use Rattle.editor.proofs.Seats.{good-parts}
+use Rattle.editor.proofs.States.{good-parts}
 use Rattle.editor.proofs.Fine.{fine-of, fine-good, turn-fine, never-bad}
 use Rattle.state.specs.State.{savedOf, isState, editorIn, historyIn, goodSaved}
 use Rattle.state.specs.Calls.{Beginning, turnIn, savedAfter, SavedKey, savedAnswer, stateBy, SavedAdd}
@@ -30,9 +29,9 @@ use Rattle.state.proofs.Savings.{good-saved}
 pub saved-good : (e : Editor) (h : History) (slots : List ℕ) → goodState e h slots ≡ true → goodSaved (savedOf e h) slots ≡ true
 saved-good e h slots g = good-saved e h slots (length-of e (good-line e (good-parts e h slots g .0)) .0) ∙ g
 
-pub fresh-good : goodSaved (savedOf freshEditor (atEnd 0)) (layout []) ≡ true
-unfolding editorOf historyOf slotsOf afterKeys holding
-fresh-good = saved-good freshEditor (atEnd 0) (layout []) (never-bad [] [])
+pub fresh-good : goodSaved (savedOf freshEditor (recordOf noEntries)) (journalSlots noEntries) ≡ true
+unfolding editorOf afterKeys holding
+fresh-good = saved-good freshEditor (recordOf noEntries) (journalSlots noEntries) (never-bad [] [])
 
 pub good-saved-parts : (state slots : List ℕ) → goodSaved state slots ≡ true → (isState state ≡ true) × (goodState (editorIn state) (historyIn state) slots ≡ true)
 unfolding goodSaved
@@ -60,22 +59,22 @@ done-so state slots text g d =
     sym (then-is _ _ _ (p .0) ∙ then-is _ _ _ (good-parts (editorIn state) (historyIn state) slots (p .1) .0)) ∙ d
 
 added-good : (state slots text : List ℕ) → goodSaved state slots ≡ true → savedAnswer state slots text ≡ Done
-    → goodSaved (savedOf (editorIn state) (atEnd (length (entriesAfter (historyIn state) slots text)))) (layout (entriesAfter (historyIn state) slots text)) ≡ true
+    → goodSaved (savedOf (editorIn state) (recordOf (offered text (journalOf (historyIn state) slots)))) (journalSlots (offered text (journalOf (historyIn state) slots))) ≡ true
 unfolding goodState
 added-good state slots text g d =
-    let es : List (List ℕ) = entriesAfter (historyIn state) slots text in
-    saved-good (editorIn state) (atEnd (length es)) (layout es)
+    let j : Journal = offered text (journalOf (historyIn state) slots) in
+    saved-good (editorIn state) (recordOf j) (journalSlots j)
     (then-is _ _ _ (good-parts (editorIn state) (historyIn state) slots (good-saved-parts state slots g .1) .0)
-    ∙ offered-good (historyIn state) slots text (atEnd (length es)) (layout es) (done-has (historyIn state) slots text (done-so state slots text g d)) (record { state = refl; bytes = refl }))
+    ∙ offered-good (historyIn state) slots text (recordOf j) (journalSlots j) (done-has (historyIn state) slots text (done-so state slots text g d)) (record { state = refl; bytes = refl }))
 
 pub add-stays : (state slots text : List ℕ) (told : Added) (state′ slots′ : List ℕ) → goodSaved state slots ≡ true → SavedAdd state slots text told state′ slots′
     → goodSaved state′ slots′ ≡ true
 add-stays state slots text told state′ slots′ g k =
     ap (λ (x : List ℕ). goodSaved x slots′) (k .kept)
-    ∙ ap (goodSaved (stateBy told state (length (entriesAfter (historyIn state) slots text)))) (k .held)
+    ∙ ap (goodSaved (stateBy told state (offered text (journalOf (historyIn state) slots)))) (k .held)
     ∙ by told (sym (k .answer))
   where
-    by : (x : Added) → savedAnswer state slots text ≡ x → goodSaved (stateBy x state (length (entriesAfter (historyIn state) slots text))) (slotsBy x slots (entriesAfter (historyIn state) slots text)) ≡ true
+    by : (x : Added) → savedAnswer state slots text ≡ x → goodSaved (stateBy x state (offered text (journalOf (historyIn state) slots))) (slotsBy x slots (offered text (journalOf (historyIn state) slots))) ≡ true
     by Done d = added-good state slots text g d
     by BadHistory d = g
     by (TooLong n) d = g
@@ -90,7 +89,7 @@ pub data Reached : List ℕ → List ℕ → Type 0 where
 
 -- no sequence of calls reaches a bad state
 pub never-reached-bad : (state slots : List ℕ) → Reached state slots → goodSaved state slots ≡ true
-never-reached-bad state′ slots′ (begun b) = ap (λ (x : List ℕ). goodSaved x slots′) (b .kept) ∙ ap (goodSaved (savedOf freshEditor (atEnd 0))) (b .held) ∙ fresh-good
+never-reached-bad state′ slots′ (begun b) = ap (λ (x : List ℕ). goodSaved x slots′) (b .kept) ∙ ap (goodSaved (savedOf freshEditor (recordOf noEntries))) (b .held) ∙ fresh-good
 never-reached-bad state′ slots′ (by-key {state} {slots} {prompt} {line} {screen} {line′ = line′} {screen′ = screen′} {byte = byte} {told = told} r k) =
     key-stays state slots prompt byte line screen told state′ slots′ line′ screen′ (never-reached-bad state slots r) k
 never-reached-bad state′ slots′ (by-add {state} {slots} {text} {told = told} r k) =

@@ -2,19 +2,19 @@
 use Prim.Native.Nat.{ℕ}
 use mathlib.Core.Path.{_≡_}
 use mathlib.Core.Bool.{Bool, true, false, cond}
-use mathlib.Core.List.{List, []}
+use mathlib.Core.List.{List}
 use lib.Dec.{ltb}
 use lib.ListN.{length}
 use Rattle.buffer.specs.Write.{over}
-use Rattle.history.specs.Slots.{layout}
-use Rattle.history.specs.Answer.{atEnd, entriesAfter, addAnswer, slotsBy}
+use Rattle.history.specs.Journal.{Journal, noEntries, offered, recordOf, slotsOf as journalSlots, journalOf}
+use Rattle.history.specs.Answer.{addAnswer, slotsBy}
 use Rattle.history.specs.declared.adding.Added.{Added}
 use Rattle.history.specs.declared.adding.Added.the-variants.{Done, BadState as BadHistory, TooLong, IllFormed}
 use Rattle.editor.specs.declared.drawing.Pressed.{Pressed}
 use Rattle.editor.specs.Line.{freshEditor, goodLine}
-use Rattle.editor.specs.Keys.{State, Turn, turnOf}
+use Rattle.editor.specs.Turns.{State, Turn, turnOf}
 use Rattle.editor.specs.Answer.{stateOf, editorOf, historyOf, slotsOf, keyAnswer, refused}
-use Rattle.state.specs.State.{savedOf, isState, editorIn, historyIn, goodSaved}
+use Rattle.state.specs.State.{stateSize, savedOf, isState, editorIn, historyIn, goodSaved}
 use Rattle.state.specs.declared.calls.Begun.{Begun}
 use Rattle.state.specs.declared.calls.Begun.the-variants.{Ready, NoRoom, BadState}
 
@@ -22,9 +22,9 @@ use Rattle.state.specs.declared.calls.Begun.the-variants.{Ready, NoRoom,
 -- is a bad state's
 unfoldable pub beginAnswer : ℕ → ℕ → Begun
 beginAnswer state slots =
-    cond (ltb state 260) (NoRoom 260)
+    cond (ltb state stateSize) (NoRoom stateSize)
     (cond (ltb slots 25600) (NoRoom 25600)
-    (cond (ltb 260 state) BadState
+    (cond (ltb stateSize state) BadState
     (cond (ltb 25600 slots) BadState
     Ready)))
 
@@ -46,8 +46,8 @@ value BadState = 0
 
 pub record Beginning (state slots : List ℕ) (told : Begun) (state′ slots′ : List ℕ) : Type 0 where
   pub answer : told ≡ beginAnswer (length state) (length slots)
-  pub kept : state′ ≡ cond (isReady told) (savedOf freshEditor (atEnd 0)) state
-  pub held : slots′ ≡ cond (isReady told) (layout []) slots
+  pub kept : state′ ≡ cond (isReady told) (savedOf freshEditor (recordOf noEntries)) state
+  pub held : slots′ ≡ cond (isReady told) (journalSlots noEntries) slots
 
 -- one key: the turn that it takes in a saved state
 unfoldable pub turnIn : List ℕ → List ℕ → List ℕ → ℕ → Turn
@@ -72,14 +72,14 @@ unfoldable pub savedAnswer : List ℕ → List ℕ → List ℕ → Added
 savedAnswer state slots text =
     cond (isState state) (cond (goodLine (editorIn state)) (addAnswer (historyIn state) slots text) BadHistory) BadHistory
 
--- a refusal keeps every byte; otherwise count and place are saved
-abbrev pub stateBy : Added → List ℕ → ℕ → List ℕ
-stateBy Done state n = savedOf (editorIn state) (atEnd n)
-stateBy BadHistory state n = state
-stateBy (TooLong m) state n = state
-stateBy (IllFormed m) state n = state
+-- a refusal keeps every byte; otherwise the history is saved
+abbrev pub stateBy : Added → List ℕ → Journal → List ℕ
+stateBy Done state j = savedOf (editorIn state) (recordOf j)
+stateBy BadHistory state j = state
+stateBy (TooLong n) state j = state
+stateBy (IllFormed n) state j = state
 
 pub record SavedAdd (state slots text : List ℕ) (told : Added) (state′ slots′ : List ℕ) : Type 0 where
   pub answer : told ≡ savedAnswer state slots text
-  pub kept : state′ ≡ stateBy told state (length (entriesAfter (historyIn state) slots text))
-  pub held : slots′ ≡ slotsBy told slots (entriesAfter (historyIn state) slots text)
+  pub kept : state′ ≡ stateBy told state (offered text (journalOf (historyIn state) slots))
+  pub held : slots′ ≡ slotsBy told slots (offered text (journalOf (historyIn state) slots))

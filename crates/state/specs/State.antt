@@ -1,47 +1,43 @@
--- A saved state: 260 bytes, the mode, the line's length, the cursor, the count, the place, then the 255 bytes of the line.
-use Prim.Native.Nat.{ℕ}
+-- A saved state: what the editor saves of itself, then what the history does. 260 bytes in all.
+use Prim.Native.Nat.{ℕ, _+_}
 use mathlib.Core.Bool.{Bool, true, false, cond}
-use mathlib.Core.List.{List, _∷_}
-use lib.Dec.{leb, eqb}
-use lib.ListN.{length, drop, getD}
+use mathlib.Core.List.{List, _++_}
+use lib.Dec.{eqb}
+use lib.ListN.{length, take, drop}
 use Rattle.history.specs.declared.stepping.History.{History}
-use Rattle.history.specs.Answer.{atEnd}
-use Rattle.editor.specs.declared.line.Mode.{Mode}
-use Rattle.editor.specs.declared.line.Mode.the-variants.{Typing, Escape, Sequence}
+use Rattle.history.specs.Journal.{noEntries, recordOf}
+use Rattle.history.specs.Saved.{savedSize as historySize, savedOf as historySaved, savedIn as historySavedIn}
 use Rattle.editor.specs.declared.line.Editor.{Editor}
 use Rattle.editor.specs.Line.{freshEditor}
 use Rattle.editor.specs.Answer.{goodState}
+use Rattle.editor.specs.Saved.{savedSize as editorSize, savedOf as editorSaved, isSaved, savedIn as editorSavedIn}
 use Rattle.state.specs.declared.saving.Restored.{Restored}
 
--- a mode as a number: 0 typing, 1 after ESC, 2 after ESC `[`
-unfoldable pub modeNumber : Mode → ℕ
-modeNumber Typing = 0
-modeNumber Escape = 1
-modeNumber Sequence = 2
-
-unfoldable pub modeOf : ℕ → Mode
-modeOf n = cond (eqb n 0) Typing (cond (eqb n 1) Escape Sequence)
+-- how many bytes that is
+unfoldable pub stateSize : ℕ
+stateSize = editorSize + historySize
 
 -- the bytes of a state
 unfoldable pub savedOf : Editor → History → List ℕ
-savedOf e h = modeNumber (e .mode) ∷ e .length ∷ e .cursor ∷ h .count ∷ h .place ∷ e .line
+savedOf e h = editorSaved e ++ historySaved h
 
--- bytes that are a state have its length and one of its modes
+-- bytes that are a state have its length, and begin with an editor
 unfoldable pub isState : List ℕ → Bool
-isState state = cond (eqb (length state) 260) (leb (getD state 0 0) 2) false
+isState state = cond (eqb (length state) stateSize) (isSaved (take editorSize state)) false
 
 -- the editor and the history that bytes hold
 unfoldable pub editorIn : List ℕ → Editor
-editorIn state = record { line = drop 5 state; length = getD state 1 0; cursor = getD state 2 0; mode = modeOf (getD state 0 0) }
+editorIn state = editorSavedIn (take editorSize state)
 
 unfoldable pub historyIn : List ℕ → History
-historyIn state = record { count = getD state 3 0; place = getD state 4 0 }
+historyIn state = historySavedIn (drop editorSize state)
 
 -- what is restored: from bytes that are no state, a fresh editor and history
+abbrev pub nothing : Restored
+nothing = record { valid = false; editor = freshEditor; history = recordOf noEntries }
+
 unfoldable pub restored : List ℕ → Restored
-restored state =
-    cond (isState state) (record { valid = true; editor = editorIn state; history = historyIn state })
-    (record { valid = false; editor = freshEditor; history = atEnd 0 })
+restored state = cond (isState state) (record { valid = true; editor = editorIn state; history = historyIn state }) nothing
 
 -- bytes and slots that are a good state
 unfoldable pub goodSaved : List ℕ → List ℕ → Bool

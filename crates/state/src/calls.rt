@@ -1,7 +1,7 @@
 // The calls on a saved state: a fresh one, a key, a text added to its history.
 ghost use mathlib.Core.Path.{_≡_};
-ghost use Rattle.editor.specs.Answer.{refused};
 ghost use Rattle.state.specs.Calls.{Beginning, SavedKey, SavedAdd};
+use super::saving::SIZE;
 use super::saving::restore;
 use super::saving::save;
 use editor::Editor;
@@ -23,13 +23,13 @@ pub enum Begun {
 pub fn begin(state: &mut [u8], slots: &mut [u8]) -> Begun
     ensures { λ r. ⌜ Beginning (now (state .entry)) (now (slots .entry)) r (now (state .exit)) (now (slots .exit)) ⌝ }
 {
-    if state.len() < 260 {
-        return Begun::NoRoom(260);
+    if state.len() < SIZE {
+        return Begun::NoRoom(SIZE);
     }
     if slots.len() < 25600 {
         return Begun::NoRoom(25600);
     }
-    if 260 < state.len() {
+    if SIZE < state.len() {
         return Begun::BadState;
     }
     if 25600 < slots.len() {
@@ -38,20 +38,6 @@ pub fn begin(state: &mut [u8], slots: &mut [u8]) -> Begun
     let history = History::fresh_in(slots);
     save(Editor::fresh(), history, state);
     Begun::Ready
-}
-
-// Whether an answer is a refusal: then the state stays.
-fn is_refusal(told: Pressed) -> bool
-    ensures { λ r. ⌜ r ≡ refused told ⌝ }
-{
-    match told {
-        Pressed::Shown(_) => false,
-        Pressed::Entered(_) => false,
-        Pressed::Dropped => false,
-        Pressed::BadState => true,
-        Pressed::BadPrompt(_) => true,
-        Pressed::NoRoom(_) => true,
-    }
 }
 
 // One key.
@@ -72,7 +58,7 @@ pub fn press(
     }
     let pressed = editor.key(session.history, slots, prompt, byte, line, screen);
     let told = pressed.answer;
-    if is_refusal(told) {
+    if told.is_refusal() {
         return told;
     }
     save(pressed.editor, pressed.history, state);

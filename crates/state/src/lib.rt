@@ -1,4 +1,4 @@
-// A session between two calls: its editor and history as 260 bytes, and the calls that take such a state and leave the next.
+// A session between two calls: its editor and history as bytes, and the calls that take such a state and leave the next.
 mod calls;
 mod saving;
 

@@ -10,9 +10,10 @@ use borrow.Author.Tests.{lt-ltb, le-ltb, leb-false, leb-true}
 use Rattle.buffer.proofs.Choices.{then-is, else-is, true-is-not-false}
 use Rattle.buffer.proofs.Lists.{drop-step}
 use Rattle.frame.specs.House.{ended}
-use Rattle.editor.specs.Keys.{State}
-use Rattle.history.specs.Slots.{layout}
-use Rattle.history.proofs.Layouts.{none, length-layout}
+use Rattle.editor.specs.Turns.{State}
+use Rattle.buffer.proofs.Zeros.{length-zeros}
+use Rattle.history.specs.Journal.{noEntries, slotsOf}
+use Rattle.history.proofs.Journals.{none-zeros}
 use Rattle.session.specs.Lines.{Standing, beginning}
 use Rattle.session.specs.Calls.{fresh}
 use Rattle.session.specs.declared.standing.Session.{Session}
@@ -84,16 +85,16 @@ module _ (h : Session) (line image slots : List ℕ) where
         record { ready = k; held = omega arith; keys = omega arith; early = λ e f. leb-false _ _ e; unended = nothing-held }
 
 -- a fresh stream, with zeros for slots
-pub start-sound : (line image : List ℕ) → length line ≡ lineRoom → length image ≡ 32768 → Sound starting line image (layout [])
+pub start-sound : (line image : List ℕ) → length line ≡ lineRoom → length image ≡ 32768 → Sound starting line image (slotsOf noEntries)
 start-sound line image w r =
     record {
-      ready = record { holds = holds-own beginning fresh image (layout []) (holds-fresh image); whole = w; room = r; slot = length-layout [] none (omega arith) };
+      ready = record { holds = holds-own beginning fresh image (slotsOf noEntries) (holds-fresh image); whole = w; room = r; slot = ap length none-zeros ∙ length-zeros 25600 };
       held = omega arith;
       keys = omega arith;
       early = λ e f. omega arith;
-      unended = nothing-held fresh line image (layout []);
+      unended = nothing-held fresh line image (slotsOf noEntries);
     }
 
-pub start-stands : (line image : List ℕ) → standOf starting line image (layout []) ≡ start
+pub start-stands : (line image : List ℕ) → standOf starting line image (slotsOf noEntries) ≡ start
 unfolding standOf
-start-stands line image = ap (λ (s : Standing). reads s []) (holds-standing beginning fresh image (layout []) (holds-fresh image))
+start-stands line image = ap (λ (s : Standing). reads s []) (holds-standing beginning fresh image (slotsOf noEntries) (holds-fresh image))

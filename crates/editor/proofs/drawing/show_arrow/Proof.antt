@@ -1,7 +1,7 @@
 -- `editor::drawing::show_arrow` meets its contract.
 use borrow.Author.Needs.{needs}
 use Rattle.editor.proofs.Showings.{shows-fits, shows-short}
-use Rattle.editor.specs.Keys.{arrow}
+use Rattle.editor.specs.Turns.{arrow}
 use Rattle.buffer.proofs.Lending.{overAt-front}
 use mathlib.Core.Path.{refl, _∙_}
 use Rattle.editor.proofs.drawing.show_arrow.Statement.{statement}

@@ -21,7 +21,7 @@ mul-store c = search needs
 
 store-requires : tie.Need-store-requires
 store-requires c κs =
-    let g = good-has (c .before .before .before .before .before .before .before .args .history .count) (c .before .before .before .before .before .before .before .args .history .place) (c .before .before .before .before .before .before .before .args .slots .now) (c .before .before .before .before .before .before .before .pre .0) in
+    let g = good-has (c .before .before .before .before .before .before .before .args .history) (c .before .before .before .before .before .before .before .args .slots .now) (c .before .before .before .before .before .before .before .pre .0) in
     let a = g .size in
     (c .before .before .before .before .before .before .before .pre .1 .0, omega arith)
 
@@ -37,13 +37,13 @@ returns-2 c =
 
 drop-oldest-requires : tie.Need-drop-oldest-requires
 drop-oldest-requires c κs =
-    let g = good-has (c .before .before .before .before .before .before .before .args .history .count) (c .before .before .before .before .before .before .before .args .history .place) (c .before .before .before .before .before .before .before .args .slots .now) (c .before .before .before .before .before .before .before .pre .0) in
+    let g = good-has (c .before .before .before .before .before .before .before .args .history) (c .before .before .before .before .before .before .before .args .slots .now) (c .before .before .before .before .before .before .before .pre .0) in
     let a = g .size in
     omega arith
 
 store-requires-2 : tie.Need-store-requires-2
 store-requires-2 c κs =
-    let g = good-has (c .before .before .before .before .before .before .before .before .before .before .before .args .history .count) (c .before .before .before .before .before .before .before .before .before .before .before .args .history .place) (c .before .before .before .before .before .before .before .before .before .before .before .args .slots .now) (c .before .before .before .before .before .before .before .before .before .before .before .pre .0) in
+    let g = good-has (c .before .before .before .before .before .before .before .before .before .before .before .args .history) (c .before .before .before .before .before .before .before .before .before .before .before .args .slots .now) (c .before .before .before .before .before .before .before .before .before .before .before .pre .0) in
     let a = g .size in
     (c .before .before .before .before .before .before .before .before .before .before .before .pre .1 .0, omega arith)
 

@@ -8,19 +8,19 @@ use Rattle.history.proofs.testing.is_good.Statement.{statement}
 use Rattle.history.proofs.testing.is_good.Tie as tie
 
 returns : tie.Need-returns
-returns c = sym (bad-size _ _ (c .before .before .args .slots .now) (c .if1 .taken))
+returns c = sym (bad-size _ (c .before .before .args .slots .now) (c .if1 .taken))
 
 returns-2 : tie.Need-returns-2
-returns-2 c = sym (bad-count _ _ (c .before .before .before .args .slots .now) (c .before .if1 .left) (c .if2 .taken))
+returns-2 c = sym (bad-count _ (c .before .before .before .args .slots .now) (c .before .if1 .left) (c .if2 .taken))
 
 returns-3 : tie.Need-returns-3
-returns-3 c = sym (bad-place _ _ (c .before .before .before .before .before .args .slots .now) (c .before .before .before .if1 .left) (c .before .before .if2 .left) (c .if3 .taken))
+returns-3 c = sym (bad-place _ (c .before .before .before .before .before .args .slots .now) (c .before .before .before .if1 .left) (c .before .before .if2 .left) (c .if3 .taken))
 
 are-good-requires : tie.Need-are-good-requires
 are-good-requires c κs = search needs
 
 returns-4 : tie.Need-returns-4
-returns-4 c = c .are-good .ensures ∙ good-is _ (c .before .before .before .before .before .before .args .history .place) (c .before .before .before .before .before .before .args .slots .now) (λ i. omega (arith, c .before .before .before .before .before .shared-slice-known .given i .fits)) (c .before .before .before .before .if1 .left) (c .before .before .before .if2 .left) (c .before .if3 .left)
+returns-4 c = c .are-good .ensures ∙ good-is (c .before .before .before .before .before .before .args .history) (c .before .before .before .before .before .before .args .slots .now) (λ i. omega (arith, c .before .before .before .before .before .shared-slice-known .given i .fits)) (c .before .before .before .before .if1 .left) (c .before .before .before .if2 .left) (c .before .if3 .left)
 
 pub is-good-spec : {M : Type 1} → statement M
 is-good-spec = tie.close (tie.spec returns returns-2 returns-3 are-good-requires returns-4)

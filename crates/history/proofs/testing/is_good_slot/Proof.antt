@@ -9,8 +9,8 @@ use Rattle.history.proofs.testing.is_good_slot.Tie as tie
 add-start : tie.Need-add-start
 add-start c = search needs
 
-wide-requires : tie.Need-wide-requires
-wide-requires c κs = search needs
+byte-at-requires : tie.Need-byte-at-requires
+byte-at-requires c κs = search needs
 
 add-end : tie.Need-add-end
 add-end c = search needs
@@ -31,7 +31,7 @@ is-usable-requires : tie.Need-is-usable-requires
 is-usable-requires c κs = search needs
 
 returns : tie.Need-returns
-returns c = sym (slot-bad (c .before .before .before .before .before .args .slots .now) (c .before .before .before .before .before .args .at) _ (c .before .before .before .wide .ensures .0) (sym (c .before .is-usable .ensures) ∙ not-true (c .before .is-usable .result) (c .if1 .taken)))
+returns c = sym (slot-bad (c .before .before .before .before .before .args .slots .now) (c .before .before .before .before .before .args .at) _ (c .before .before .before .byte-at .ensures .byte) (sym (c .before .is-usable .ensures) ∙ not-true (c .before .is-usable .result) (c .if1 .taken)))
 
 sub-greatest-byte : tie.Need-sub-greatest-byte
 sub-greatest-byte c = search needs
@@ -46,14 +46,14 @@ greatest-byte-requires : tie.Need-greatest-byte-requires
 greatest-byte-requires c κs = search needs
 
 returns-2 : tie.Need-returns-2
-returns-2 c = slot-good (c .before .before .before .before .before .before .before .args .slots .now) (c .before .before .before .before .before .before .before .args .at) _ _ (c .before .before .before .before .before .wide .ensures .0) (sym (c .before .before .before .is-usable .ensures) ∙ not-false (c .before .before .before .is-usable .result) (c .before .before .if1 .left)) (c .greatest-byte .ensures)
+returns-2 c = slot-good (c .before .before .before .before .before .before .before .args .slots .now) (c .before .before .before .before .before .before .before .args .at) _ _ (c .before .before .before .before .before .byte-at .ensures .byte) (sym (c .before .before .before .is-usable .ensures) ∙ not-false (c .before .before .before .is-usable .result) (c .before .before .if1 .left)) (c .greatest-byte .ensures)
 
 pub is-good-slot-spec : {M : Type 1} → statement M
 is-good-slot-spec =
     tie.close
     (tie.spec
     add-start
-    wide-requires
+    byte-at-requires
     add-end
     add-next
     sub-is-usable

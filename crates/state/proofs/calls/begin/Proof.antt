@@ -1,4 +1,5 @@
 -- `state::calls::begin` meets its contract.
+use Rattle.state.proofs.Savings.{as-size}
 use Rattle.state.proofs.Answering.{short-state, short-slots, long-state, long-slots, begin-ready, fresh-bytes}
 use native.Mathlib.Omega.{arith}
 use borrow.Author.Needs.{needs}
@@ -27,7 +28,7 @@ save-requires : tie.Need-save-requires
 save-requires c κs =
     let low = c .before .before .before .before .before .before .before .before .before .if1 .left in
     let high = c .before .before .before .before .before .before .before .if3 .left in
-    (omega arith, fresh-bytes _ _ (c .before .fresh .ensures) (c .before .before .before .before .fresh-in .ensures .state))
+    (as-size _ (omega arith), fresh-bytes _ _ (c .before .fresh .ensures) (c .before .before .before .before .fresh-in .ensures .state))
 
 same-length : tie.Need-same-length
 same-length c = search needs

@@ -1,54 +1,51 @@
--- `state::state::restore` meets its contract.
-use Rattle.state.specs.State.{historyIn}
-use Rattle.state.proofs.Savings.{state-has, restore-is, restore-not}
-use native.Mathlib.Omega.{arith}
-use mathlib.Core.Path.{sym, _∙_}
+-- `state::saving::restore` meets its contract.
+use Rattle.state.proofs.Savings.{wrong-length, not-size, as-size, part-editor, rest-history, read-not, read-is, restore-is, restore-not}
+use borrow.Author.Tests.{not-true, not-false}
+use mathlib.Core.Path.{sym, ap, _∙_}
+use Rattle.editor.specs.Saved.{restored as restoredEditor}
 use borrow.Author.Needs.{needs}
 use Rattle.state.proofs.saving.restore.Statement.{statement}
 use Rattle.state.proofs.saving.restore.Tie as tie
 
-is-state-requires : tie.Need-is-state-requires
-is-state-requires c κs = search needs
-
-editor-in-requires : tie.Need-editor-in-requires
-editor-in-requires c κs = state-has (c .before .before .before .args .state .now) (sym (c .before .is-state .ensures) ∙ c .if1 .taken) .size
-
-shared-slice-read-t5 : tie.Need-shared-slice-read-t5
-shared-slice-read-t5 c = let n = state-has (c .before .before .before .before .before .args .state .now) (sym (c .before .before .before .is-state .ensures) ∙ c .before .before .if1 .taken) .size in omega arith
-
-cast-t6 : tie.Need-cast-t6
-cast-t6 c = omega (arith, c .shared-slice-known2 .given 3 .fits)
-
-shared-slice-read-t8 : tie.Need-shared-slice-read-t8
-shared-slice-read-t8 c = let n = state-has (c .before .before .before .before .before .before .args .state .now) (sym (c .before .before .before .before .is-state .ensures) ∙ c .before .before .before .if1 .taken) .size in omega arith
-
-cast-t9 : tie.Need-cast-t9
-cast-t9 c = omega (arith, c .shared-slice-known3 .given 4 .fits)
+nothing-requires : tie.Need-nothing-requires
+nothing-requires c κs = search needs
 
 returns : tie.Need-returns
-unfolding historyIn
-returns c = restore-is (c .before .before .before .before .before .before .args .state .now) _ (sym (c .before .before .before .before .is-state .ensures) ∙ c .before .before .before .if1 .taken) (c .before .before .editor-in .ensures)
+returns c = restore-not (c .before .before .before .args .state .now) _ (wrong-length _ (not-size _ (c .before .if1 .taken))) (c .nothing .ensures)
 
-fresh-requires : tie.Need-fresh-requires
-fresh-requires c κs = search needs
+part-requires : tie.Need-part-requires
+part-requires c κs = search needs
 
-fresh-requires-2 : tie.Need-fresh-requires-2
-fresh-requires-2 c κs = search needs
+restored-requires : tie.Need-restored-requires
+restored-requires c κs = search needs
+
+nothing-requires-2 : tie.Need-nothing-requires-2
+nothing-requires-2 c κs = search needs
 
 returns-2 : tie.Need-returns-2
-returns-2 c = restore-not (c .before .before .before .before .before .args .state .now) _ _ (sym (c .before .before .before .is-state .ensures) ∙ c .before .before .if1 .left) (c .before .fresh .ensures) (c .fresh2 .ensures)
+returns-2 c = restore-not (c .before .before .before .before .before .before .before .before .args .state .now) _ (read-not (c .before .before .before .before .before .before .before .before .args .state .now) (c .before .before .before .before .restored .result) (c .before .before .before .before .restored .ensures ∙ ap restoredEditor (part-editor _ _ (c .before .before .before .before .before .part .ensures))) (as-size _ (c .before .before .before .before .before .before .if1 .left)) (not-true (c .before .before .before .before .restored .result .valid) (c .before .if2 .taken))) (c .nothing2 .ensures)
+
+rest-requires : tie.Need-rest-requires
+rest-requires c κs = search needs
+
+saved-in-requires : tie.Need-saved-in-requires
+saved-in-requires c κs = search needs
+
+returns-3 : tie.Need-returns-3
+returns-3 c =
+    let k = read-is (c .before .before .before .before .before .before .before .before .before .args .state .now) (c .before .before .before .before .before .restored .result) (c .before .before .before .before .before .restored .ensures ∙ ap restoredEditor (part-editor _ _ (c .before .before .before .before .before .before .part .ensures))) (as-size _ (c .before .before .before .before .before .before .before .if1 .left)) (not-false (c .before .before .before .before .before .restored .result .valid) (c .before .before .if2 .left)) in
+    restore-is (c .before .before .before .before .before .before .before .before .before .args .state .now) _ _ _ (k .0) (k .1) (rest-history _ _ (c .before .rest .ensures)) (c .saved-in .ensures)
 
 pub restore-spec : {M : Type 1} → statement M
 restore-spec =
     tie.close
     (tie.spec
-    is-state-requires
-    editor-in-requires
-    shared-slice-read-t5
-    cast-t6
-    shared-slice-read-t8
-    cast-t9
+    nothing-requires
     returns
-    fresh-requires
-    fresh-requires-2
-    returns-2)
+    part-requires
+    restored-requires
+    nothing-requires-2
+    returns-2
+    rest-requires
+    saved-in-requires
+    returns-3)

@@ -2,7 +2,7 @@
 use borrow.Author.Needs.{needs}
 use Rattle.editor.specs.Line.{lineOf}
 use Rattle.editor.proofs.Lines.{good-line, length-of, line-short}
-use Rattle.editor.proofs.Seats.{good-parts}
+use Rattle.editor.proofs.States.{good-parts}
 use Rattle.editor.proofs.Fine.{content-formed}
 use Rattle.editor.proofs.Enters.{enter-refused, enter-empty, enter-line, limit-above}
 use Rattle.buffer.proofs.Lending.{overAt-front}

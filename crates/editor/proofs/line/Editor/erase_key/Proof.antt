@@ -3,7 +3,7 @@ use borrow.Author.Needs.{needs}
 use Rattle.editor.specs.Line.{lineOf, erased}
 use Rattle.editor.proofs.Turns.{erase-quiet, erase-shown}
 use Rattle.editor.proofs.Lines.{good-line, length-of, length-erased}
-use Rattle.editor.proofs.Seats.{held-fits}
+use Rattle.editor.proofs.States.{held-fits}
 use native.Mathlib.Omega.{arith}
 use Prim.Native.Nat.{_<_, _≤_}
 use lib.ListN.{length}
@@ -25,13 +25,13 @@ redraw-requires c κs =
     let some : 0 < c .before .before .before .before .before .before .args .self .cursor = let z = c .before .before .if1 .left in omega arith in
     let short : length (erased (lineOf (c .before .before .before .before .before .before .args .self)) (c .before .before .before .before .before .before .args .self .cursor)) ≤ 255 = let m = length-erased (lineOf (c .before .before .before .before .before .before .args .self)) (c .before .before .before .before .before .before .args .self .cursor) some (omega arith) in omega arith in
     let f = held-fits _ (erased (lineOf (c .before .before .before .before .before .before .args .self)) (c .before .before .before .before .before .before .args .self .cursor)) _ _ (c .before .erase .ensures) short in
-    (f .0, f .1, c .before .before .before .before .before .before .pre .2)
+    (f .0, f .1, c .before .before .before .before .before .before .pre .1)
 
 same-length : tie.Need-same-length
 same-length c = search needs
 
 returns-2 : tie.Need-returns-2
-returns-2 c = λ slots. erase-shown (c .before .before .before .before .before .before .before .before .before .args .self) (c .before .before .before .before .before .before .before .before .before .args .history) slots (c .before .before .before .before .before .before .before .before .before .args .screen .now) (c .before .before .before .before .before .before .before .before .before .pre .0) _ _ _ (c .before .before .before .before .before .before .before .before .before .pre .1) (c .before .before .before .before .before .before .before .before .before .args .prompt .now) (c .before .before .before .before .before .if1 .left) (c .before .before .before .before .erase .ensures) (c .before .before .redraw .ensures)
+returns-2 c = λ slots. erase-shown (c .before .before .before .before .before .before .before .before .before .args .self) (c .before .before .before .before .before .before .before .before .before .args .history) slots (c .before .before .before .before .before .before .before .before .before .args .screen .now) (c .before .before .before .before .before .before .before .before .before .pre .0) _ _ _ (c .before .before .before .before .before .before .before .before .before .args .prompt .now) (c .before .before .before .before .before .if1 .left) (c .before .before .before .before .erase .ensures) (c .before .before .redraw .ensures)
 
 pub erase-key-spec : {M : Type 1} → statement M
 erase-key-spec = tie.close (tie.spec returns erase-requires redraw-requires same-length returns-2)

@@ -3,7 +3,7 @@ use borrow.Author.Needs.{needs}
 use Rattle.editor.specs.Line.{lineOf, inserted}
 use Rattle.editor.proofs.Turns.{insert-dropped, insert-shown}
 use Rattle.editor.proofs.Lines.{good-line, length-of, length-inserted}
-use Rattle.editor.proofs.Seats.{held-fits, in-limit, past-limit}
+use Rattle.editor.proofs.States.{held-fits, in-limit, past-limit}
 use native.Mathlib.Omega.{arith}
 use Prim.Native.Nat.{_≤_}
 use lib.ListN.{length}
@@ -23,13 +23,13 @@ redraw-requires c κs =
     let w = g .within in
     let short : length (inserted (lineOf (c .before .before .before .before .before .before .args .self)) (c .before .before .before .before .before .before .args .self .cursor) (c .before .before .before .before .before .before .args .byte)) ≤ 255 = let m = length-inserted (lineOf (c .before .before .before .before .before .before .args .self)) (c .before .before .before .before .before .before .args .self .cursor) (c .before .before .before .before .before .before .args .byte) (omega arith) in let l = c .before .before .if1 .left in omega arith in
     let f = held-fits _ (inserted (lineOf (c .before .before .before .before .before .before .args .self)) (c .before .before .before .before .before .before .args .self .cursor) (c .before .before .before .before .before .before .args .byte)) _ _ (c .before .insert .ensures) short in
-    (f .0, f .1, c .before .before .before .before .before .before .pre .2)
+    (f .0, f .1, c .before .before .before .before .before .before .pre .1)
 
 same-length : tie.Need-same-length
 same-length c = search needs
 
 returns-2 : tie.Need-returns-2
-returns-2 c = λ slots. insert-shown (c .before .before .before .before .before .before .before .before .before .args .self) (c .before .before .before .before .before .before .before .before .before .args .history) slots (c .before .before .before .before .before .before .before .before .before .args .screen .now) (c .before .before .before .before .before .before .before .before .before .pre .0) _ _ _ (c .before .before .before .before .before .before .before .before .before .pre .1) (c .before .before .before .before .before .before .before .before .before .args .prompt .now) (c .before .before .before .before .before .before .before .before .before .args .byte) (in-limit _ (c .before .before .before .before .before .if1 .left)) (c .before .before .before .before .insert .ensures) (c .before .before .redraw .ensures)
+returns-2 c = λ slots. insert-shown (c .before .before .before .before .before .before .before .before .before .args .self) (c .before .before .before .before .before .before .before .before .before .args .history) slots (c .before .before .before .before .before .before .before .before .before .args .screen .now) (c .before .before .before .before .before .before .before .before .before .pre .0) _ _ _ (c .before .before .before .before .before .before .before .before .before .args .prompt .now) (c .before .before .before .before .before .before .before .before .before .args .byte) (in-limit _ (c .before .before .before .before .before .if1 .left)) (c .before .before .before .before .insert .ensures) (c .before .before .redraw .ensures)
 
 pub insert-key-spec : {M : Type 1} → statement M
 insert-key-spec =

@@ -1,7 +1,7 @@
 -- `editor::line::Editor::key` meets its contract.
 use borrow.Author.Needs.{needs}
 use Rattle.editor.proofs.Pressings.{bad-state, bad-prompt, short-line, pressed, prompt-short}
-use Rattle.editor.proofs.Seats.{in-limit, past-limit}
+use Rattle.editor.proofs.States.{in-limit, past-limit}
 use Rattle.editor.specs.Line.{limit}
 use borrow.Author.Tests.{not-true, not-false}
 use mathlib.Core.Path.{sym, _∙_}

@@ -1,15 +1,11 @@
 -- `editor::line::Editor::left` meets its contract.
-use borrow.Author.Needs.{needs}
 use Rattle.editor.proofs.Turns.{left-quiet, left-shown}
-use mathlib.Core.Path.{_∙_}
+use borrow.Author.Needs.{needs}
 use Rattle.editor.proofs.line.Editor.left.Statement.{statement}
 use Rattle.editor.proofs.line.Editor.left.Tie as tie
 
-in-mode-requires : tie.Need-in-mode-requires
-in-mode-requires c κs = search needs
-
 returns : tie.Need-returns
-returns c = λ slots. left-quiet (c .before .before .before .args .self) (c .before .before .before .args .history) slots (c .before .before .before .args .screen .now) (c .before .before .before .pre) _ (c .if1 .taken) (c .before .in-mode .ensures)
+returns c = λ slots. left-quiet (c .before .before .args .self) (c .before .before .args .history) slots (c .before .before .args .screen .now) (c .before .before .pre) (c .if1 .taken)
 
 sub-moved : tie.Need-sub-moved
 sub-moved c = search needs
@@ -24,16 +20,8 @@ same-length : tie.Need-same-length
 same-length c = search needs
 
 returns-2 : tie.Need-returns-2
-returns-2 c = λ slots. left-shown (c .before .before .before .before .before .before .before .before .args .self) (c .before .before .before .before .before .before .before .before .args .history) slots (c .before .before .before .before .before .before .before .before .args .screen .now) (c .before .before .before .before .before .before .before .before .pre) _ _ _ (c .before .before .before .before .before .if1 .left) (c .before .before .before .before .moved .ensures ∙ rw (c .before .before .before .before .before .before .in-mode .ensures)) (c .before .before .show-arrow .ensures)
+returns-2 c = λ slots. left-shown (c .before .before .before .before .before .before .before .args .self) (c .before .before .before .before .before .before .before .args .history) slots (c .before .before .before .before .before .before .before .args .screen .now) (c .before .before .before .before .before .before .before .pre) _ _ _ (c .before .before .before .before .before .if1 .left) (c .before .before .before .before .moved .ensures) (c .before .before .show-arrow .ensures)
 
 pub left-spec : {M : Type 1} → statement M
 left-spec =
-    tie.close
-    (tie.spec
-    in-mode-requires
-    returns
-    sub-moved
-    moved-requires
-    show-arrow-requires
-    same-length
-    returns-2)
+    tie.close (tie.spec returns sub-moved moved-requires show-arrow-requires same-length returns-2)

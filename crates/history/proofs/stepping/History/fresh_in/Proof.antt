@@ -1,6 +1,8 @@
 -- `history::stepping::History::fresh_in` meets its contract.
 use Rattle.history.proofs.Layouts.{all-cleared}
 use mathlib.Core.Path.{_∙_}
+use Rattle.history.specs.Slots.{layout}
+use Rattle.history.specs.Journal.{slotsOf}
 use borrow.Author.Needs.{needs}
 use Rattle.history.proofs.stepping.History.fresh_in.Statement.{statement}
 use Rattle.history.proofs.stepping.History.fresh_in.Tie as tie
@@ -15,6 +17,7 @@ same-length : tie.Need-same-length
 same-length c = search needs
 
 returns : tie.Need-returns
+unfolding slotsOf layout
 returns c = record { state = c .fresh .ensures; bytes = c .before .before .before .clear .ensures ∙ all-cleared _ (c .before .before .before .before .before .before .pre) }
 
 pub fresh-in-spec : {M : Type 1} → statement M

@@ -1,0 +1,121 @@
+-- Laws of states: who holds a good state holds just what the state says, and what a turn comes to.
+use Prim.Native.Nat.{ℕ, _<_, _≤_}
+use mathlib.Core.Path.{_≡_, refl, sym, ap, _∙_}
+use mathlib.Core.Bool.{true}
+use mathlib.Core.List.{List, []}
+use native.Mathlib.Omega.{arith}
+use lib.ListN.{length}
+use Rattle.buffer.specs.Write.{over}
+use Rattle.history.specs.Journal.{good}
+use Rattle.history.specs.declared.stepping.History.{History}
+use Rattle.history.proofs.States.{holds}
+use Rattle.history.proofs.Journals.{record-held, slots-held}
+use Rattle.screen.specs.Redraw.{redraw}
+use Rattle.keys.specs.declared.meaning.Mode.{Mode}
+use Rattle.keys.specs.declared.meaning.Mode.the-variants.{Typing}
+use Rattle.editor.specs.declared.line.Editor.{Editor}
+use Rattle.editor.specs.declared.drawing.KeyAnswer.{KeyAnswer}
+use Rattle.editor.specs.declared.drawing.Pressed.the-variants.{Shown, Dropped, NoRoom}
+use Rattle.editor.specs.Line.{limit, holding, lineOf, freshEditor, goodLine, content}
+use Rattle.editor.specs.Turns.{State, Turn, dropping, showing, redrawn, redrawing}
+use Rattle.editor.specs.Answer.{stateOf, editorOf, historyOf, slotsOf, goodState}
+use Rattle.editor.specs.Steps.{attempt, keyOf, Shows, madeBy, Acts}
+use Rattle.editor.proofs.Lines.{editor, good-line, held-line, line-held, length-padded}
+use Rattle.editor.proofs.Showings.{attempt-fits}
+
+-- a good state has a good line and a good history
+pub good-parts : (e : Editor) (h : History) (slots : List ℕ) → goodState e h slots ≡ true → (goodLine e ≡ true) × (good h slots ≡ true)
+unfolding goodState
+good-parts e h slots g = holds (goodLine e) _ g
+
+-- another mode changes nothing of it
+pub moded-good : (e : Editor) (h : History) (slots : List ℕ) (e₁ : Editor) (mode : Mode) → e₁ ≡ editor (e .line) (e .length) (e .cursor) mode
+    → goodState e h slots ≡ true → goodState e₁ h slots ≡ true
+unfolding goodState goodLine lineOf
+moded-good e h slots e₁ mode q g = ap (λ (x : Editor). goodState x h slots) q ∙ g
+
+-- what holds a state
+pub holds-history : (e : Editor) (h : History) (slots : List ℕ) → historyOf (stateOf e h slots) ≡ h
+unfolding stateOf
+holds-history e h slots = record-held h slots
+
+pub holds-editor : (e : Editor) (h : History) (slots : List ℕ) → goodLine e ≡ true → editorOf (stateOf e h slots) ≡ e
+unfolding editorOf stateOf
+holds-editor e h slots g = held-line e (good-line e g)
+
+pub holds-slots : (e : Editor) (h : History) (slots : List ℕ) → good h slots ≡ true → slotsOf (stateOf e h slots) ≡ slots
+unfolding stateOf
+holds-slots e h slots g = slots-held h slots g
+
+-- an editor that holds a short line has room for it
+pub held-fits : (g : Editor) (l : List ℕ) (cursor : ℕ) (mode : Mode) → g ≡ holding l cursor mode → length l ≤ 255
+    → (g .length ≤ limit) × (length (g .line) ≡ limit)
+unfolding holding limit
+held-fits g l cursor mode e h = (rw e h, ap (λ (x : Editor). length (x .line)) e ∙ length-padded l h)
+
+pub fresh-fits : (g : Editor) → g ≡ freshEditor → (g .length ≤ limit) × (length (g .line) ≡ limit)
+unfolding holding
+fresh-fits g e = held-fits g [] 0 Typing e (omega arith)
+
+-- the limit as the code has it
+pub in-limit : (n : ℕ) → n < 255 → n < limit
+unfolding limit
+in-limit n h = h
+
+pub past-limit : (n : ℕ) → 255 ≤ n → limit ≤ n
+unfolding limit
+past-limit n h = h
+
+pub short-enough : (n : ℕ) → n ≤ 255 → n ≤ limit
+unfolding limit
+short-enough n h = h
+
+-- nothing shown
+pub over-nothing : (d : List ℕ) → over [] d ≡ d
+unfolding over
+over-nothing d = refl
+
+module _ (e : Editor) (h : History) (screen : List ℕ) where
+  pub acts-quiet : (s : State) (e′ : Editor) (h′ : History) → e′ ≡ editorOf s → h′ ≡ historyOf s → Acts e h (showing s []) screen (keyOf e′ h′ (Shown 0)) screen
+  unfolding madeBy
+  acts-quiet s e′ h′ p q =
+      record {
+        made = ap (λ (x : Editor). keyOf x h′ (Shown 0)) p ∙ ap (λ (x : History). keyOf (editorOf s) x (Shown 0)) q ∙ sym (attempt-fits [] (length screen) _ _ (omega arith));
+        shown = sym (attempt-fits [] (length screen) screen (over [] screen) (omega arith) ∙ over-nothing screen);
+      }
+
+  pub acts-dropped : (s : State) (e′ : Editor) (h′ : History) → e′ ≡ editorOf s → h′ ≡ historyOf s
+      → Acts e h (dropping s) screen (keyOf e′ h′ Dropped) screen
+  unfolding madeBy
+  acts-dropped s e′ h′ p q =
+      record {
+        made = ap (λ (x : Editor). keyOf x h′ Dropped) p ∙ ap (λ (x : History). keyOf (editorOf s) x Dropped) q ∙ sym (attempt-fits [] (length screen) _ _ (omega arith));
+        shown = sym (attempt-fits [] (length screen) screen (over [] screen) (omega arith) ∙ over-nothing screen);
+      }
+
+  -- bytes shown, with the state that holds
+  pub acts-shown : (s : State) (bytes : List ℕ) (goes : Editor) (h′ : History) (k : KeyAnswer) (left : List ℕ) → goes ≡ editorOf s → h′ ≡ historyOf s
+      → Shows bytes e h goes h′ screen k left → Acts e h (showing s bytes) screen k left
+  unfolding madeBy
+  acts-shown s bytes goes h′ k left p q a =
+      record {
+        made =
+            a .made
+            ∙ ap (λ (x : Editor). attempt bytes (length screen) (keyOf e h (NoRoom (length bytes))) (keyOf x h′ (Shown (length bytes)))) p
+            ∙ ap (λ (x : History). attempt bytes (length screen) (keyOf e h (NoRoom (length bytes))) (keyOf (editorOf s) x (Shown (length bytes)))) q;
+        shown = a .shown;
+      }
+
+  redrawn-by : (prompt : List ℕ) (s : State) (goes : Editor) → goes ≡ editorOf s → redraw prompt (content (lineOf goes)) (goes .cursor) ≡ redrawn prompt s
+  unfolding redrawn editorOf holding
+  redrawn-by prompt s goes p =
+      ap (λ (x : Editor). redraw prompt (content (lineOf x)) (x .cursor)) p
+      ∙ ap (λ (l : List ℕ). redraw prompt (content l) (s .cursor)) (line-held (s .line) (s .cursor) (s .mode))
+
+  pub acts-redrawn : (prompt : List ℕ) (s : State) (goes : Editor) (h′ : History) (k : KeyAnswer) (left : List ℕ) → goes ≡ editorOf s → h′ ≡ historyOf s
+      → Shows (redraw prompt (content (lineOf goes)) (goes .cursor)) e h goes h′ screen k left → Acts e h (redrawing prompt s) screen k left
+  acts-redrawn prompt s goes h′ k left p q a = acts-shown s (redrawn prompt s) goes h′ k left p q (rw (redrawn-by prompt s goes p) at a)
+
+  -- the turn by another name
+  pub acts-as : (t u : Turn) (k : KeyAnswer) (left : List ℕ) → t ≡ u → Acts e h t screen k left → Acts e h u screen k left
+  acts-as t u k left q a = rw q at a

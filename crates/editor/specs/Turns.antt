@@ -1,0 +1,138 @@
+-- What an action does (01, "The line editor" and "History"): the state after it, what it shows and what it submits.
+use Prim.Native.Nat.{ℕ, _+_, _-_}
+use mathlib.Core.Bool.{cond}
+use mathlib.Core.List.{List, [], _∷_}
+use lib.Dec.{ltb, eqb}
+use lib.ListN.{length, take}
+use Rattle.history.specs.Journal.{Journal, noEntries, count, entryOf, offered, atPlace}
+use Rattle.screen.specs.Redraw.{redraw}
+use Rattle.keys.specs.declared.meaning.Mode.{Mode}
+use Rattle.keys.specs.declared.meaning.Mode.the-variants.{Typing}
+use Rattle.keys.specs.declared.meaning.Action.{Action}
+use Rattle.keys.specs.declared.meaning.Action.the-variants.{Nothing, Enter, Erase, Insert, Up, Down, Right, Left}
+use Rattle.keys.specs.declared.meaning.Meaning.{Meaning}
+use Rattle.editor.specs.Line.{limit, freshEditor, inserted, erased, content}
+use Rattle.keys.specs.Keys.{meaning}
+
+-- a state: the line, the cursor and what the keys before this one began; and the history
+pub record State : Type 0 where
+  pub line : List ℕ
+  pub cursor : ℕ
+  pub mode : Mode
+  pub history : Journal
+
+-- what a key does: the state after it, the bytes it shows, the line it submits
+pub data Kind : Type 0 where
+  shows : Kind
+  enters : Kind
+  drops : Kind
+
+pub record Turn : Type 0 where
+  pub kind : Kind
+  pub after : State
+  pub screen : List ℕ
+  pub submitted : List ℕ
+
+-- most keys only change the state and show bytes
+abbrev pub showing : State → List ℕ → Turn
+showing s bytes = record { kind = shows; after = s; screen = bytes; submitted = [] }
+
+-- a state with another line, and in another mode
+abbrev pub withLine : State → List ℕ → ℕ → State
+withLine s line cursor = record { line = line; cursor = cursor; mode = s .mode; history = s .history }
+
+abbrev pub inMode : State → Mode → State
+inMode s mode = record { line = s .line; cursor = s .cursor; mode = mode; history = s .history }
+
+-- the line drawn anew behind the prompt
+unfoldable pub redrawn : List ℕ → State → List ℕ
+redrawn prompt s = redraw prompt (content (s .line)) (s .cursor)
+
+abbrev pub redrawing : List ℕ → State → Turn
+redrawing prompt s = showing s (redrawn prompt s)
+
+-- the line, the cursor and the mode of the fresh editor, beside a history
+abbrev pub cleared : Journal → State
+cleared history = record { line = take (freshEditor .length) (freshEditor .line); cursor = freshEditor .cursor; mode = freshEditor .mode; history = history }
+
+-- Enter: LF. A non-empty line is offered to history (as the empty text if ill-formed) and submitted, and line and cursor are cleared.
+abbrev pub afterEnter : State → State
+afterEnter s = cleared (offered (content (s .line)) (s .history))
+
+abbrev pub lineFeed : List ℕ
+lineFeed = 0x0A ∷ []
+
+abbrev pub entering : State → List ℕ → Turn
+entering s line = record { kind = enters; after = s; screen = lineFeed; submitted = line }
+
+unfoldable pub enter : State → Turn
+enter s = cond (eqb (length (s .line)) 0) (entering s []) (entering (afterEnter s) (s .line))
+
+-- with the cursor above 0, the byte before it is removed
+unfoldable pub erase : List ℕ → State → Turn
+erase prompt s =
+    cond (eqb (s .cursor) 0) (showing s []) (redrawing prompt (withLine s (erased (s .line) (s .cursor)) (s .cursor - 1)))
+
+-- a byte that is typed; at length 255 it is dropped
+abbrev pub dropping : State → Turn
+dropping s = record { kind = drops; after = s; screen = []; submitted = [] }
+
+unfoldable pub insert : List ℕ → State → ℕ → Turn
+insert prompt s byte =
+    cond (ltb (length (s .line)) limit) (redrawing prompt (withLine s (inserted (s .line) (s .cursor) byte) (s .cursor + 1))) (dropping s)
+
+-- an entry is recalled: it becomes the line, with the cursor at its end
+abbrev pub recalled : State → ℕ → State
+recalled s place =
+    record {
+      line = entryOf (s .history) place;
+      cursor = length (entryOf (s .history) place);
+      mode = Typing;
+      history = atPlace (s .history) place;
+    }
+
+-- Up at place 0 does nothing; otherwise it steps back and recalls
+unfoldable pub up : List ℕ → State → Turn
+up prompt s = cond (eqb (s .history .place) 0) (showing s []) (redrawing prompt (recalled s (s .history .place - 1)))
+
+-- Down below the count steps on and recalls; arriving at the count, or there already, it clears the line
+unfoldable pub onPlace : Journal → ℕ
+onPlace j = cond (ltb (j .place) (count j)) (j .place + 1) (j .place)
+
+unfoldable pub down : List ℕ → State → Turn
+down prompt s =
+    cond (ltb (onPlace (s .history)) (count (s .history)))
+    (redrawing prompt (recalled s (onPlace (s .history))))
+    (redrawing prompt (cleared (atPlace (s .history) (onPlace (s .history)))))
+
+-- ESC `[C` and ESC `[D` are shown only if the cursor moved
+abbrev pub arrow : ℕ → List ℕ
+arrow final = 0x1B ∷ 0x5B ∷ final ∷ []
+
+unfoldable pub right : State → Turn
+right s = cond (ltb (s .cursor) (length (s .line))) (showing (withLine s (s .line) (s .cursor + 1)) (arrow 0x43)) (showing s [])
+
+unfoldable pub left : State → Turn
+left s = cond (eqb (s .cursor) 0) (showing s []) (showing (withLine s (s .line) (s .cursor - 1)) (arrow 0x44))
+
+abbrev pub turnBy : List ℕ → State → Action → Turn
+turnBy prompt s Nothing = showing s []
+turnBy prompt s Enter = enter s
+turnBy prompt s Erase = erase prompt s
+turnBy prompt s (Insert byte) = insert prompt s byte
+turnBy prompt s Up = up prompt s
+turnBy prompt s Down = down prompt s
+turnBy prompt s Right = right s
+turnBy prompt s Left = left s
+
+-- one key: what it means, then what that does
+unfoldable pub turnOf : List ℕ → State → ℕ → Turn
+turnOf prompt s byte = let m : Meaning = meaning (s .mode) byte in turnBy prompt (inMode s (m .mode)) (m .action)
+
+-- the fresh state, and the state after keys: a session is the fold of its keys
+abbrev pub freshState : State
+freshState = cleared noEntries
+
+unfoldable pub afterKeys : List ℕ → State → List ℕ → State
+afterKeys prompt s [] = s
+afterKeys prompt s (byte ∷ keys) = afterKeys prompt (turnOf prompt s byte .after) keys

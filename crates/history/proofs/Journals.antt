@@ -1,0 +1,159 @@
+-- Laws of a history as one value: who holds one that keeps the rules is good, and holds just what it says; offering a text and a step keep the rules.
+use Prim.Native.Nat.{ℕ, zero, suc, _+_, _-_, _≤_}
+use mathlib.Core.Path.{_≡_, refl, sym, ap, _∙_}
+use mathlib.Core.Bool.{Bool, true, false, cond}
+use mathlib.Core.List.{List, [], _∷_}
+use native.Mathlib.Omega.{arith}
+use lib.Dec.{eqb, ltb}
+use lib.ListN.{length, getD}
+use borrow.Author.Tests.{eq-eqb, ltb-true}
+use Rattle.buffer.specs.Compare.{sameBytes}
+use Rattle.buffer.specs.Lend.{zeros}
+use Rattle.buffer.proofs.Choices.{true-is-not-false}
+use Rattle.text.proofs.Prefix.{prefix-none, codes-none}
+use Rattle.text.specs.Apart.{blank}
+use Rattle.text.specs.Decoding.{wellFormed}
+use Rattle.history.specs.Entries.{usable, sound}
+use Rattle.history.specs.Slots.{run, layout, entriesOf}
+use Rattle.history.specs.Journal.{Journal, noEntries, count, entryOf, offered, atPlace, recordOf, slotsOf, journalOf, good}
+use Rattle.history.specs.Steps.{placedAt, back, recalledAt, onward}
+use Rattle.history.specs.Saved.{Fits}
+use Rattle.history.specs.declared.stepping.History.{History}
+use Rattle.history.specs.declared.stepping.Recalled.the-variants.{Entry, Nothing}
+use Rattle.history.specs.declared.stepping.Step.{Step}
+use Rattle.history.proofs.Layouts.{none, length-layout, length-entries, entries-layout}
+use Rattle.history.proofs.States.{holds, Good, good-has, good-short, short-at}
+use Rattle.history.proofs.Kept.{good-of, Entries, added-entries}
+
+-- a history within the rules of 01
+pub record Fair (j : Journal) : Type 0 where
+  pub entries : Entries (j .entries)
+  pub placed : j .place ≤ count j
+
+-- what a record and slots hold
+pub count-held : (h : History) (slots : List ℕ) → count (journalOf h slots) ≡ h .count
+unfolding journalOf
+count-held h slots = length-entries (h .count) slots
+
+pub place-held : (h : History) (slots : List ℕ) → journalOf h slots .place ≡ h .place
+unfolding journalOf
+place-held h slots = refl
+
+-- a good state holds a history within the rules, and holds it as its record and its slots
+pub good-fair : (h : History) (slots : List ℕ) → good h slots ≡ true → Fair (journalOf h slots)
+unfolding journalOf
+good-fair h slots g =
+    let k = good-has h slots g in
+    let n = length-entries (h .count) slots in
+    let a = k .counted in
+    let b = k .placed in
+    record { entries = record { short = good-short h slots k; few = omega arith; is-sound = k .is-sound }; placed = omega arith }
+
+pub record-held : (h : History) (slots : List ℕ) → recordOf (journalOf h slots) ≡ h
+unfolding recordOf journalOf
+record-held h slots = ap (λ (n : ℕ). placedAt (record { count = n; place = n }) (h .place)) (length-entries (h .count) slots)
+
+pub slots-held : (h : History) (slots : List ℕ) → good h slots ≡ true → slotsOf (journalOf h slots) ≡ slots
+unfolding slotsOf journalOf
+slots-held h slots g = good-has h slots g .laid
+
+-- and back: what holds a history within the rules is good, and holds that history
+pub fair-held : (j : Journal) → Fair j → journalOf (recordOf j) (slotsOf j) ≡ j
+unfolding journalOf recordOf slotsOf
+fair-held j f = ap (λ (es : List (List ℕ)). record { entries = es; place = j .place }) (entries-layout (j .entries) (f .entries .short))
+
+pub fair-good : (j : Journal) → Fair j → good (recordOf j) (slotsOf j) ≡ true
+unfolding recordOf slotsOf
+fair-good j f =
+    let es : List (List ℕ) = j .entries in
+    let back : entriesOf (length es) (layout es) ≡ es = entries-layout es (f .entries .short) in
+    good-of (record { count = length es; place = j .place }) (layout es)
+    (record {
+      size = length-layout es (f .entries .short) (f .entries .few);
+      counted = f .entries .few;
+      placed = f .placed;
+      is-sound = ap (sound []) back ∙ f .entries .is-sound;
+      laid = ap layout back;
+    })
+
+-- no entry: slots that are all zeros
+pub none-zeros : slotsOf noEntries ≡ zeros 25600
+unfolding slotsOf layout run
+none-zeros = refl
+
+-- no entry, a text offered, another place
+pub fair-none : Fair noEntries
+unfolding sound
+fair-none = record { entries = record { short = none; few = omega arith; is-sound = refl }; placed = omega arith }
+
+pub fair-offered : (text : List ℕ) (j : Journal) → Fair j → length text ≤ 255 → wellFormed text ≡ true → Fair (offered text j)
+fair-offered text j f l w = record { entries = added-entries (j .entries) text (f .entries) l w; placed = omega arith }
+
+pub fair-placed : (j : Journal) (place : ℕ) → Fair j → place ≤ count j → Fair (atPlace j place)
+fair-placed j place f h = record { entries = f .entries; placed = h }
+
+-- an entry of one is short and well-formed
+pub fair-short : (j : Journal) (n : ℕ) → Fair j → length (entryOf j n) ≤ 255
+fair-short j n f = short-at (j .entries) n (f .entries .short)
+
+formed-nothing : wellFormed [] ≡ true
+unfolding wellFormed
+formed-nothing = eq-eqb _ 0 (prefix-none [] codes-none)
+
+formed-at : (before : List ℕ) (es : List (List ℕ)) (n : ℕ) → sound before es ≡ true → wellFormed (getD es n []) ≡ true
+unfolding sound usable
+formed-at before [] n s = formed-nothing
+formed-at before (e ∷ es) zero s = formed (blank e) (wellFormed e) (holds (usable e) _ s .0)
+  where
+    formed : (b w : Bool) → cond b false w ≡ true → w ≡ true
+    formed true w k = absurd (true-is-not-false (sym k))
+    formed false w k = k
+formed-at before (e ∷ es) (suc n) s = formed-at e es n (rest (sameBytes before e) _ (holds (usable e) _ s .1))
+  where
+    rest : (p q : Bool) → cond p false q ≡ true → q ≡ true
+    rest true q k = absurd (true-is-not-false (sym k))
+    rest false q k = k
+
+pub fair-formed : (j : Journal) (n : ℕ) → Fair j → wellFormed (entryOf j n) ≡ true
+fair-formed j n f = formed-at [] (j .entries) n (f .entries .is-sound)
+
+-- its numbers fit the bytes that are saved
+pub good-fits : (h : History) (slots : List ℕ) → good h slots ≡ true → Fits h
+good-fits h slots g =
+    let k = good-has h slots g in
+    let a = k .counted in
+    let b = k .placed in
+    record { count = omega arith; place = omega arith }
+
+-- a step moves the place only, and keeps it within the count
+pub record-placed : (j : Journal) (place : ℕ) → recordOf (atPlace j place) ≡ placedAt (recordOf j) place
+unfolding recordOf
+record-placed j place = refl
+
+pub slots-placed : (j : Journal) (place : ℕ) → slotsOf (atPlace j place) ≡ slotsOf j
+unfolding slotsOf
+slots-placed j place = refl
+
+pub placed-good : (h : History) (slots : List ℕ) (place : ℕ) → good h slots ≡ true → place ≤ h .count → good (placedAt h place) slots ≡ true
+placed-good h slots place g p =
+    let k = good-has h slots g in
+    good-of (placedAt h place) slots (record { size = k .size; counted = k .counted; placed = p; is-sound = k .is-sound; laid = k .laid })
+
+pub back-good : (h : History) (slots : List ℕ) → good h slots ≡ true → good (back h .history) slots ≡ true
+unfolding back
+back-good h slots g = by (eqb (h .place) 0)
+  where
+    placed : h .place ≤ h .count
+    placed = good-has h slots g .placed
+
+    by : (t : Bool) → let r : Step = cond t (record { history = h; recalled = Nothing }) (record { history = placedAt h (h .place - 1); recalled = Entry (h .place - 1) }) in good (r .history) slots ≡ true
+    by true = g
+    by false = placed-good h slots (h .place - 1) g (let p = placed in omega arith)
+
+pub onward-good : (h : History) (slots : List ℕ) → good h slots ≡ true → good (onward h .history) slots ≡ true
+unfolding onward
+onward-good h slots g = by (ltb (h .place) (h .count)) refl
+  where
+    by : (t : Bool) → ltb (h .place) (h .count) ≡ t → let r : Step = cond t (record { history = placedAt h (h .place + 1); recalled = recalledAt (h .count) (h .place + 1) }) (record { history = h; recalled = Nothing }) in good (r .history) slots ≡ true
+    by true q = placed-good h slots (h .place + 1) g (let l = ltb-true (h .place) (h .count) q in omega arith)
+    by false q = g

@@ -1,0 +1,12 @@
+-- `history::stepping::History::fresh` meets its contract.
+use mathlib.Core.Path.{refl}
+use Rattle.history.specs.Journal.{recordOf}
+use Rattle.history.proofs.stepping.History.fresh.Statement.{statement}
+use Rattle.history.proofs.stepping.History.fresh.Tie as tie
+
+returns : tie.Need-returns
+unfolding recordOf
+returns c = refl
+
+pub fresh-spec : {M : Type 1} → statement M
+fresh-spec = tie.close (tie.spec returns)

@@ -1,0 +1,56 @@
+-- A history as one value (01, "History"): its entries from oldest to newest and a place from 0 to their count; the record and the slots that hold
+-- it, and what they hold. Where a byte lies is said in Slots and nowhere else: all other rooms speak of the value.
+use Prim.Native.Nat.{ℕ}
+use mathlib.Core.Bool.{Bool, false, cond}
+use mathlib.Core.List.{List, []}
+use lib.Dec.{leb, eqb}
+use lib.ListN.{length, getD}
+use Rattle.buffer.specs.Compare.{sameBytes}
+use Rattle.history.specs.Entries.{mostEntries, added, sound}
+use Rattle.history.specs.Slots.{layout, entriesOf}
+use Rattle.history.specs.declared.stepping.History.{History}
+
+pub record Journal : Type 0 where
+  pub entries : List (List ℕ)
+  pub place : ℕ
+
+-- no entry
+abbrev pub noEntries : Journal
+noEntries = record { entries = []; place = 0 }
+
+-- how many entries there are, and the entry of a number, the oldest being 0
+abbrev pub count : Journal → ℕ
+count j = length (j .entries)
+
+abbrev pub entryOf : Journal → ℕ → List ℕ
+entryOf j number = getD (j .entries) number []
+
+-- a text is offered; every add sets the place to the count
+abbrev pub offered : List ℕ → Journal → Journal
+offered text j = record { entries = added text (j .entries); place = length (added text (j .entries)) }
+
+-- the same entries, at another place
+abbrev pub atPlace : Journal → ℕ → Journal
+atPlace j place = record { entries = j .entries; place = place }
+
+-- the record and the slots that hold a history, and the history that they hold
+unfoldable pub recordOf : Journal → History
+recordOf j = record { count = length (j .entries); place = j .place }
+
+unfoldable pub slotsOf : Journal → List ℕ
+slotsOf j = layout (j .entries)
+
+unfoldable pub journalOf : History → List ℕ → Journal
+journalOf h slots = record { entries = entriesOf (h .count) slots; place = h .place }
+
+-- A state is bad exactly if the buffer has another length, the count exceeds 100, the place exceeds the count, a used slot has length 0 or is
+-- blank or ill-formed, two neighbours are equal, or an unused byte is not zero.
+unfoldable pub good : History → List ℕ → Bool
+good h slots =
+    cond (eqb (length slots) 25600)
+    (cond (leb (h .count) mostEntries)
+    (cond (leb (h .place) (h .count))
+    (cond (sound [] (entriesOf (h .count) slots)) (sameBytes (slotsOf (journalOf h slots)) slots) false)
+    false)
+    false)
+    false

@@ -1,0 +1,4 @@
+-- The laws of the crate `keys` that belong to no one function.
+pub mod Ranges
+pub mod Awaiting
+pub mod Modes

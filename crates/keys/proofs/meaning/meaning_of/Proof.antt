@@ -1,0 +1,49 @@
+-- `keys::meaning::meaning_of` meets its contract.
+use Rattle.keys.specs.declared.meaning.Mode.{Mode}
+use Rattle.keys.specs.declared.meaning.Meaning.{Meaning}
+use Rattle.keys.specs.Keys.{meaning}
+use mathlib.Core.Path.{sym, ap, _∙_}
+use borrow.Author.Needs.{needs}
+use Rattle.keys.proofs.meaning.meaning_of.Statement.{statement}
+use Rattle.keys.proofs.meaning.meaning_of.Tie as tie
+
+enum-told : tie.Need-enum-told
+enum-told c = search needs
+
+typed-requires : tie.Need-typed-requires
+typed-requires c κs = search needs
+
+enum-told-2 : tie.Need-enum-told-2
+enum-told-2 c = search needs
+
+escaped-requires : tie.Need-escaped-requires
+escaped-requires c κs = search needs
+
+enum-told-3 : tie.Need-enum-told-3
+enum-told-3 c = search needs
+
+sequenced-requires : tie.Need-sequenced-requires
+sequenced-requires c κs = search needs
+
+returns : tie.Need-returns
+returns c = c .typed .ensures ∙ ap (λ (m : Mode). meaning m (c .before .before .before .args .byte)) (sym (c .before .enum-told .given .1))
+
+returns-2 : tie.Need-returns-2
+returns-2 c = c .escaped .ensures ∙ ap (λ (m : Mode). meaning m (c .before .before .before .args .byte)) (sym (c .before .enum-told2 .given .1))
+
+returns-3 : tie.Need-returns-3
+returns-3 c = c .sequenced .ensures ∙ ap (λ (m : Mode). meaning m (c .before .before .before .args .byte)) (sym (c .before .enum-told3 .given .1))
+
+pub meaning-of-spec : {M : Type 1} → statement M
+meaning-of-spec =
+    tie.close
+    (tie.spec
+    enum-told
+    typed-requires
+    enum-told-2
+    escaped-requires
+    enum-told-3
+    sequenced-requires
+    returns
+    returns-2
+    returns-3)
