@@ -101,11 +101,7 @@ module _ (w : ℕ) (s : List ℕ) (at left : ℕ) (l : left ≡ length s - at) w
   pub read-at : (v : ℕ) → numberOf (take w (drop at s)) ≡ v → readText w (drop at s) ≡ cond (leb (w + v) left) (Whole v) Broken
   read-at v e = rw (l, ← length-drop at s) (read-by w (drop at s) v e)
 
--- the number in front of a place, in one and in two bytes
-pub value-one : (s : List ℕ) (at : ℕ) → at < length s → numberOf (take 1 (drop at s)) ≡ getD s at 0
-unfolding numberOf
-value-one s at h = rw (drop-step s at 0 h) (omega arith)
-
+-- the number in front of a place
 pub value-two : (s : List ℕ) (at : ℕ) → at + 1 < length s → numberOf (take 2 (drop at s)) ≡ getD s at 0 * 256 + getD s (at + 1) 0
 unfolding numberOf
 value-two s at h = rw (drop-step s at 0 (omega arith), drop-step s (at + 1) 0 h) (omega arith)

@@ -392,6 +392,3 @@ fairly-told ended f n e = absurd (let z : _≡_ {A = ℕ} 0 1 = cc in omega arit
 
 pub strict-told : (s : List ℕ) (head : Head) (f : Frame) (n : ℕ) → head ≡ frameFirst s → readBy s head ≡ read f n → (readFirst s ≡ read f n) × (fair f ≡ true)
 strict-told s head f n e r = fairly-told (readFirst s) f n (sym (read-fairly s) ∙ rw (← e) r)
-
-pub strict-bad : (s : List ℕ) (head : Head) → head ≡ frameFirst s → readBy s head ≡ broken → fairly (readFirst s) ≡ broken
-strict-bad s head e r = sym (read-fairly s) ∙ rw (← e) r

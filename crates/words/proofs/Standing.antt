@@ -30,10 +30,6 @@ use Rattle.words.proofs.Steps.{closed-none, closed-some}
 unfoldable pub shown : List (List ℕ) → List ℕ
 shown words = wordFrames (map encodeAll words)
 
-shown-more : (word : List ℕ) (words : List (List ℕ)) → shown (word ∷ words) ≡ frameOf 0x14 (encodeAll word) ++ shown words
-unfolding shown wordFrames
-shown-more word words = refl
-
 -- a word that ends stands in front of the rest
 pub shown-ended : (word : List ℕ) (words : List (List ℕ)) → shown (ended word words) ≡ shown (ended word []) ++ shown words
 unfolding shown wordFrames
