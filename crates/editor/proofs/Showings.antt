@@ -9,7 +9,7 @@ use borrow.Author.Tests.{lt-ltb, le-ltb, ltb-true, ltb-false}
 use Rattle.buffer.proofs.Choices.{then-is, else-is}
 use Rattle.buffer.specs.Write.{over}
 use Rattle.history.specs.declared.stepping.History.{History}
-use Rattle.screen.specs.Redraw.{redraw, greatest, roomAnswer, leavesBy, Redraw}
+use Rattle.screen.specs.Redraw.{redraw, greatestNumber, roomAnswer, leavesBy, Redraw}
 use Rattle.screen.specs.declared.line.Redrawn.{Redrawn}
 use Rattle.screen.specs.declared.line.Redrawn.the-variants.{Shown as Drawn, NoRoom as NoSpace}
 use Rattle.screen.proofs.Drawing.{needed-exact}
@@ -45,10 +45,10 @@ module _ (prompt content : List ℕ) (cursor : ℕ) (out : List ℕ) where
 
   abbrev pub Told : Redrawn → List ℕ → Type 0
   Told (Drawn n) left = (n ≡ length (redraw prompt content cursor)) × (length (redraw prompt content cursor) ≤ length out) × (left ≡ over (redraw prompt content cursor) out)
-  Told (NoSpace n) left = (n ≡ min (length (redraw prompt content cursor)) greatest) × (length out < length (redraw prompt content cursor)) × (left ≡ out)
+  Told (NoSpace n) left = (n ≡ min (length (redraw prompt content cursor)) greatestNumber) × (length out < length (redraw prompt content cursor)) × (left ≡ out)
 
   by-room : (t : Bool) (left : List ℕ) → ltb (length out) (length bytes) ≡ t
-      → left ≡ leavesBy (cond t (NoSpace (min (length bytes) greatest)) (Drawn (length bytes))) bytes out → Told (cond t (NoSpace (min (length bytes) greatest)) (Drawn (length bytes))) left
+      → left ≡ leavesBy (cond t (NoSpace (min (length bytes) greatestNumber)) (Drawn (length bytes))) bytes out → Told (cond t (NoSpace (min (length bytes) greatestNumber)) (Drawn (length bytes))) left
   unfolding bytes
   by-room true left e q = (refl, ltb-true _ _ e, q)
   by-room false left e q = (refl, ltb-false _ _ e, q)

@@ -9,7 +9,7 @@ use Rattle.image.specs.Frames.{node, flag, absent, text, perhaps, encode}
 use Rattle.image.specs.Limits.{allShown, isName, isNote, isShort, definable, fair}
 use Rattle.image.specs.Reading.{span, perhapsIn, nodeLengths, definitionLengths, nodeFirst, flagFirst, headFirst, nodeIn, flagIn, readFirst}
 use Rattle.tree.specs.Images.{itemsFrom, items}
-use Rattle.tree.specs.Rules.{rises, follows, obeys, after, judge, checkTree}
+use Rattle.tree.specs.Rules.{rises, follows, obeys, after, judgeItems, checkTree}
 use Rattle.growth.specs.Growth.{oneFrame, takes}
 
 -- a command with a name of one letter, and a flag
@@ -29,5 +29,5 @@ table :
     × (takes (command 0x61) (long ++ command 0x62) ≡ false)
     × (takes (command 0x61) (0x01 ∷ 0x00 ∷ []) ≡ false)
     × (takes (command 0x61) [] ≡ false)
-unfolding takes oneFrame command long checkTree judge items itemsFrom encode perhaps text textOf numberBytes readFirst headFirst nodeFirst flagFirst nodeLengths definitionLengths span nodeIn flagIn perhapsIn fair definable isShort isName isNote allShown obeys follows after rises order
+unfolding takes oneFrame command long checkTree judgeItems items itemsFrom encode perhaps text textOf numberBytes readFirst headFirst nodeFirst flagFirst nodeLengths definitionLengths span nodeIn flagIn perhapsIn fair definable isShort isName isNote allShown obeys follows after rises order
 table = (refl, refl, refl, refl, refl, refl, refl, refl)

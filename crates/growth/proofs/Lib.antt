@@ -1,4 +1,4 @@
 -- The laws of the crate `growth` that belong to no one function, and that later crates cite.
-pub mod Adding
-pub mod Standing
+pub mod OneFrameMore
+pub mod Grown
 pub mod Examples

@@ -5,7 +5,7 @@ use native.Mathlib.Omega.{arith}
 use lib.ListN.{length}
 use Rattle.image.specs.Frames.{Frame}
 use Rattle.tree.specs.Subtrees.{subtree}
-use Rattle.lookup.proofs.Few.{Few, few-subtree}
+use Rattle.lookup.proofs.FrameCounts.{Few, few-subtree}
 use Rattle.layout.specs.Texts.{spaced}
 use Rattle.layout.proofs.Bounds.{spaced-more, help-most}
 use Rattle.help.specs.Paths.{Led, found, lost, onSubtree, followed}

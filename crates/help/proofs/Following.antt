@@ -16,9 +16,9 @@ use Rattle.image.specs.Frames.{Frame, encode}
 use Rattle.tree.specs.Images.{framesOf, flat}
 use Rattle.tree.specs.Rules.{start, checkTree}
 use Rattle.tree.specs.declared.check.Checked.the-variants.{Good}
-use Rattle.tree.proofs.Wholes.{AllFit, frames-flat, obey-fit, good-well-formed}
+use Rattle.tree.proofs.WellFormedImages.{AllFit, frames-flat, obey-fit, good-well-formed}
 use Rattle.tree.specs.Subtrees.{upTo, onFrom, rooted, subtree}
-use Rattle.lookup.specs.Spots.{later, placeOf, spot}
+use Rattle.lookup.specs.Spots.{shifted, placeOf, spot}
 use Rattle.lookup.specs.Searches.{wanted, endedBy}
 use Rattle.lookup.specs.Nodes.{findNode}
 use Rattle.lookup.specs.Subtrees.{PartHolds}
@@ -68,7 +68,7 @@ place-none test ends [] e = refl
 place-none test ends (f ∷ l) e = by (test f) (ends f) e (place-none test ends l)
   where
     by : (t u : Bool) → cond t (f ∷ l) (onFrom test l) ≡ [] → (onFrom test l ≡ [] → placeOf test ends l ≡ NoSpot)
-        → cond u NoSpot (cond t (SpotAt 0) (later (length (encode f)) (placeOf test ends l))) ≡ NoSpot
+        → cond u NoSpot (cond t (SpotAt 0) (shifted (length (encode f)) (placeOf test ends l))) ≡ NoSpot
     by true u q more = cc
     by false true q more = refl
     by false false q more = rw (more q)

@@ -13,13 +13,13 @@ use Rattle.frame.specs.Text.{Bytes}
 use Rattle.frame.proofs.Texts.{text-one}
 use Rattle.image.specs.Frames.{Perhaps, absent, present, Frame, node, option, flag, text, perhaps, encode}
 use Rattle.image.specs.Limits.{isName, isNote, isShort, optionally, definable, fair}
-use Rattle.image.specs.Reading.{strictly, frameFirst, span, perhapsIn, nodeLengths, definitionLengths, headFirst, nodeIn, nameIn, longIn, noteIn, optionIn, flagIn, Read, read, broken, ended, readBy, readFirst}
+use Rattle.image.specs.Reading.{strictly, strictFirst, span, perhapsIn, nodeLengths, definitionLengths, headFirst, nodeIn, nameIn, longIn, noteIn, optionIn, flagIn, Read, read, broken, ended, readBy, readFirst}
 use Rattle.image.specs.declared.head.Lengths.{Lengths}
 use Rattle.image.specs.declared.head.Head.{Head}
 use Rattle.image.specs.declared.head.Head.the-variants.{Node, Option, Flag, Bad, End}
 use Rattle.image.proofs.Heads.{span-none, span-some, node-lengths-are, definition-lengths-are, node-whole, option-whole, flag-whole, head-node, head-option, head-flag}
 use Rattle.image.proofs.Fields.{both-first, both-second}
-use Rattle.image.proofs.Views.{NodeSeen, OptionSeen, FlagSeen, view}
+use Rattle.image.proofs.HeadBytes.{NodeSeen, OptionSeen, FlagSeen, view}
 
 pub text-is : (t : List ℕ) → text t ≡ length t ∷ t
 unfolding text
@@ -365,8 +365,8 @@ fairly (read f n) = cond (fair f) (read f n) broken
 fairly broken = broken
 fairly ended = ended
 
-pub read-fairly : (s : List ℕ) → readBy s (frameFirst s) ≡ fairly (readFirst s)
-unfolding frameFirst readFirst
+pub read-fairly : (s : List ℕ) → readBy s (strictFirst s) ≡ fairly (readFirst s)
+unfolding strictFirst readFirst
 read-fairly s = by (headFirst s)
   where
     pick : (t : Bool) (head : Head) (f : Frame) (n : ℕ) → readBy s head ≡ read f n → readBy s (cond t head Bad) ≡ cond t (read f n) broken
@@ -390,5 +390,5 @@ fairly-told (read g m) f n e = by (fair g) refl e
 fairly-told broken f n e = absurd (let z : _≡_ {A = ℕ} 0 1 = cc in omega arith)
 fairly-told ended f n e = absurd (let z : _≡_ {A = ℕ} 0 1 = cc in omega arith)
 
-pub strict-told : (s : List ℕ) (head : Head) (f : Frame) (n : ℕ) → head ≡ frameFirst s → readBy s head ≡ read f n → (readFirst s ≡ read f n) × (fair f ≡ true)
+pub strict-told : (s : List ℕ) (head : Head) (f : Frame) (n : ℕ) → head ≡ strictFirst s → readBy s head ≡ read f n → (readFirst s ≡ read f n) × (fair f ≡ true)
 strict-told s head f n e r = fairly-told (readFirst s) f n (sym (read-fairly s) ∙ rw (← e) r)

@@ -7,7 +7,7 @@ use lib.ListN.{replicate}
 use Rattle.frame.specs.Text.{numberBytes, textOf}
 use Rattle.image.specs.Frames.{Frame, node, flag, absent, present, text, perhaps, encode}
 use Rattle.image.specs.Limits.{allShown, isName, isNote, isShort, definable, fair}
-use Rattle.image.specs.Reading.{span, perhapsIn, nodeLengths, definitionLengths, nodeFirst, flagFirst, headFirst, nodeIn, flagIn, frameFirst, read, broken, readFirst}
+use Rattle.image.specs.Reading.{span, perhapsIn, nodeLengths, definitionLengths, nodeFirst, flagFirst, headFirst, nodeIn, flagIn, strictFirst, read, broken, readFirst}
 use Rattle.image.specs.declared.head.Head.the-variants.{Bad}
 
 log : List ℕ
@@ -45,8 +45,8 @@ flag-cut : readFirst (0x03 ∷ 0x6c ∷ 0x04 ∷ 0x6c ∷ 0x6f ∷ 0x6e ∷ 0x67
 unfolding readFirst headFirst flagFirst definitionLengths span
 flag-cut = refl
 
-flag-bad : frameFirst (0x03 ∷ 0x6c ∷ 0x04 ∷ 0x6c ∷ 0x6f ∷ 0x6e ∷ 0x67 ∷ 0xff ∷ 0x01 ∷ 0x7f ∷ []) ≡ Bad
-unfolding frameFirst headFirst flagFirst definitionLengths span flagIn perhapsIn fair definable isShort isName isNote allShown
+flag-bad : strictFirst (0x03 ∷ 0x6c ∷ 0x04 ∷ 0x6c ∷ 0x6f ∷ 0x6e ∷ 0x67 ∷ 0xff ∷ 0x01 ∷ 0x7f ∷ []) ≡ Bad
+unfolding strictFirst headFirst flagFirst definitionLengths span flagIn perhapsIn fair definable isShort isName isNote allShown
 flag-bad = refl
 
 -- a name of 32 bytes and one of 33, a description of 96 and one of 97

@@ -87,8 +87,8 @@ strictly s Bad = Bad
 strictly s End = End
 
 -- what the first bytes are, by all the rules for a frame by itself
-unfoldable pub frameFirst : List ℕ → Head
-frameFirst s = strictly s (headFirst s)
+unfoldable pub strictFirst : List ℕ → Head
+strictFirst s = strictly s (headFirst s)
 
 -- lengths that are bytes
 pub record Small (texts : Lengths) : Type 0 where

@@ -8,10 +8,10 @@ use lib.ListN.{length, length-append}
 use Rattle.text.specs.Decoding.{Piece, piecesOf, bytesOf, bytesAll}
 use Rattle.text.specs.Apart.{white, ended, wordsAfter, wordsBetween}
 use Rattle.text.proofs.Pieces.{pieces-bytes}
-use Rattle.text.proofs.Sights.{some-bytes}
+use Rattle.text.proofs.WhiteRuns.{some-bytes}
 use Rattle.image.specs.Frames.{Perhaps, absent, present, Frame, node, option, flag}
 use Rattle.image.specs.Limits.{isNote, optionally}
-use Rattle.lookup.proofs.Few.{note-short, node-short, Few}
+use Rattle.lookup.proofs.FrameCounts.{note-short, node-short, Few}
 use Rattle.ink.specs.Ascii.{ascii}
 use Rattle.rows.specs.Rows.{rows, titled}
 use Rattle.rows.specs.declared.row.Listing.the-variants.{Options, Flags, Subcommands, Commands}

@@ -14,7 +14,7 @@ use Rattle.image.specs.declared.head.Lengths.{Lengths}
 use Rattle.image.specs.declared.head.Head.{Head}
 use Rattle.image.specs.declared.head.Head.the-variants.{Node, Option, Flag, Bad, End}
 use Rattle.image.proofs.head.Head.{the-type}
-use Rattle.image.proofs.Views.{view}
+use Rattle.image.proofs.HeadBytes.{view}
 use Rattle.tree.specs.Images.{framesOf}
 use Rattle.tree.proofs.Items.{frames-read}
 use Rattle.lookup.proofs.Seeks.{frames-broken, frames-ended}

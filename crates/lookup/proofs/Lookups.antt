@@ -13,11 +13,11 @@ use Rattle.image.proofs.Fields.{both-first, both-second, both-true}
 use Rattle.tree.specs.Images.{flat}
 use Rattle.tree.specs.Rules.{start, isLess}
 use Rattle.tree.specs.Forest.{Forest, bare, grown, flatten, definitionsOnly, modest, orderly}
-use Rattle.tree.proofs.Wholes.{AllFit, obey-fit}
-use Rattle.tree.proofs.Growing.{forest-obeys}
+use Rattle.tree.proofs.WellFormedImages.{AllFit, obey-fit}
+use Rattle.tree.proofs.Flattening.{forest-obeys}
 use Rattle.tree.proofs.Forests.{StandsFor}
 use Rattle.tree.specs.Subtrees.{upTo, onFrom, rooted, subtree}
-use Rattle.lookup.specs.Spots.{later, placeOf, spot}
+use Rattle.lookup.specs.Spots.{shifted, placeOf, spot}
 use Rattle.lookup.specs.Searches.{wanted, isNode}
 use Rattle.lookup.specs.Nodes.{findNode}
 use Rattle.lookup.specs.Subtrees.{treeNamed, PartHolds}
@@ -208,14 +208,14 @@ definitions-end test [] d bare o = refl
 definitions-end test [] d (grown h n ds u defs below after) o = refl
 definitions-end test (node b h n ds u ∷ l) d f o = cc
 definitions-end test (option r c n x ds ∷ l) d f o =
-    ap (λ (s : Spot). cond (test (option r c n x ds)) (At 0) (later (length (encode (option r c n x ds))) s)) (definitions-end test l d f (both-second (fair (option r c n x ds)) _ o))
+    ap (λ (s : Spot). cond (test (option r c n x ds)) (At 0) (shifted (length (encode (option r c n x ds))) s)) (definitions-end test l d f (both-second (fair (option r c n x ds)) _ o))
 definitions-end test (flag c n x ds ∷ l) d f o =
-    ap (λ (s : Spot). cond (test (flag c n x ds)) (At 0) (later (length (encode (flag c n x ds))) s)) (definitions-end test l d f (both-second (fair (flag c n x ds)) _ o))
+    ap (λ (s : Spot). cond (test (flag c n x ds)) (At 0) (shifted (length (encode (flag c n x ds))) s)) (definitions-end test l d f (both-second (fair (flag c n x ds)) _ o))
 
 -- the definitions of a node, sought in the part of its tree from behind the node, are those of the node alone
 pub definitions-spot : (test : Frame → Bool) (h : ℕ) (n ds : List ℕ) (u : Perhaps) (defs : List Frame) (below : Forest) (d : ℕ) → definitionsOnly defs ≡ true
     → AllFit (flatten d (grown h n ds u defs below bare))
-    → spot test isNode (flat (flatten d (grown h n ds u defs below bare))) (length (encode (node d h n ds u))) ≡ later (length (encode (node d h n ds u))) (placeOf test isNode defs)
+    → spot test isNode (flat (flatten d (grown h n ds u defs below bare))) (length (encode (node d h n ds u))) ≡ shifted (length (encode (node d h n ds u))) (placeOf test isNode defs)
 unfolding flatten
 definitions-spot test h n ds u defs below d only fit =
     let size = first-size (node d h n ds u) in

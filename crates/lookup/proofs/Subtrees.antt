@@ -10,10 +10,10 @@ use Rattle.image.specs.Frames.{Frame, node, option, flag, encode}
 use Rattle.image.specs.Reading.{read, readFirst}
 use Rattle.image.proofs.Encoding.{frame-read}
 use Rattle.tree.specs.Images.{framesOf, flat}
-use Rattle.tree.proofs.Wholes.{AllFit, flat-append, frames-flat}
-use Rattle.tree.proofs.Reached.{on-first}
+use Rattle.tree.proofs.WellFormedImages.{AllFit, flat-append, frames-flat}
+use Rattle.tree.proofs.CommandNodes.{on-first}
 use Rattle.tree.specs.Subtrees.{upTo, onFrom, rooted, subtree}
-use Rattle.lookup.specs.Spots.{later, placeOf, spot}
+use Rattle.lookup.specs.Spots.{shifted, placeOf, spot}
 use Rattle.lookup.specs.Searches.{wanted}
 use Rattle.lookup.specs.Nodes.{orEnd, endAfter, subtreeEnd, partAt, findNode}
 use Rattle.lookup.specs.Subtrees.{PartHolds}
@@ -34,7 +34,7 @@ up-on test (f ∷ l) = by (test f) (up-on test l)
     by true e = refl
     by false e = ap (λ (m : List Frame). f ∷ m) e
 
-later-none : (x : Spot) → later 0 x ≡ x
+later-none : (x : Spot) → shifted 0 x ≡ x
 later-none (At k) = ap At (omega arith)
 later-none Nothing = refl
 
@@ -46,7 +46,7 @@ placed before (f ∷ l) = At (length (flat before))
 abbrev never : Frame → Bool
 never f = false
 
-placed-later : (f : Frame) (before rest : List Frame) → later (length (encode f)) (placed before rest) ≡ placed (f ∷ before) rest
+placed-later : (f : Frame) (before rest : List Frame) → shifted (length (encode f)) (placed before rest) ≡ placed (f ∷ before) rest
 unfolding flat
 placed-later f before [] = refl
 placed-later f before (g ∷ l) = ap At (sym (length-append (encode f) (flat before)))
@@ -57,7 +57,7 @@ place-up test [] = refl
 place-up test (f ∷ l) = by (test f) (place-up test l)
   where
     by : (t : Bool) → placeOf test never l ≡ placed (upTo test l) (onFrom test l)
-        → cond t (At 0) (later (length (encode f)) (placeOf test never l)) ≡ placed (cond t [] (f ∷ upTo test l)) (cond t (f ∷ l) (onFrom test l))
+        → cond t (At 0) (shifted (length (encode f)) (placeOf test never l)) ≡ placed (cond t [] (f ∷ upTo test l)) (cond t (f ∷ l) (onFrom test l))
     by true e = refl
     by false e = rw e (placed-later f (upTo test l) (onFrom test l))
 
@@ -70,15 +70,15 @@ module _ (a b : List Frame) (fit : AllFit (a ++ b)) where
   frames-behind = ap framesOf behind ∙ frames-flat b (fit-append a b fit)
 
 -- a search in joined frames, from behind some of them
-pub spot-behind : (test ends : Frame → Bool) (a b : List Frame) → AllFit (a ++ b) → spot test ends (flat (a ++ b)) (length (flat a)) ≡ later (length (flat a)) (placeOf test ends b)
+pub spot-behind : (test ends : Frame → Bool) (a b : List Frame) → AllFit (a ++ b) → spot test ends (flat (a ++ b)) (length (flat a)) ≡ shifted (length (flat a)) (placeOf test ends b)
 unfolding spot
 spot-behind test ends a b fit = rw (frames-behind a b fit)
 
-spot-flat : (test : Frame → Bool) (a b : List Frame) → AllFit (a ++ b) → spot test never (flat (a ++ b)) (length (flat a)) ≡ later (length (flat a)) (placed (upTo test b) (onFrom test b))
+spot-flat : (test : Frame → Bool) (a b : List Frame) → AllFit (a ++ b) → spot test never (flat (a ++ b)) (length (flat a)) ≡ shifted (length (flat a)) (placed (upTo test b) (onFrom test b))
 spot-flat test a b fit = spot-behind test never a b fit ∙ rw (place-up test b)
 
 -- the end of a subtree
-or-end : (image : List ℕ) (k : ℕ) (up on : List Frame) → length image ≡ k + length (flat (up ++ on)) → orEnd image (later k (placed up on)) ≡ k + length (flat up)
+or-end : (image : List ℕ) (k : ℕ) (up on : List Frame) → length image ≡ k + length (flat (up ++ on)) → orEnd image (shifted k (placed up on)) ≡ k + length (flat up)
 or-end image k up [] e = rw (append-nil up) at e
 or-end image k up (g ∷ m) e = refl
 
@@ -91,7 +91,7 @@ length-joined a b = ap length (flat-append a b) ∙ length-append (flat a) (flat
 
 module _ (d : ℕ) (before : List Frame) (f : Frame) (l : List Frame) (fit : AllFit (before ++ f ∷ l)) where
   upper-spot : spot (wanted (Upper d) []) never (flat (before ++ f ∷ l)) (length (flat before) + length (encode f))
-      ≡ later (length (flat before) + length (encode f)) (placed (upTo (wanted (Upper d) []) l) (onFrom (wanted (Upper d) []) l))
+      ≡ shifted (length (flat before) + length (encode f)) (placed (upTo (wanted (Upper d) []) l) (onFrom (wanted (Upper d) []) l))
   upper-spot =
       let fit₂ : AllFit ((before ++ f ∷ []) ++ l) = rw (append-snoc before f l) fit in
       rw (append-snoc before f l, length-snoc before f) at (spot-flat (wanted (Upper d) []) (before ++ f ∷ []) l fit₂)

@@ -13,7 +13,7 @@ use Rattle.history.specs.Answer.{atEnd, entriesAfter, addAnswer, historyBy, slo
 use Rattle.history.specs.declared.stepping.History.{History}
 use Rattle.history.specs.declared.adding.Added.{Added}
 use Rattle.history.specs.declared.adding.Added.the-variants.{Done, BadState as BadHistory, TooLong, IllFormed}
-use Rattle.screen.specs.Redraw.{redraw, greatest, roomAnswer, Redraw, leavesBy as drawnLeaves, number as drawnNumber, value as drawnValue}
+use Rattle.screen.specs.Redraw.{redraw, greatestNumber, roomAnswer, Redraw, leavesBy as drawnLeaves, number as drawnNumber, value as drawnValue}
 use Rattle.screen.specs.declared.line.Redrawn.{Redrawn}
 use Rattle.editor.specs.declared.line.Editor.{Editor}
 use Rattle.editor.specs.declared.drawing.KeyAnswer.{KeyAnswer}
@@ -57,7 +57,7 @@ add-tells h slots text r a left t =
 
 -- CLEAR_LINE_AND_REDRAW: 9. A length needed that is above the greatest number of 64 bits is given as that one.
 unfoldable pub redrawTable : List ℕ → List ℕ → Answered (List ℕ)
-redrawTable bytes out = first (row 9 (lacks bytes out) (min (length bytes) greatest) out ∷ []) (told 0 (length bytes) (over bytes out))
+redrawTable bytes out = first (row 9 (lacks bytes out) (min (length bytes) greatestNumber) out ∷ []) (told 0 (length bytes) (over bytes out))
 
 pub redraw-tells : (prompt content : List ℕ) (cursor : ℕ) (out : List ℕ) (r : Redrawn) (left : List ℕ) → Redraw prompt content cursor out r left
     → told (drawnNumber r) (drawnValue r) left ≡ redrawTable (redraw prompt content cursor) out

@@ -18,7 +18,7 @@ use Rattle.image.specs.Frames.{absent, present, Frame, node, option, flag, text
 use Rattle.image.specs.Limits.{allShown, isName, isNote, isShort, definable, fair}
 use Rattle.image.specs.Reading.{span, perhapsIn, nodeLengths, definitionLengths, nodeFirst, optionFirst, flagFirst, headFirst, nodeIn, optionIn, flagIn, readFirst}
 use Rattle.tree.specs.Images.{itemsFrom, items, framesIn, framesOf, flat}
-use Rattle.tree.specs.Rules.{rises, follows, obeys, after, judge, checkTree}
+use Rattle.tree.specs.Rules.{rises, follows, obeys, after, judgeItems, checkTree}
 use Rattle.tree.specs.declared.check.Checked.the-variants.{Good}
 use Rattle.lookup.specs.Searches.{keyed}
 use Rattle.tree.specs.Subtrees.{upTo, onFrom, subtree}
@@ -101,7 +101,7 @@ all-fair = ((refl, refl), ((refl, refl), ((refl, refl), ((refl, refl), ((refl, r
 
 -- the image of the node `set`
 set-good : checkTree (flat setTree) ≡ Good
-unfolding setTree ascii order numberBytes textOf text perhaps encodeFrame allShown isName isNote isShort definable fair span perhapsIn nodeLengths definitionLengths nodeFirst optionFirst flagFirst headFirst nodeIn optionIn flagIn readFirst itemsFrom items flat rises follows obeys after judge checkTree
+unfolding setTree ascii order numberBytes textOf text perhaps encodeFrame allShown isName isNote isShort definable fair span perhapsIn nodeLengths definitionLengths nodeFirst optionFirst flagFirst headFirst nodeIn optionIn flagIn readFirst itemsFrom items flat rises follows obeys after judgeItems checkTree
 set-good = refl
 
 set-frames : framesOf (flat setTree) ≡ setTree

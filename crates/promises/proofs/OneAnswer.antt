@@ -48,7 +48,7 @@ use Rattle.rissemat.specs.Calls.{WordsCall, QuoteCall, FreshCall, KeyCall, AddC
 use Rattle.tree.specs.declared.walk.Walk.{Walk}
 use Rattle.tree.specs.declared.walk.Step.{Step}
 use Rattle.growth.specs.Growth.{Grows}
-use Rattle.growth.proofs.Adding.{one-answer as one-frame}
+use Rattle.growth.proofs.OneFrameMore.{one-answer as one-frame}
 use Rattle.session.specs.Calls.{TakingLine, PressingKey, RefusingLine}
 use Rattle.session.specs.declared.running.Printing.{Printing}
 use Rattle.session.specs.declared.standing.Session.{Session}

@@ -25,9 +25,9 @@ use Rattle.words.specs.Tokens.{wordsOf}
 use Rattle.words.specs.Answer.{Tokenized}
 use Rattle.words.specs.declared.tokenizer.Tokens.{Tokens}
 use Rattle.words.specs.declared.tokenizer.Tokens.the-variants.{Words}
-use Rattle.quote.specs.Given.{listed, fine, judge}
+use Rattle.quote.specs.Given.{listed, fine, judgeWords}
 use Rattle.quote.specs.Answer.{quoteLine}
-use Rattle.quote.proofs.Return.{given-back, call-back}
+use Rattle.quote.proofs.GivenBack.{given-back, call-back}
 use Rattle.tree.specs.Images.{flat, framesOf}
 use Rattle.tree.specs.Forest.{Forest}
 use Rattle.tree.specs.Rules.{checkTree}
@@ -195,9 +195,9 @@ pub ordered : (a b c : List ℕ) → (order a b ≡ Equal → a ≡ b) × (order
 ordered a b c = (order-is a b, order-turned a b, order-trans a b c)
 
 -- QUOTING: the line of a list of words that quoting accepts splits into that list; and as calls, `tokenize` of what `quote` writes gives back the very frames
-pub splits-back : (words : List ℕ) (ws : List (List ℕ)) → judge (listed words) ≡ fine ws → wordsOf (quoteLine ws) ≡ ws
+pub splits-back : (words : List ℕ) (ws : List (List ℕ)) → judgeWords (listed words) ≡ fine ws → wordsOf (quoteLine ws) ≡ ws
 splits-back = given-back
 
-pub frames-back : (words out : List ℕ) (ws : List (List ℕ)) → Bytes words → judge (listed words) ≡ fine ws → length (quoteLine ws) ≤ 1024 → length words ≤ length out
+pub frames-back : (words out : List ℕ) (ws : List (List ℕ)) → Bytes words → judgeWords (listed words) ≡ fine ws → length (quoteLine ws) ≤ 1024 → length words ≤ length out
     → Tokenized (quoteLine ws) out (Words (length words)) (over words out)
 frames-back = call-back

@@ -6,7 +6,7 @@ use mathlib.Core.List.{List, [], map}
 use lib.Dec.{ltb}
 use lib.ListN.{length}
 use Rattle.buffer.specs.Write.{over}
-use Rattle.quote.specs.Given.{listed, judge, onJudged}
+use Rattle.quote.specs.Given.{listed, judgeWords, onJudged}
 use Rattle.quote.specs.Shown.{shown}
 use Rattle.quote.specs.Joined.{joined}
 use Rattle.quote.specs.declared.quoter.Quoted.{Quoted}
@@ -25,11 +25,11 @@ lineAnswer n room =
 
 -- the answer for words that come as frames
 unfoldable pub quoteAnswer : List ℕ → ℕ → Quoted
-quoteAnswer words room = onJudged (judge (listed words)) (λ n. BadWord n) (λ ws. lineAnswer (length (quoteLine ws)) room)
+quoteAnswer words room = onJudged (judgeWords (listed words)) (λ n. BadWord n) (λ ws. lineAnswer (length (quoteLine ws)) room)
 
 -- the line of words that come as frames; where one is bad there is none
 unfoldable pub lineOf : List ℕ → List ℕ
-lineOf words = onJudged (judge (listed words)) (λ n. []) quoteLine
+lineOf words = onJudged (judgeWords (listed words)) (λ n. []) quoteLine
 
 -- a refusal writes nothing; the line stands in the first bytes, and the rest stays
 abbrev pub leavesBy : Quoted → List ℕ → List ℕ → List ℕ

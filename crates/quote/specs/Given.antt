@@ -42,7 +42,7 @@ abbrev pub before : List ℕ → Judged → Judged
 before w (bad n) = bad (suc n)
 before w (fine words) = fine (w ∷ words)
 
-unfoldable pub judge : Listed → Judged
-judge done = fine []
-judge broken = bad 0
-judge (word w l) = cond (goodWord w) (before w (judge l)) (bad 0)
+unfoldable pub judgeWords : Listed → Judged
+judgeWords done = fine []
+judgeWords broken = bad 0
+judgeWords (word w l) = cond (goodWord w) (before w (judgeWords l)) (bad 0)

@@ -7,7 +7,7 @@ use lib.ListN.{length, take, drop}
 use Rattle.frame.specs.Framed.{frameFirst}
 use Rattle.words.specs.Tokens.{backslash}
 use Rattle.frame.specs.Series.{onFrame}
-use Rattle.quote.specs.Given.{goodWord, listed, judge, Judged, bad, fine, onJudged}
+use Rattle.quote.specs.Given.{goodWord, listed, judgeWords, Judged, bad, fine, onJudged}
 use Rattle.text.specs.Decoding.{decodeFirst, onDecoded, codesIn, wellFormedLength}
 use Rattle.text.specs.declared.utf8.Decoded.{Decoded}
 use Rattle.quote.specs.Shown.{special, quoting, plain, shown}
@@ -47,7 +47,7 @@ escapedBytes is bytes = cond is (backslash ∷ bytes) bytes
 
 -- what measuring finds: the length of the line, or the number of the first bad word
 unfoldable pub measured : List ℕ → Measured
-measured words = onJudged (judge (listed words)) (λ n. Bad n) (λ ws. Needs (length (quoteLine ws)))
+measured words = onJudged (judgeWords (listed words)) (λ n. Bad n) (λ ws. Needs (length (quoteLine ws)))
 
 -- all words are good
 abbrev pub IsFine : Judged → Type 0

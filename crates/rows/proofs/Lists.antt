@@ -24,7 +24,7 @@ use Rattle.rows.specs.Rows.{blanks, padded, shortThen, shownAs, required
 use Rattle.rows.specs.Steps.{rowBy, sizeBy}
 use Rattle.rows.specs.declared.row.Listing.{Listing}
 use Rattle.rows.specs.declared.row.Listing.the-variants.{Options, Flags, Subcommands, Commands}
-use Rattle.rows.proofs.Rowing.{blanks-length}
+use Rattle.rows.proofs.OneRow.{blanks-length}
 
 -- how long each part of a row is at most
 unfoldable pub perhapsLength : Perhaps → ℕ

@@ -11,7 +11,7 @@ use borrow.Author.Tests.{leb-true, lt-ltb}
 use Rattle.buffer.proofs.Choices.{then-is}
 use Rattle.text.specs.Unicode.{encode}
 use Rattle.text.specs.Decoding.{codesIn, decodeFirst}
-use Rattle.text.proofs.Rows.{row-ascii}
+use Rattle.text.proofs.TableRows.{row-ascii}
 use Rattle.text.proofs.Prefix.{codes-step, codes-none}
 use Rattle.image.specs.Frames.{Perhaps, absent, present}
 use Rattle.image.specs.Limits.{shown, allShown, isName, isShort, optionally}

@@ -10,7 +10,7 @@ use Rattle.buffer.proofs.Choices.{then-is, else-is}
 use Rattle.buffer.proofs.Lending.{overAt-nothing}
 use Rattle.buffer.proofs.Writing.{pushed-both, pushed-front}
 use Rattle.screen.specs.Decimal.{decimal}
-use Rattle.screen.specs.Redraw.{clearLine, moveBack, redraw, greatest, roomAnswer, leavesBy, Redraw}
+use Rattle.screen.specs.Redraw.{clearLine, moveBack, redraw, greatestNumber, roomAnswer, leavesBy, Redraw}
 use Rattle.screen.specs.declared.line.Redrawn.{Redrawn}
 use Rattle.screen.specs.declared.line.Redrawn.the-variants.{Shown, NoRoom}
 use Rattle.screen.proofs.Numerals.{decimal-most}
@@ -74,7 +74,7 @@ module _ (prompt content : List ℕ) (cursor : ℕ) where
       pushed-front _ out left r four .bytes ∙ ap (λ (x : List ℕ). over x out) (append-assoc (clearLine ++ prompt) content m ∙ append-assoc clearLine prompt (content ++ m))
 
   -- each answer, with what it leaves
-  module _ (out : List ℕ) (n : ℕ) (e : n ≡ min (length (redraw prompt content cursor)) greatest) where
+  module _ (out : List ℕ) (n : ℕ) (e : n ≡ min (length (redraw prompt content cursor)) greatestNumber) where
     pub no-room : length out < n → Redraw prompt content cursor out (NoRoom n) out
     unfolding roomAnswer
     no-room h =
@@ -98,7 +98,7 @@ module _ (prompt content : List ℕ) (cursor : ℕ) where
         record { answer = sym k; bytes = w ∙ sym (ap (λ (r : Redrawn). leavesBy r (redraw prompt content cursor) out) k) }
 
   -- the length needed is exact where the texts and a move fit 64 bits, as all that the editor holds do
-  pub needed-exact : length prompt + length content ≤ 2 ^ 63 → min (length (redraw prompt content cursor)) greatest ≡ length (redraw prompt content cursor)
+  pub needed-exact : length prompt + length content ≤ 2 ^ 63 → min (length (redraw prompt content cursor)) greatestNumber ≡ length (redraw prompt content cursor)
   needed-exact h = let m = move-few (length content - cursor) (omega arith) in let l = redraw-length in omega arith
 
 -- no second answer satisfies the contract

@@ -24,12 +24,12 @@ unfoldable pub redraw : List ℕ → List ℕ → ℕ → List ℕ
 redraw prompt content cursor = clearLine ++ (prompt ++ (content ++ moveBack (length content - cursor)))
 
 -- the greatest number of 64 bits: a length needed that is above it is given as this one
-abbrev pub greatest : ℕ
-greatest = 0xFFFFFFFFFFFFFFFF
+abbrev pub greatestNumber : ℕ
+greatestNumber = 0xFFFFFFFFFFFFFFFF
 
 -- the answer for n bytes and a buffer of `room` bytes
 unfoldable pub roomAnswer : ℕ → ℕ → Redrawn
-roomAnswer n room = cond (ltb room n) (NoRoom (min n greatest)) (Shown n)
+roomAnswer n room = cond (ltb room n) (NoRoom (min n greatestNumber)) (Shown n)
 
 -- a refusal writes nothing; what is shown stands in the first bytes, and the rest stays
 abbrev pub leavesBy : Redrawn → List ℕ → List ℕ → List ℕ

@@ -19,10 +19,10 @@ use Rattle.image.specs.Frames.{Frame}
 use Rattle.tree.specs.Images.{framesOf}
 use Rattle.tree.specs.Rules.{start, checkTree}
 use Rattle.tree.specs.declared.check.Checked.the-variants.{Good}
-use Rattle.tree.proofs.Wholes.{good-well-formed}
+use Rattle.tree.proofs.WellFormedImages.{good-well-formed}
 use Rattle.tree.specs.Subtrees.{subtree}
 use Rattle.tree.specs.Commands.{descend}
-use Rattle.lookup.proofs.Few.{Few, obey-few, few-subtree}
+use Rattle.lookup.proofs.FrameCounts.{Few, obey-few, few-subtree}
 use Rattle.message.specs.Messages.{message, illFormed, clearScreen}
 use Rattle.message.specs.declared.error.ParseError.the-variants.{NoHandler}
 use Rattle.message.proofs.Bounds.{message-most, ill-formed-most, goodbye-most, clear-most, unknown-most}

@@ -14,7 +14,7 @@ use Rattle.text.specs.declared.apart.Word.{Word}
 use Rattle.text.specs.declared.apart.Word.the-variants.{At, Nothing}
 use Rattle.text.specs.Apart.{white, runOf, behindRun, trimEnd, beforeEnd, trimmed, allWhite, blank, ended, wordsAfter, wordsBetween, wordAt, nextWord}
 use Rattle.text.proofs.Pieces.{Fair, by-pieces, pieces-bytes, pieces-none, piece-some}
-use Rattle.text.proofs.Sights.{solidLength}
+use Rattle.text.proofs.WhiteRuns.{solidLength}
 
 -- a run and what lies behind it make up the pieces
 pub run-splits : (is : Bool) (ps : List Piece) → bytesAll ps ≡ bytesAll (runOf is ps) ++ bytesAll (behindRun is ps)

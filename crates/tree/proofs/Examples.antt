@@ -9,7 +9,7 @@ use Rattle.image.specs.Frames.{Frame, node, option, flag, absent, present, text
 use Rattle.image.specs.Limits.{allShown, isName, isNote, isShort, definable, fair}
 use Rattle.image.specs.Reading.{span, perhapsIn, nodeLengths, definitionLengths, nodeFirst, optionFirst, flagFirst, headFirst, nodeIn, optionIn, flagIn, readFirst}
 use Rattle.tree.specs.Images.{itemsFrom, items, flat}
-use Rattle.tree.specs.Rules.{rises, follows, obeys, after, judge, checkTree}
+use Rattle.tree.specs.Rules.{rises, follows, obeys, after, judgeItems, checkTree}
 use Rattle.tree.specs.Forest.{Forest, bare, grown, flatten, optionsIn, flagsIn, definitionsOnly, orderly}
 use Rattle.tree.specs.declared.check.Checked.{Checked}
 use Rattle.tree.specs.declared.check.Checked.the-variants.{Good, BadFrame}
@@ -38,7 +38,7 @@ table :
     × (check (plain 0 0x62 ∷ plain 0 0x61 ∷ []) ≡ BadFrame 1)
     × (check (node 0 0 (0x61 ∷ 0x62 ∷ []) [] absent ∷ plain 0 0x61 ∷ []) ≡ BadFrame 1)
     × (checkTree (flat (plain 0 0x61 ∷ []) ++ (0x01 ∷ 0x00 ∷ [])) ≡ BadFrame 1)
-unfolding check plain config long checkTree judge flat items itemsFrom encode perhaps text textOf numberBytes readFirst headFirst nodeFirst optionFirst flagFirst nodeLengths definitionLengths span nodeIn optionIn flagIn perhapsIn fair definable isShort isName isNote allShown obeys follows after rises order
+unfolding check plain config long checkTree judgeItems flat items itemsFrom encode perhaps text textOf numberBytes readFirst headFirst nodeFirst optionFirst flagFirst nodeLengths definitionLengths span nodeIn optionIn flagIn perhapsIn fair definable isShort isName isNote allShown obeys follows after rises order
 table = (refl, refl, refl, refl, refl, refl, refl, refl)
 
 -- a forest and its frames

@@ -14,7 +14,7 @@ use Rattle.image.specs.Limits.{isName, fair}
 use Rattle.image.proofs.Fields.{both-first, both-second, both-true}
 use Rattle.tree.specs.Rules.{Seen, start, isLess, rises, follows, obeys, after, obeyAll}
 use Rattle.tree.specs.Forest.{Forest, bare, grown, flatten, nodesIn, optionsIn, flagsIn, definitionsOnly, modest, orderly}
-use Rattle.tree.proofs.Growing.{put-length, put-at, put-below}
+use Rattle.tree.proofs.Flattening.{put-length, put-at, put-below}
 
 -- what a list of frames plants: the definitions before its first node, and for each depth the siblings before the first node above them
 record Planted : Type 0 where

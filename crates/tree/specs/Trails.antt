@@ -26,8 +26,8 @@ use Rattle.tree.specs.declared.command.Next.the-variants.{Word, End}
 use Rattle.tree.specs.declared.command.Trail.{Trail}
 
 -- a part of the image
-abbrev pub partAt : List ℕ → Place → List ℕ
-partAt image place = take (place .end - place .start) (drop (place .start) image)
+abbrev pub imagePart : List ℕ → Place → List ℕ
+imagePart image place = take (place .end - place .start) (drop (place .start) image)
 
 -- a place within the image and the words
 pub record Within (words image : List ℕ) (place : Place) : Type 0 where
@@ -39,7 +39,7 @@ pub record Within (words image : List ℕ) (place : Place) : Type 0 where
 pub record Descended (words image : List ℕ) (place : Place) (r : Reached) : Type 0 where
   pub path : textsIn (take (place .at) words) ≡ r .path
   pub left : textsIn (drop (place .at) words) ≡ r .words
-  pub frames : framesOf (partAt image place) ≡ r .frames
+  pub frames : framesOf (imagePart image place) ≡ r .frames
   pub within : Within words image place
 
 -- the command that words name, which their path leads to; nowhere if the path is empty
@@ -58,13 +58,13 @@ allFair [] = true
 allFair (f ∷ l) = both (fair f) (allFair l)
 
 -- the next word
-abbrev pub nextWord : Framed → Next
-nextWord (Text kind n) = Word n
-nextWord Broken = End
-nextWord Ended = End
+abbrev pub nextIn : Framed → Next
+nextIn (Text kind n) = Word n
+nextIn Broken = End
+nextIn Ended = End
 
 abbrev pub Ahead : List ℕ → Trail → Type 0
-Ahead words t = t .next ≡ nextWord (frameFirst (drop (t .place .at) words))
+Ahead words t = t .next ≡ nextIn (frameFirst (drop (t .place .at) words))
 
 -- what a trail has found when all frames are passed: at depth 0 no command
 abbrev pub foundBy : Trail → Found
@@ -72,7 +72,7 @@ foundBy t = cond (eqb (t .depth) 0) Nowhere (At (t .place))
 
 -- no frame is passed
 abbrev pub startTrail : List ℕ → List ℕ → Trail
-startTrail words image = record { place = record { start = 0; end = length image; at = 0 }; depth = 0; next = nextWord (frameFirst words) }
+startTrail words image = record { place = record { start = 0; end = length image; at = 0 }; depth = 0; next = nextIn (frameFirst words) }
 
 -- a node above those of a depth
 abbrev pub isAbove : ℕ → Frame → Bool
@@ -84,7 +84,7 @@ pub record Inside (words image : List ℕ) (at : ℕ) (t : Trail) (passed : List
   pub start : t .place .start ≤ at
   pub within : at ≤ length image
   pub end : t .place .end ≡ length image
-  pub behind : t .place .at ≤ length words
+  pub ahead : t .place .at ≤ length words
   pub whole : Whole (take (t .place .at) words)
   pub top : t .depth ≡ 0 → textsIn (take (t .place .at) words) ≡ []
   pub none : textsIn (take (t .place .at) words) ≡ [] → t .depth ≡ 0
@@ -94,11 +94,11 @@ pub record Inside (words image : List ℕ) (at : ℕ) (t : Trail) (passed : List
   pub steps : descend (t .depth) (passed ++ upTo (isAbove (t .depth)) (framesOf (drop at image))) (textsIn (take (t .place .at) words)) (textsIn (drop (t .place .at) words))
       ≡ reachedBy image words
 
--- what is known when the bytes before a place are passed: the place is inside the subtree of the last node named, or behind it, and nothing more is named
-pub data Followed (words image : List ℕ) (at : ℕ) (t : Trail) : Type 0 where
-  inside : (passed : List Frame) → Inside words image at t passed → Followed words image at t
-  behind : t .place .end < length image → (t .depth ≡ 0 → ⊥) → Leads words image (At (t .place)) (reachedBy image words) → Followed words image at t
+-- what is known when the bytes before a place are passed: the place is inside the subtree of the last node named, or beyond it, and nothing more is named
+pub data Trailed (words image : List ℕ) (at : ℕ) (t : Trail) : Type 0 where
+  inside : (passed : List Frame) → Inside words image at t passed → Trailed words image at t
+  beyond : t .place .end < length image → (t .depth ≡ 0 → ⊥) → Leads words image (At (t .place)) (reachedBy image words) → Trailed words image at t
 
 -- one frame more, which keeps its limits
 abbrev pub Passing : List ℕ → List ℕ → ℕ → Trail → Trail → Type 0
-Passing words image at t r = (f : Frame) (n : ℕ) → readFirst (drop at image) ≡ read f n → fair f ≡ true → Followed words image at t → Followed words image (at + n) r
+Passing words image at t r = (f : Frame) (n : ℕ) → readFirst (drop at image) ≡ read f n → fair f ≡ true → Trailed words image at t → Trailed words image (at + n) r

@@ -49,9 +49,9 @@ pub fn find_command(words: &[u8], image: &[u8]) -> Tested
         if !step.ok {
             return bad(n);
         }
-        trail = trail.past(words, image, walk.at);
-        let past = step.walk;
-        walk = past;
+        trail = trail.after(words, image, walk.at);
+        let after = step.walk;
+        walk = after;
         n += 1;
     }
     Tested {

@@ -6,7 +6,7 @@ use mathlib.Core.List.{List, [], _∷_, _++_, append-nil, append-assoc}
 use native.Mathlib.Omega.{arith}
 use lib.Dec.{leb, eqb}
 use borrow.Author.Tests.{leb-false, ne-eqb, not-true}
-use Rattle.text.proofs.Rows.{decode-ascii}
+use Rattle.text.proofs.TableRows.{decode-ascii}
 use Rattle.text.proofs.Spaces.{allBelow, below-passes}
 use Rattle.text.proofs.Letters.{Letter, letter-told}
 use Rattle.text.proofs.Encoding.{below-or-not}

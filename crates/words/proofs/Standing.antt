@@ -24,7 +24,7 @@ use Rattle.buffer.proofs.Choices.{then-is, else-is}
 use borrow.Author.Tests.{lt-ltb, le-ltb}
 use mathlib.Core.Logic.{⊎-elim}
 use Rattle.text.proofs.Encoding.{below-or-not}
-use Rattle.words.proofs.Steps.{closed-none, closed-some}
+use Rattle.words.proofs.OpenWords.{closed-none, closed-some}
 
 -- the frames of words that are still lists of characters
 unfoldable pub shown : List (List ℕ) → List ℕ

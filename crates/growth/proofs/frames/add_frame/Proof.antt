@@ -1,5 +1,5 @@
 -- `growth::frames::add_frame` meets its contract: no room, a rule broken, bytes behind the frame, or the frame added.
-use Rattle.growth.proofs.Adding.{room-told, walk-sound, refused-room, refused-rule, refused-end, added}
+use Rattle.growth.proofs.OneFrameMore.{room-told, walk-sound, refused-room, refused-rule, refused-end, added}
 use borrow.Author.Needs.{needs}
 use native.Mathlib.Omega.{arith}
 use mathlib.Core.Path.{sym, _∙_}

@@ -1,5 +1,5 @@
 -- `growth::frames::has_room` meets its contract: the first test that fails decides.
-use Rattle.growth.proofs.Adding.{too-deep, too-large, room-decides}
+use Rattle.growth.proofs.OneFrameMore.{too-deep, too-large, room-decides}
 use borrow.Author.Needs.{needs}
 use native.Mathlib.Omega.{arith}
 use Rattle.growth.proofs.frames.has_room.Statement.{statement}

@@ -1,7 +1,7 @@
 -- `layout::show::put_help` meets its contract: the node's own lines, then its lists.
 use Rattle.layout.proofs.Helps.{help-node, help-none, depth-told, drop-most}
 use Rattle.ink.proofs.Inking.{inked-nothing, inked-both, inked-as}
-use Rattle.image.proofs.Views.{view, node-small}
+use Rattle.image.proofs.HeadBytes.{view, node-small}
 use Rattle.frame.specs.Text.{Bytes}
 use borrow.Author.Needs.{needs}
 use native.Mathlib.Omega.{arith}

@@ -1,6 +1,6 @@
 -- `lookup::look::look_first` meets its contract: the head tells the frame at the front.
 use Rattle.lookup.proofs.Looks.{looked, looked-none, flag-passed-in}
-use Rattle.image.proofs.Views.{view, definition-small}
+use Rattle.image.proofs.HeadBytes.{view, definition-small}
 use Rattle.frame.specs.Text.{Bytes}
 use borrow.Author.Needs.{needs}
 use mathlib.Core.Path.{refl, sym, _∙_}

@@ -1,6 +1,6 @@
 -- `rows::row::node_row` meets its contract: by what is listed and the depth.
 use types.Run.{hit}
-use Rattle.rows.proofs.Rowing.{row-child, row-top, row-second, row-other, row-deeper, row-definitions}
+use Rattle.rows.proofs.OneRow.{row-child, row-top, row-second, row-other, row-deeper, row-definitions}
 use Rattle.ink.proofs.Inking.{counts-as, inked-as, inked-nothing}
 use Rattle.ink.specs.Ascii.{ascii}
 use Rattle.image.specs.Reading.{nodeIn}

@@ -1,5 +1,5 @@
 -- `rows::row::put_node` meets its contract: its entry and the end of the line.
-use Rattle.rows.proofs.Rowing.{entry-1, entry-2, entry-3, entry-put}
+use Rattle.rows.proofs.OneRow.{entry-1, entry-2, entry-3, entry-put}
 use Rattle.ink.proofs.Inking.{counts-first, counts-then, inked-both}
 use Rattle.rows.specs.Rows.{entry, nodeRow}
 use Rattle.ink.specs.Ascii.{ascii}

@@ -4,7 +4,7 @@ use native.Mathlib.Omega.{arith}
 use Prim.Native.Nat.{ℕ}
 use mathlib.Core.Path.{_≡_, sym}
 use mathlib.Core.List.{List, _++_}
-use Rattle.rows.proofs.Rowing.{option-marked, option-plain}
+use Rattle.rows.proofs.OneRow.{option-marked, option-plain}
 use Rattle.ink.proofs.Inking.{counts-first, counts-then, counts-as, inked-both, inked-as}
 use Rattle.rows.specs.Rows.{entry, optionRow, requiredMark}
 use Rattle.rows.specs.Steps.{labelIn}

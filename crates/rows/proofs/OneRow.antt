@@ -15,7 +15,7 @@ use Rattle.image.specs.declared.head.Lengths.{Lengths}
 use Rattle.image.specs.declared.head.Head.{Head}
 use Rattle.image.specs.declared.head.Head.the-variants.{Node as NodeHead, Option as OptionHead, Flag as FlagHead, Bad, End}
 use Rattle.image.proofs.head.Head.{the-type as head-type}
-use Rattle.image.proofs.Views.{view, definition-small}
+use Rattle.image.proofs.HeadBytes.{view, definition-small}
 use Rattle.ink.specs.Ascii.{ascii}
 use Rattle.ink.specs.Inks.{Inked, Countable}
 use Rattle.rows.specs.Rows.{blanks, padded, shortThen, shownAs, entry, requiredMark, optionRow, nodeRow, rowOf, endsList}

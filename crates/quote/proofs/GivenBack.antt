@@ -24,9 +24,9 @@ use Rattle.frame.proofs.Frames.{frame-back, frame-within}
 use Rattle.words.specs.declared.role.Role.{Role}
 use Rattle.words.specs.declared.role.Role.the-variants.{Take, Escape, Toggle, Gap}
 use Rattle.words.specs.Tokens.{roleOf, onRole, tokensFrom, tokens, wordsOf, wordFrames}
-use Rattle.words.proofs.Kept.{Each, nothing, also, Good}
-use Rattle.quote.specs.Given.{Listed, done, broken, word, listedFrom, listed, goodWord, Judged, bad, fine, before, judge}
-use Rattle.quote.specs.Joined.{gap, joinedFrom, joined}
+use Rattle.words.proofs.GoodWords.{Each, nothing, also, Good}
+use Rattle.quote.specs.Given.{Listed, done, broken, word, listedFrom, listed, goodWord, Judged, bad, fine, before, judgeWords}
+use Rattle.quote.specs.Joined.{gapBefore, joinedFrom, joined}
 use Rattle.quote.specs.Answer.{quoteLine}
 use Rattle.quote.specs.Steps.{itemFirst}
 use Rattle.quote.specs.declared.given.Item.{Item}
@@ -136,7 +136,7 @@ ended-some (c ∷ w) words h = refl
 
 behind-back : (n : ℕ) (w : List ℕ) (words : List (List ℕ)) → Each (λ v. 0 < length v) words
     → tokensFrom w false false (joinedFrom (suc n) (map shownCodes words)) ≡ ended w words
-unfolding joinedFrom gap tokensFrom
+unfolding joinedFrom gapBefore tokensFrom
 behind-back n w [] nothing = refl
 behind-back n w (v ∷ words) (also h hs) =
     let rest : List ℕ = joinedFrom (suc (suc n)) (map shownCodes words) in
@@ -144,13 +144,13 @@ behind-back n w (v ∷ words) (also h hs) =
     ∙ ap (ended w) (shown-back v rest ∙ behind-back (suc n) v words hs ∙ ended-some v words h)
 
 joined-back : (words : List (List ℕ)) → Each (λ v. 0 < length v) words → tokensFrom [] false false (joined (map shownCodes words)) ≡ words
-unfolding joined joinedFrom gap tokensFrom
+unfolding joined joinedFrom gapBefore tokensFrom
 joined-back [] nothing = refl
 joined-back (v ∷ words) (also h hs) = shown-back v (joinedFrom 1 (map shownCodes words)) ∙ behind-back 0 v words hs ∙ ended-some v words h
 
 -- the characters of a line
-gap-encoded : (n : ℕ) → encodeAll (gap n) ≡ gap n
-unfolding gap encodeAll encode
+gap-encoded : (n : ℕ) → encodeAll (gapBefore n) ≡ gapBefore n
+unfolding gapBefore encodeAll encode
 gap-encoded zero = refl
 gap-encoded (suc n) = refl
 
@@ -162,10 +162,10 @@ joined-encoded : (n : ℕ) (texts : List (List ℕ)) → joinedFrom n (map encod
 unfolding joinedFrom
 joined-encoded n [] = nothing-encoded
 joined-encoded n (t ∷ texts) =
-    ap (λ (l : List ℕ). gap n ++ (encodeAll t ++ l)) (joined-encoded (suc n) texts)
-    ∙ ap (λ (l : List ℕ). gap n ++ l) (sym (encode-append t (joinedFrom (suc n) texts)))
+    ap (λ (l : List ℕ). gapBefore n ++ (encodeAll t ++ l)) (joined-encoded (suc n) texts)
+    ∙ ap (λ (l : List ℕ). gapBefore n ++ l) (sym (encode-append t (joinedFrom (suc n) texts)))
     ∙ ap (λ (l : List ℕ). l ++ encodeAll (t ++ joinedFrom (suc n) texts)) (sym (gap-encoded n))
-    ∙ sym (encode-append (gap n) (t ++ joinedFrom (suc n) texts))
+    ∙ sym (encode-append (gapBefore n) (t ++ joinedFrom (suc n) texts))
 
 lineCodes : List (List ℕ) → List ℕ
 lineCodes words = joined (map shownCodes (map codesIn words))
@@ -202,8 +202,8 @@ shown-scalars codes h = by (plain codes)
     by false =
         more (low {n = 0x22} (omega arith)) (both-scalars (escaped codes) (0x22 ∷ []) (escaped-scalars codes h) (more (low {n = 0x22} (omega arith)) none))
 
-gap-scalars : (n : ℕ) → Scalars (gap n)
-unfolding gap
+gap-scalars : (n : ℕ) → Scalars (gapBefore n)
+unfolding gapBefore
 gap-scalars zero = none
 gap-scalars (suc n) = more (low {n = 0x20} (omega arith)) none
 
@@ -211,7 +211,7 @@ joined-scalars : (n : ℕ) (words : List (List ℕ)) → Scalars (joinedFrom n (
 unfolding joinedFrom
 joined-scalars n [] = none
 joined-scalars n (w ∷ words) =
-    both-scalars (gap n) (shownCodes (codesIn w) ++ joinedFrom (suc n) (map shownCodes (map codesIn words))) (gap-scalars n)
+    both-scalars (gapBefore n) (shownCodes (codesIn w) ++ joinedFrom (suc n) (map shownCodes (map codesIn words))) (gap-scalars n)
     (both-scalars (shownCodes (codesIn w)) (joinedFrom (suc n) (map shownCodes (map codesIn words))) (shown-scalars (codesIn w) (codes-scalars w)) (joined-scalars (suc n) words))
 
 -- the line is well-formed
@@ -258,11 +258,11 @@ not-fine n x e = let z : _≡_ {A = ℕ} 0 1 = cc in omega arith
 good-word : (w : List ℕ) → goodWord w ≡ true → Good w
 good-word w e = record { some = good-some w e; formed = is-whole w (good-formed w e) }
 
-pub fine-good : (l : Listed) (ws : List (List ℕ)) → judge l ≡ fine ws → Each Good ws
-unfolding judge
+pub fine-good : (l : Listed) (ws : List (List ℕ)) → judgeWords l ≡ fine ws → Each Good ws
+unfolding judgeWords
 fine-good done ws e = rw (sym (fine-is [] ws e)) nothing
 fine-good broken ws e = absurd (not-fine 0 ws e)
-fine-good (word w l) ws e = by (goodWord w) refl (judge l) (λ vs q. fine-good l vs q) e
+fine-good (word w l) ws e = by (goodWord w) refl (judgeWords l) (λ vs q. fine-good l vs q) e
   where
     by : (t : Bool) → goodWord w ≡ t → (j : Judged) → ((vs : List (List ℕ)) → j ≡ fine vs → Each Good vs) → cond t (before w j) (bad 0) ≡ fine ws → Each Good ws
     by true g (fine vs) h q = rw (sym (fine-is (w ∷ vs) ws q)) (also (good-word w g) (h vs refl))
@@ -270,7 +270,7 @@ fine-good (word w l) ws e = by (goodWord w) refl (judge l) (λ vs q. fine-good l
     by false g j h q = absurd (not-fine 0 ws q)
 
 -- THE WAY BACK: splitting the line of words that quoting accepts gives those words
-pub given-back : (words : List ℕ) (ws : List (List ℕ)) → judge (listed words) ≡ fine ws → wordsOf (quoteLine ws) ≡ ws
+pub given-back : (words : List ℕ) (ws : List (List ℕ)) → judgeWords (listed words) ≡ fine ws → wordsOf (quoteLine ws) ≡ ws
 given-back words ws e = words-back ws (fine-good (listed words) ws e)
 
 -- and as frames they are the very bytes that were given
@@ -278,8 +278,8 @@ bytes-behind : (s : List ℕ) (n : ℕ) → Bytes s → Bytes (drop n s)
 unfolding Bytes
 bytes-behind s n h i = rw (getD-drop) (h (n + i))
 
-nothing-fine : (ws : List (List ℕ)) → judge (listed []) ≡ fine ws → [] ≡ ws
-unfolding listedFrom listed judge
+nothing-fine : (ws : List (List ℕ)) → judgeWords (listed []) ≡ fine ws → [] ≡ ws
+unfolding listedFrom listed judgeWords
 nothing-fine ws e = fine-is [] ws e
 
 nothing-framed : wordFrames [] ≡ []
@@ -292,12 +292,12 @@ unfolding wordFrames
 step-back s w rest ws q (fine vs) h e = rw (sym (fine-is (w ∷ vs) ws e)) (ap (λ (l : List ℕ). frameOf 0x14 w ++ l) (h vs refl) ∙ sym q)
 step-back s w rest ws q (bad k) h e = absurd (not-fine (suc k) ws e)
 
-frames-within : (k : ℕ) (s : List ℕ) (ws : List (List ℕ)) → length s < k → Bytes s → judge (listed s) ≡ fine ws → wordFrames ws ≡ s
+frames-within : (k : ℕ) (s : List ℕ) (ws : List (List ℕ)) → length s < k → Bytes s → judgeWords (listed s) ≡ fine ws → wordFrames ws ≡ s
 frames-within zero s ws h b e = absurd (omega arith)
 frames-within (suc k) [] ws h b e = rw (sym (nothing-fine ws e)) nothing-framed
 frames-within (suc k) (a ∷ s) ws h b e = by (itemFirst (a ∷ s)) refl (λ t vs l c r. frames-within k t vs l c r)
   where
-    by : (i : Item) → itemFirst (a ∷ s) ≡ i → ((t : List ℕ) (vs : List (List ℕ)) → length t < k → Bytes t → judge (listed t) ≡ fine vs → wordFrames vs ≡ t)
+    by : (i : Item) → itemFirst (a ∷ s) ≡ i → ((t : List ℕ) (vs : List (List ℕ)) → length t < k → Bytes t → judgeWords (listed t) ≡ fine vs → wordFrames vs ≡ t)
         → wordFrames ws ≡ a ∷ s
     by Bad q again = absurd (not-fine 0 ws (sym (judge-bad (a ∷ s) (omega arith) q) ∙ e))
     by (Word n size) q again =
@@ -305,18 +305,18 @@ frames-within (suc k) (a ∷ s) ws h b e = by (itemFirst (a ∷ s)) refl (λ t v
         let fits = frame-within (a ∷ s) 0x14 n (t .head) in
         let size = length-drop (3 + n) (a ∷ s) in
         let rest : List ℕ = drop (3 + n) (a ∷ s) in
-        step-back (a ∷ s) (take n (drop 3 (a ∷ s))) rest ws (frame-back (a ∷ s) 0x14 n b (t .head)) (judge (listed rest))
+        step-back (a ∷ s) (take n (drop 3 (a ∷ s))) rest ws (frame-back (a ∷ s) 0x14 n b (t .head)) (judgeWords (listed rest))
         (λ vs r. again rest vs (omega arith) (bytes-behind (a ∷ s) (3 + n) b) r) (sym (judge-first (a ∷ s) n t) ∙ e)
 
-pub frames-back : (words : List ℕ) (ws : List (List ℕ)) → Bytes words → judge (listed words) ≡ fine ws → wordFrames ws ≡ words
+pub frames-back : (words : List ℕ) (ws : List (List ℕ)) → Bytes words → judgeWords (listed words) ≡ fine ws → wordFrames ws ≡ words
 frames-back words ws b e = frames-within (suc (length words)) words ws (omega arith) b e
 
-pub written-back : (words : List ℕ) (ws : List (List ℕ)) → Bytes words → judge (listed words) ≡ fine ws → written (quoteLine ws) ≡ words
+pub written-back : (words : List ℕ) (ws : List (List ℕ)) → Bytes words → judgeWords (listed words) ≡ fine ws → written (quoteLine ws) ≡ words
 unfolding written
 written-back words ws b e = ap wordFrames (given-back words ws e) ∙ frames-back words ws b e
 
 -- The two calls together: where `quote` writes a line, `tokenize` of that line writes the frames that `quote` was given.
-pub call-back : (words out : List ℕ) (ws : List (List ℕ)) → Bytes words → judge (listed words) ≡ fine ws → length (quoteLine ws) ≤ 1024 → length words ≤ length out
+pub call-back : (words out : List ℕ) (ws : List (List ℕ)) → Bytes words → judgeWords (listed words) ≡ fine ws → length (quoteLine ws) ≤ 1024 → length words ≤ length out
     → Tokenized (quoteLine ws) out (Words (length words)) (over words out)
 call-back words out ws b e h k =
     let line : List ℕ = quoteLine ws in

@@ -9,7 +9,7 @@ use borrow.Author.Tests.{le-ltb}
 use Rattle.buffer.proofs.Choices.{then-is, else-is}
 use Rattle.image.specs.Frames.{Frame}
 use Rattle.tree.specs.Images.{Item, whole, torn, items}
-use Rattle.tree.specs.Rules.{Seen, start, obeys, after, judge, obeyAll, checkTree}
+use Rattle.tree.specs.Rules.{Seen, start, obeys, after, judgeItems, obeyAll, checkTree}
 use Rattle.tree.specs.declared.check.Checked.the-variants.{BadFrame}
 
 -- what is known behind frames
@@ -32,15 +32,15 @@ pub record FirstBad (seen : Seen) (k : ℕ) (list : List Item) (n : ℕ) : Type 
   pub obey : obeyAll seen before ≡ true
   pub breaks : Breaks (afterAll seen before) bad
 
-judged-bad : (list : List Item) (seen : Seen) (k n : ℕ) → judge seen k list ≡ BadFrame n → FirstBad seen k list n
-unfolding judge obeyAll afterAll
+judged-bad : (list : List Item) (seen : Seen) (k n : ℕ) → judgeItems seen k list ≡ BadFrame n → FirstBad seen k list n
+unfolding judgeItems obeyAll afterAll
 judged-bad [] seen k n e = absurd (let z : _≡_ {A = ℕ} 0 1 = cc in omega arith)
 judged-bad (torn ∷ list) seen k n e =
     let z : k ≡ n = cc in record { before = []; bad = torn; rest = list; are = refl; number = omega arith; obey = refl; breaks = tt }
 judged-bad (whole f ∷ list) seen k n e = by (obeys seen f) refl e (λ q. judged-bad list (after seen f) (k + 1) n q)
   where
-    by : (t : Bool) → obeys seen f ≡ t → cond t (judge (after seen f) (k + 1) list) (BadFrame k) ≡ BadFrame n
-        → (judge (after seen f) (k + 1) list ≡ BadFrame n → FirstBad (after seen f) (k + 1) list n) → FirstBad seen k (whole f ∷ list) n
+    by : (t : Bool) → obeys seen f ≡ t → cond t (judgeItems (after seen f) (k + 1) list) (BadFrame k) ≡ BadFrame n
+        → (judgeItems (after seen f) (k + 1) list ≡ BadFrame n → FirstBad (after seen f) (k + 1) list n) → FirstBad seen k (whole f ∷ list) n
     by false p q more = let z : k ≡ n = cc in record { before = []; bad = whole f; rest = list; are = refl; number = omega arith; obey = refl; breaks = p }
     by true p q more =
         let m = more q in

@@ -16,7 +16,7 @@ use Rattle.image.specs.Reading.{Read, read, broken, ended, readFirst}
 use Rattle.image.proofs.Fields.{both-first, both-second, both-true}
 use Rattle.image.proofs.Encoding.{Fits, fair-fits, frame-read, read-back, read-ended}
 use Rattle.tree.specs.Images.{Item, whole, torn, items, framesIn, framesOf, flat}
-use Rattle.tree.specs.Rules.{Seen, start, follows, obeys, after, judge, obeyAll, checkTree}
+use Rattle.tree.specs.Rules.{Seen, start, follows, obeys, after, judgeItems, obeyAll, checkTree}
 use Rattle.tree.specs.declared.check.Checked.the-variants.{Good, BadFrame}
 use Rattle.tree.proofs.Items.{items-read, items-broken, items-none}
 
@@ -68,8 +68,8 @@ flat-back (f ∷ l) s b e = by (readFirst s) refl (λ n. flat-back l (drop n s) 
     by ended q more = let z : items s ≡ [] = ap items (read-ended s q) ∙ items-none in cc
 
 -- judged good is to be frames that all obey
-pub judge-good : (fs : List Frame) (seen : Seen) (n : ℕ) → obeyAll seen fs ≡ true → judge seen n (map whole fs) ≡ Good
-unfolding judge obeyAll
+pub judge-good : (fs : List Frame) (seen : Seen) (n : ℕ) → obeyAll seen fs ≡ true → judgeItems seen n (map whole fs) ≡ Good
+unfolding judgeItems obeyAll
 judge-good [] seen n e = refl
 judge-good (f ∷ l) seen n e = rw (both-first (obeys seen f) _ e) (judge-good l (after seen f) (n + 1) (both-second (obeys seen f) _ e))
 
@@ -77,13 +77,13 @@ pub record GoodItems (seen : Seen) (l : List Item) : Type 0 where
   pub wholes : l ≡ map whole (framesIn l)
   pub obey : obeyAll seen (framesIn l) ≡ true
 
-pub good-judged : (l : List Item) (seen : Seen) (n : ℕ) → judge seen n l ≡ Good → GoodItems seen l
-unfolding judge obeyAll framesIn
+pub good-judged : (l : List Item) (seen : Seen) (n : ℕ) → judgeItems seen n l ≡ Good → GoodItems seen l
+unfolding judgeItems obeyAll framesIn
 good-judged [] seen n e = record { wholes = refl; obey = refl }
 good-judged (whole f ∷ l) seen n e = by (obeys seen f) refl e (good-judged l (after seen f) (n + 1))
   where
-    by : (t : Bool) → obeys seen f ≡ t → cond t (judge (after seen f) (n + 1) l) (BadFrame n) ≡ Good
-        → (judge (after seen f) (n + 1) l ≡ Good → GoodItems (after seen f) l) → GoodItems seen (whole f ∷ l)
+    by : (t : Bool) → obeys seen f ≡ t → cond t (judgeItems (after seen f) (n + 1) l) (BadFrame n) ≡ Good
+        → (judgeItems (after seen f) (n + 1) l ≡ Good → GoodItems (after seen f) l) → GoodItems seen (whole f ∷ l)
     by true q r more =
         let g = more r in
         record { wholes = ap (λ (m : List Item). whole f ∷ m) (g .wholes); obey = both-true (obeys seen f) _ q (g .obey) }
@@ -107,15 +107,15 @@ pub well-formed-good : (image : List ℕ) (fs : List Frame) → WellFormed image
 unfolding checkTree
 well-formed-good image fs w =
     rw (le-ltb 32768 (length image) (w .short))
-    (ap (λ (m : List ℕ). judge start 0 (items m)) (w .joined)
-    ∙ ap (judge start 0) (items-flat fs (obey-fit fs start (w .obey)))
+    (ap (λ (m : List ℕ). judgeItems start 0 (items m)) (w .joined)
+    ∙ ap (judgeItems start 0) (items-flat fs (obey-fit fs start (w .obey)))
     ∙ judge-good fs start 0 (w .obey))
 
 pub good-well-formed : (image : List ℕ) → Bytes image → checkTree image ≡ Good → WellFormed image (framesOf image)
 unfolding checkTree framesOf
 good-well-formed image b e = by (ltb 32768 (length image)) refl e
   where
-    by : (t : Bool) → ltb 32768 (length image) ≡ t → cond t (BadFrame 0) (judge start 0 (items image)) ≡ Good → WellFormed image (framesIn (items image))
+    by : (t : Bool) → ltb 32768 (length image) ≡ t → cond t (BadFrame 0) (judgeItems start 0 (items image)) ≡ Good → WellFormed image (framesIn (items image))
     by true q r = absurd (let z : _≡_ {A = ℕ} 0 1 = cc in omega arith)
     by false q r =
         let g = good-judged (items image) start 0 r in

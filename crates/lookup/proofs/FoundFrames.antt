@@ -14,7 +14,7 @@ use Rattle.image.specs.Reading.{Read, read, broken, ended, readFirst}
 use Rattle.image.proofs.Encoding.{read-within, read-size, read-ended}
 use Rattle.tree.specs.Images.{Item, whole, torn, items, framesIn, framesOf}
 use Rattle.tree.proofs.Items.{items-read, items-broken, items-none}
-use Rattle.lookup.specs.Spots.{later, placeOf, firstOf, spot}
+use Rattle.lookup.specs.Spots.{shifted, placeOf, firstOf, spot}
 use Rattle.lookup.specs.Searches.{wanted, endedBy}
 use Rattle.lookup.specs.Nodes.{orEnd, endAfter, endBy, subtreeEnd, partAt, findNode}
 use Rattle.lookup.specs.declared.seek.Spot.{Spot}
@@ -82,7 +82,7 @@ place-first want ends (whole f ∷ l) s k b e p =
     let x = by i (ends f) (want f) refl (placeOf want ends (framesIn l)) p (λ j q. place-first want ends l (drop (i .size) s) j (bytes-drop (i .size) s b) (i .others) q) in
     record { frame-at = x .0; first = x .1 }
   where
-    by : (i : FirstItem s f l) (t u : Bool) → want f ≡ u → (x : Spot) → cond t Nothing (cond u (At 0) (later (length (encode f)) x)) ≡ At k
+    by : (i : FirstItem s f l) (t u : Bool) → want f ≡ u → (x : Spot) → cond t Nothing (cond u (At 0) (shifted (length (encode f)) x)) ≡ At k
         → ((j : ℕ) → x ≡ At j → FirstAt want ends (framesIn l) (drop (i .size) s) j)
         → (a : FrameAt want s k) × (cond t none (cond u (some f) (firstOf want ends (framesIn l))) ≡ some (a .frame))
     by i true u w x q more = absurd (let z : _≡_ {A = ℕ} 0 1 = cc in omega arith)
@@ -108,7 +108,7 @@ pub spot-first : (want ends : Frame → Bool) (image : List ℕ) (at p : ℕ) �
 unfolding spot framesOf beyond
 spot-first want ends image at p b e = by (placeOf want ends (framesIn (items (drop at image)))) refl e
   where
-    by : (x : Spot) → placeOf want ends (framesIn (items (drop at image))) ≡ x → later at x ≡ At p → SpotFirst want ends image at p
+    by : (x : Spot) → placeOf want ends (framesIn (items (drop at image))) ≡ x → shifted at x ≡ At p → SpotFirst want ends image at p
     by (At k) q r =
         let z : at + k ≡ p = cc in
         let g = place-first want ends (items (drop at image)) (drop at image) k (bytes-drop at image b) refl q in
@@ -129,7 +129,7 @@ unfolding placeOf firstOf
 place-none want ends [] e = refl
 place-none want ends (f ∷ l) e = by (ends f) (want f) (placeOf want ends l) e (place-none want ends l)
   where
-    by : (t u : Bool) (x : Spot) → cond t Nothing (cond u (At 0) (later (length (encode f)) x)) ≡ Nothing → (x ≡ Nothing → firstOf want ends l ≡ none)
+    by : (t u : Bool) (x : Spot) → cond t Nothing (cond u (At 0) (shifted (length (encode f)) x)) ≡ Nothing → (x ≡ Nothing → firstOf want ends l ≡ none)
         → cond t none (cond u (some f) (firstOf want ends l)) ≡ none
     by true u x q more = refl
     by false true x q more = absurd (let z : _≡_ {A = ℕ} 0 1 = cc in omega arith)
@@ -140,7 +140,7 @@ pub spot-none : (want ends : Frame → Bool) (image : List ℕ) (at : ℕ) → s
 unfolding spot
 spot-none want ends image at e = by (placeOf want ends (framesOf (drop at image))) refl e
   where
-    by : (x : Spot) → placeOf want ends (framesOf (drop at image)) ≡ x → later at x ≡ Nothing → firstOf want ends (framesOf (drop at image)) ≡ none
+    by : (x : Spot) → placeOf want ends (framesOf (drop at image)) ≡ x → shifted at x ≡ Nothing → firstOf want ends (framesOf (drop at image)) ≡ none
     by (At k) q r = absurd (let z : _≡_ {A = ℕ} 0 1 = cc in omega arith)
     by Nothing q r = place-none want ends (framesOf (drop at image)) q
 

@@ -1,4 +1,4 @@
--- What an answer of `frame_at` tells of the first frame of bytes, and what a walk past that frame knows.
+-- What an answer of `frame_at` tells of the first frame of bytes, and what a walk after that frame knows.
 use Prim.Native.Nat.{ℕ, _+_, _≤_}
 use mathlib.Core.Path.{_≡_, refl, sym, ap, _∙_}
 use mathlib.Core.Bool.{Bool, true, false}
@@ -13,18 +13,18 @@ use denote.Enum.Declared.{tagOf}
 use Rattle.image.proofs.head.Head.{the-type}
 use Rattle.image.specs.Frames.{Perhaps, Frame, node, option, flag}
 use Rattle.image.specs.Limits.{fair}
-use Rattle.image.specs.Reading.{nodeLengths, headFirst, frameFirst, Read, read, broken, ended, readBy, readFirst, nodeIn, optionIn, flagIn}
+use Rattle.image.specs.Reading.{nodeLengths, headFirst, strictFirst, Read, read, broken, ended, readBy, readFirst, nodeIn, optionIn, flagIn}
 use Rattle.image.specs.declared.head.Lengths.{Lengths}
 use Rattle.image.specs.declared.head.Head.{Head}
 use Rattle.image.specs.declared.head.Head.the-variants.{Node, Option, Flag, Bad, End}
 use Rattle.image.proofs.Fields.{both-first, both-second}
-use Rattle.image.proofs.Views.{view, strict-head}
+use Rattle.image.proofs.HeadBytes.{view, strict-head}
 use Rattle.image.proofs.Encoding.{read-within, read-fairly, strict-told, fairly}
 use Rattle.tree.specs.Rules.{Seen, follows, obeys}
-use Rattle.tree.specs.Steps.{nameAt, textFirst, seenBy, Sound, pastNode, pastOption, pastFlag, passed, stepIf, stepBy}
+use Rattle.tree.specs.Steps.{nameAt, textFirst, seenBy, Sound, afterNode, afterOption, afterFlag, passed, stepIf, stepBy}
 use Rattle.tree.specs.declared.walk.Walk.{Walk}
 use Rattle.tree.specs.declared.walk.Step.{Step}
-use Rattle.tree.proofs.Walks.{Past, path-length, past-node, past-option, past-flag}
+use Rattle.tree.proofs.Walks.{KnownAfter, path-length, after-node, after-option, after-flag}
 
 -- a frame that is there, whole and within the limits
 pub record FrameTold (s : List ℕ) (f : Frame) (size : ℕ) : Type 0 where
@@ -32,7 +32,7 @@ pub record FrameTold (s : List ℕ) (f : Frame) (size : ℕ) : Type 0 where
   pub good : fair f ≡ true
   pub fits : size ≤ length s
 
-pub frame-told : (s : List ℕ) (head : Head) (f : Frame) (size : ℕ) → head ≡ frameFirst s → readBy s head ≡ read f size → FrameTold s f size
+pub frame-told : (s : List ℕ) (head : Head) (f : Frame) (size : ℕ) → head ≡ strictFirst s → readBy s head ≡ read f size → FrameTold s f size
 frame-told s head f size e r =
     let told = strict-told s head f size e r in
     record { found = told .0; good = told .1; fits = read-within s f size (told .0) .1 }
@@ -42,7 +42,7 @@ pub fair-depth : (d h : ℕ) (n ds : List ℕ) (u : Perhaps) → fair (node d h 
 unfolding fair
 fair-depth d h n ds u e = leb-true d 7 (both-first (leb d 7) _ (both-second (ltb h 65536) _ e))
 
-module _ (s : List ℕ) (d h : ℕ) (t : Lengths) (e : Node d h t ≡ frameFirst s) where
+module _ (s : List ℕ) (d h : ℕ) (t : Lengths) (e : Node d h t ≡ strictFirst s) where
   pub node-least : 7 ≤ t .size
   unfolding nodeLengths
   node-least =
@@ -77,16 +77,16 @@ module _ (image : List ℕ) (at : ℕ) where
 pub head-name : (image : List ℕ) (at d h : ℕ) (t : Lengths) → Node d h t ≡ headFirst (drop at image) → take (t .name) (drop 5 (drop at image)) ≡ nameAt image (at + 4)
 head-name image at d h t e = name-lies image at t (view (drop at image) (Node d h t) (sym e) .texts)
 
--- the walk past a frame that lies at its place and obeys
+-- the walk after a frame that lies at its place and obeys
 pub passes : (image : List ℕ) (walk : Walk) → Sound walk → (f : Frame) (size : ℕ) → readFirst (drop (walk .at) image) ≡ read f size
-    → obeys (seenBy image walk) f ≡ true → Past image walk f size (passed walk f size)
+    → obeys (seenBy image walk) f ≡ true → KnownAfter image walk f size (passed walk f size)
 unfolding obeys follows
 passes image walk sound (node d h n ds u) size e o =
     let fits = fair-depth d h n ds u (both-first (fair (node d h n ds u)) _ o) in
     let below = leb-true d _ (both-first (leb d (length (seenBy image walk .path))) _ (both-second (fair (node d h n ds u)) _ o)) in
-    past-node image walk sound d h n ds u size fits (rw (path-length image walk sound) at below) (name-read image (walk .at) d h n ds u size e)
-passes image walk sound (option q c n l ds) size e o = past-option image walk sound q c n l ds size
-passes image walk sound (flag c n l ds) size e o = past-flag image walk sound c n l ds size
+    after-node image walk sound d h n ds u size fits (rw (path-length image walk sound) at below) (name-read image (walk .at) d h n ds u size e)
+passes image walk sound (option q c n l ds) size e o = after-option image walk sound q c n l ds size
+passes image walk sound (flag c n l ds) size e o = after-flag image walk sound c n l ds size
 
 -- a frame that keeps its own limits obeys if it follows
 pub obeys-fair : (seen : Seen) (f : Frame) → fair f ≡ true → follows seen f ≡ obeys seen f
@@ -99,20 +99,20 @@ module _ (seen : Seen) (walk : Walk) (s : List ℕ) (r : Step) where
   unfolding stepBy
   by-read f size told e = rw (told .found, ← obeys-fair seen f (told .good)) e
 
-  pub by-node : (d h : ℕ) (t : Lengths) → Node d h t ≡ frameFirst s → (name : List ℕ) → name ≡ take (t .name) (drop 5 s)
-      → ((h : ℕ) (ds : List ℕ) (u : Perhaps) → r ≡ stepIf (follows seen (node d h name ds u)) walk (pastNode walk d (t .size)))
+  pub by-node : (d h : ℕ) (t : Lengths) → Node d h t ≡ strictFirst s → (name : List ℕ) → name ≡ take (t .name) (drop 5 s)
+      → ((h : ℕ) (ds : List ℕ) (u : Perhaps) → r ≡ stepIf (follows seen (node d h name ds u)) walk (afterNode walk d (t .size)))
       → r ≡ stepBy seen walk (readFirst s)
   unfolding nodeIn
   by-node d h t e name l k = by-read _ _ (frame-told s (Node d h t) _ _ e refl) (rw (← l) (k h _ _))
 
-  pub by-option : (q c : ℕ) (t : Lengths) → Option q c t ≡ frameFirst s
-      → ((n : List ℕ) (l : Perhaps) (ds : List ℕ) → r ≡ stepIf (follows seen (option q c n l ds)) walk (pastOption walk (t .size)))
+  pub by-option : (q c : ℕ) (t : Lengths) → Option q c t ≡ strictFirst s
+      → ((n : List ℕ) (l : Perhaps) (ds : List ℕ) → r ≡ stepIf (follows seen (option q c n l ds)) walk (afterOption walk (t .size)))
       → r ≡ stepBy seen walk (readFirst s)
   unfolding optionIn
   by-option q c t e k = by-read _ _ (frame-told s (Option q c t) _ _ e refl) (k _ _ _)
 
-  pub by-flag : (c : ℕ) (t : Lengths) → Flag c t ≡ frameFirst s
-      → ((n : List ℕ) (l : Perhaps) (ds : List ℕ) → r ≡ stepIf (follows seen (flag c n l ds)) walk (pastFlag walk (t .size)))
+  pub by-flag : (c : ℕ) (t : Lengths) → Flag c t ≡ strictFirst s
+      → ((n : List ℕ) (l : Perhaps) (ds : List ℕ) → r ≡ stepIf (follows seen (flag c n l ds)) walk (afterFlag walk (t .size)))
       → r ≡ stepBy seen walk (readFirst s)
   unfolding flagIn
   by-flag c t e k = by-read _ _ (frame-told s (Flag c t) _ _ e refl) (k _ _ _)
@@ -128,7 +128,7 @@ module _ (seen : Seen) (walk : Walk) (s : List ℕ) (r : Step) where
   unread broken no-frame k = k
   unread ended no-frame k = k
 
-  pub by-nothing : (head : Head) → head ≡ frameFirst s → OneOf (3 ∷ 4 ∷ []) (tagOf the-type head) → r ≡ stepIf false walk walk → r ≡ stepBy seen walk (readFirst s)
+  pub by-nothing : (head : Head) → head ≡ strictFirst s → OneOf (3 ∷ 4 ∷ []) (tagOf the-type head) → r ≡ stepIf false walk walk → r ≡ stepBy seen walk (readFirst s)
   by-nothing (Node d h t) e o k = absurd (miss (3 ∷ 4 ∷ []) 0 tt o)
   by-nothing (Option q c t) e o k = absurd (miss (3 ∷ 4 ∷ []) 1 tt o)
   by-nothing (Flag c t) e o k = absurd (miss (3 ∷ 4 ∷ []) 2 tt o)

@@ -13,7 +13,7 @@ use denote.Enum.Declared.{tagOf}
 use Rattle.image.proofs.head.Head.{the-type}
 use Rattle.frame.specs.Text.{Bytes}
 use Rattle.image.specs.Limits.{fair}
-use Rattle.image.specs.Reading.{strictly, Small, nodeLengths, definitionLengths, nodeFirst, optionFirst, flagFirst, headFirst, frameFirst, nodeIn, optionIn, flagIn, definedIn}
+use Rattle.image.specs.Reading.{strictly, Small, nodeLengths, definitionLengths, nodeFirst, optionFirst, flagFirst, headFirst, strictFirst, nodeIn, optionIn, flagIn, definedIn}
 use Rattle.image.specs.declared.head.Lengths.{Lengths}
 use Rattle.image.specs.declared.head.Head.{Head}
 use Rattle.image.specs.declared.head.Head.the-variants.{Node, Option, Flag, Bad, End}
@@ -101,26 +101,26 @@ module _ (s : List ℕ) where
     unfolding Bytes
     node-bytes b = let v = view s (Node d h t) e in let k = b 2 in let l = b 3 in omega (arith, v .handler)
 
-    pub node-strict : (r : Bool) → r ≡ fair (nodeIn s d h t) → frameFirst s ≡ cond r (Node d h t) Bad
-    unfolding frameFirst
+    pub node-strict : (r : Bool) → r ≡ fair (nodeIn s d h t) → strictFirst s ≡ cond r (Node d h t) Bad
+    unfolding strictFirst
     node-strict r k = rw (e, k)
 
   module _ (r c : ℕ) (t : Lengths) (e : headFirst s ≡ Option r c t) where
-    pub option-refused : 1 < r → Bad ≡ frameFirst s
-    unfolding frameFirst optionIn fair
+    pub option-refused : 1 < r → Bad ≡ strictFirst s
+    unfolding strictFirst optionIn fair
     option-refused h = rw (e, lt-leb r 1)
 
-    pub option-strict : r ≤ 1 → (g : Bool) → g ≡ definedIn s 3 c t → frameFirst s ≡ cond g (Option r c t) Bad
-    unfolding frameFirst optionIn fair definedIn
+    pub option-strict : r ≤ 1 → (g : Bool) → g ≡ definedIn s 3 c t → strictFirst s ≡ cond g (Option r c t) Bad
+    unfolding strictFirst optionIn fair definedIn
     option-strict h g k = rw (e, le-leb r 1, k)
 
   module _ (c : ℕ) (t : Lengths) (e : headFirst s ≡ Flag c t) where
-    pub flag-strict : (g : Bool) → g ≡ definedIn s 2 c t → frameFirst s ≡ cond g (Flag c t) Bad
-    unfolding frameFirst flagIn fair definedIn
+    pub flag-strict : (g : Bool) → g ≡ definedIn s 2 c t → strictFirst s ≡ cond g (Flag c t) Bad
+    unfolding strictFirst flagIn fair definedIn
     flag-strict g k = rw (e, k)
 
-  pub rest-strict : (r : Head) → r ≡ headFirst s → OneOf (3 ∷ 4 ∷ []) (tagOf the-type r) → r ≡ frameFirst s
-  unfolding frameFirst
+  pub rest-strict : (r : Head) → r ≡ headFirst s → OneOf (3 ∷ 4 ∷ []) (tagOf the-type r) → r ≡ strictFirst s
+  unfolding strictFirst
   rest-strict (Node d h t) e k = absurd (miss (3 ∷ 4 ∷ []) 0 tt k)
   rest-strict (Option r c t) e k = absurd (miss (3 ∷ 4 ∷ []) 1 tt k)
   rest-strict (Flag c t) e k = absurd (miss (3 ∷ 4 ∷ []) 2 tt k)
@@ -147,6 +147,6 @@ kept s (Flag c t) = by (fair (flagIn s c t))
 kept s Bad = inl refl
 kept s End = inl refl
 
-pub strict-head : (s : List ℕ) (head : Head) → head ≡ frameFirst s → (head ≡ Bad → ⊥) → head ≡ headFirst s
-unfolding frameFirst
+pub strict-head : (s : List ℕ) (head : Head) → head ≡ strictFirst s → (head ≡ Bad → ⊥) → head ≡ headFirst s
+unfolding strictFirst
 strict-head s head e n = ⊎-elim (λ k. e ∙ k) (λ k. absurd (n (e ∙ k))) (kept s (headFirst s))

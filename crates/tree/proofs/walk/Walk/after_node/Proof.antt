@@ -1,9 +1,9 @@
--- `tree::walk::Walk::past_node` meets its contract: the fields one by one.
-use Rattle.tree.specs.Steps.{pastNode}
+-- `tree::walk::Walk::after_node` meets its contract: the fields one by one.
+use Rattle.tree.specs.Steps.{afterNode}
 use borrow.Author.Needs.{needs}
 use mathlib.Core.Path.{refl}
-use Rattle.tree.proofs.walk.Walk.past_node.Statement.{statement}
-use Rattle.tree.proofs.walk.Walk.past_node.Tie as tie
+use Rattle.tree.proofs.walk.Walk.after_node.Statement.{statement}
+use Rattle.tree.proofs.walk.Walk.after_node.Tie as tie
 
 add-self : tie.Need-add-self
 add-self c = search needs
@@ -27,10 +27,10 @@ add-self-4 : tie.Need-add-self-4
 add-self-4 c = search needs
 
 returns : tie.Need-returns
-unfolding pastNode
+unfolding afterNode
 returns c = refl
 
-pub past-node-spec : {M : Type 1} → statement M
-past-node-spec =
+pub after-node-spec : {M : Type 1} → statement M
+after-node-spec =
     tie.close
     (tie.spec add-self cast-self mul-self element-write-self add-self-2 add-self-3 add-self-4 returns)

@@ -18,15 +18,15 @@ use Rattle.image.specs.Reading.{Read, read, broken, ended, readFirst}
 use Rattle.image.proofs.Encoding.{fair-fits, frame-read, read-back}
 use Rattle.image.proofs.Fields.{both-first, both-second}
 use Rattle.tree.specs.Images.{items}
-use Rattle.tree.specs.Rules.{Seen, start, obeys, after, judge, checkTree}
+use Rattle.tree.specs.Rules.{Seen, start, obeys, after, judgeItems, checkTree}
 use Rattle.tree.specs.Steps.{seenBy, startWalk, passed, stepIf, stepBy}
 use Rattle.tree.specs.declared.check.Checked.the-variants.{Good, BadFrame}
 use Rattle.tree.specs.declared.walk.Walk.{Walk}
 use Rattle.tree.specs.declared.walk.Step.{Step}
 use Rattle.tree.proofs.Items.{OnWay, goes-on, sets-out, arrives, check-judged, items-none, judge-on, judge-stop, judge-none}
-use Rattle.tree.proofs.Told.{passes}
+use Rattle.tree.proofs.PassedFrames.{passes}
 use Rattle.tree.proofs.Walks.{passed-at}
-use Rattle.growth.proofs.Adding.{Roomy, room-told}
+use Rattle.growth.proofs.OneFrameMore.{Roomy, room-told}
 use Rattle.growth.specs.Growth.{fills, oneFrame, isGood, takes, hasRoom, obeysBy, admits, passedBy, Grows}
 
 -- a walk that has passed an image, whatever comes behind that
@@ -103,13 +103,13 @@ module _ (image : List ℕ) (walk : Walk) (p : Passed image walk) (frame : List 
         }
 
   -- and whether it obeys is whether the image with it is well-formed
-  judged : judge start 0 (items (image ++ frame)) ≡ cond (obeys (seenBy image walk) f) Good (BadFrame (p .number))
+  judged : judgeItems start 0 (items (image ++ frame)) ≡ cond (obeys (seenBy image walk) f) Good (BadFrame (p .number))
   judged =
       let same = p .way frame .same in
       let tail : drop (walk .at) (image ++ frame) ≡ frame = drop-at image frame (walk .at) (sym (p .place)) in
       sym same ∙ rw (tail, p .seen frame) (by (obeys (seenBy image walk) f) refl)
     where
-      by : (t : Bool) → obeys (seenBy image walk) f ≡ t → judge (seenBy image walk) (p .number) (items frame) ≡ cond t Good (BadFrame (p .number))
+      by : (t : Bool) → obeys (seenBy image walk) f ≡ t → judgeItems (seenBy image walk) (p .number) (items frame) ≡ cond t Good (BadFrame (p .number))
       by true q = judge-on (seenBy image walk) (p .number) frame f (length frame) e q ∙ rw (drop-length frame, items-none) (judge-none _ _)
       by false q = judge-stop (seenBy image walk) (p .number) frame f (length frame) e q
 
@@ -223,7 +223,7 @@ takes-short : (image frame : List ℕ) → takes image frame ≡ true → length
 unfolding takes checkTree
 takes-short image frame e = by (ltb 32768 (length (image ++ frame))) refl (both-second (oneFrame frame) _ e)
   where
-    by : (t : Bool) → ltb 32768 (length (image ++ frame)) ≡ t → isGood (cond t (BadFrame 0) (judge start 0 (items (image ++ frame)))) ≡ true → length image + length frame ≤ 32768
+    by : (t : Bool) → ltb 32768 (length (image ++ frame)) ≡ t → isGood (cond t (BadFrame 0) (judgeItems start 0 (items (image ++ frame)))) ≡ true → length image + length frame ≤ 32768
     by true q k = absurd (true-is-not-false (sym k))
     by false q k = let h = ltb-false 32768 (length (image ++ frame)) q in let l = length-append image frame in omega arith
 
