@@ -47,8 +47,8 @@ use Rattle.ink.proofs.Inking.{one-answer as one-show}
 use Rattle.rissemat.specs.Calls.{WordsCall, QuoteCall, FreshCall, KeyCall, AddCall, TreeCall, ParseCall, HelpCall, RunCall}
 use Rattle.tree.specs.declared.walk.Walk.{Walk}
 use Rattle.tree.specs.declared.walk.Step.{Step}
-use Rattle.growth.specs.Growth.{Grows}
-use Rattle.growth.proofs.OneFrameMore.{one-answer as one-frame}
+use Rattle.tree.specs.Growth.{Grows}
+use Rattle.tree.proofs.OneFrameMore.{one-answer as one-frame}
 use Rattle.session.specs.Calls.{TakingLine, PressingKey, RefusingLine}
 use Rattle.session.specs.declared.running.Printing.{Printing}
 use Rattle.session.specs.declared.standing.Session.{Session}

@@ -37,7 +37,7 @@ use Rattle.history.specs.Entries.{mostEntries, newestIs, isNew, withRoom, added
 use Rattle.editor.specs.Line.{limit, padded, holding, lineOf, goodLine, inserted, erased, content}
 use Rattle.editor.specs.Keys.{redrawn, enter, erase, insert, typed, escaped, up, onPlace, down, right, left, sequenced, turnIn, turnOf, afterKeys}
 use Rattle.session.specs.Prints.{wide, frameOf as frameOfSession, linesOf, shown, prompt, answered, leaves, keyPrints, keyEnds}
-use Rattle.growth.specs.Growth.{oneFrame, takes}
+use Rattle.tree.specs.Growth.{oneFrame, takes}
 use Rattle.session.specs.Lines.{beginning, formOf as formOfSession, lineForm, takeForm, takeLine, pressKey, pressKeys, onTaking, lineCourse, session}
 
 input : List (List ℕ)

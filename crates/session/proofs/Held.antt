@@ -7,7 +7,7 @@ use lib.ListN.{length}
 use Rattle.tree.specs.Images.{framesOf}
 use Rattle.tree.specs.Rules.{checkTree}
 use Rattle.tree.specs.declared.check.Checked.the-variants.{Good}
-use Rattle.growth.proofs.Grown.{Stands, start-stands, stands-good}
+use Rattle.tree.proofs.Grown.{Stands, start-stands, stands-good}
 use Rattle.history.specs.Slots.{layout, entriesOf}
 use Rattle.history.specs.Answer.{entriesIn}
 use Rattle.history.specs.declared.stepping.History.{History}

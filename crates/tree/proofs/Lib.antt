@@ -10,3 +10,6 @@ pub mod Planting
 pub mod Forests
 pub mod FirstBad
 pub mod Examples
+pub mod OneFrameMore
+pub mod Grown
+pub mod GrowthExamples

@@ -7,3 +7,4 @@ pub mod Subtrees
 pub mod Commands
 pub mod Trails
 pub mod Forest
+pub mod Growth

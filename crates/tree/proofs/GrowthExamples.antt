@@ -8,9 +8,9 @@ use Rattle.frame.specs.Text.{numberBytes, textOf}
 use Rattle.image.specs.Frames.{node, flag, absent, text, perhaps, encode}
 use Rattle.image.specs.Limits.{allShown, isName, isNote, isShort, definable, fair}
 use Rattle.image.specs.Reading.{span, perhapsIn, nodeLengths, definitionLengths, nodeFirst, flagFirst, headFirst, nodeIn, flagIn, readFirst}
 use Rattle.tree.specs.Images.{itemsFrom, items}
 use Rattle.tree.specs.Rules.{rises, follows, obeys, after, judgeItems, checkTree}
-use Rattle.growth.specs.Growth.{oneFrame, takes}
+use Rattle.tree.specs.Growth.{oneFrame, takes}
 
 -- a command with a name of one letter, and a flag
 command : ℕ → List ℕ

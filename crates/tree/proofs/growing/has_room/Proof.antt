@@ -1,9 +1,9 @@
--- `growth::frames::has_room` meets its contract: the first test that fails decides.
-use Rattle.growth.proofs.OneFrameMore.{too-deep, too-large, room-decides}
+-- `tree::growing::has_room` meets its contract: the first test that fails decides.
+use Rattle.tree.proofs.OneFrameMore.{too-deep, too-large, room-decides}
 use borrow.Author.Needs.{needs}
 use native.Mathlib.Omega.{arith}
-use Rattle.growth.proofs.frames.has_room.Statement.{statement}
-use Rattle.growth.proofs.frames.has_room.Tie as tie
+use Rattle.tree.proofs.growing.has_room.Statement.{statement}
+use Rattle.tree.proofs.growing.has_room.Tie as tie
 
 returns : tie.Need-returns
 returns c = too-deep _ _ _ (c .if1 .taken)

@@ -1,11 +1,11 @@
--- `growth::frames::add_frame` meets its contract: no room, a rule broken, bytes behind the frame, or the frame added.
-use Rattle.growth.proofs.OneFrameMore.{room-told, walk-sound, refused-room, refused-rule, refused-end, added}
+-- `tree::growing::add_frame` meets its contract: no room, a rule broken, bytes behind the frame, or the frame added.
+use Rattle.tree.proofs.OneFrameMore.{room-told, walk-sound, refused-room, refused-rule, refused-end, added}
 use borrow.Author.Needs.{needs}
 use native.Mathlib.Omega.{arith}
 use mathlib.Core.Path.{sym, _∙_}
 use borrow.Author.Tests.{not-true, not-false}
-use Rattle.growth.proofs.frames.add_frame.Statement.{statement}
-use Rattle.growth.proofs.frames.add_frame.Tie as tie
+use Rattle.tree.proofs.growing.add_frame.Statement.{statement}
+use Rattle.tree.proofs.growing.add_frame.Tie as tie
 
 has-room-requires : tie.Need-has-room-requires
 has-room-requires c κs = search needs

@@ -17,17 +17,17 @@ use Rattle.image.specs.Limits.{both, fair}
 use Rattle.image.specs.Reading.{Read, read, broken, ended, readFirst}
 use Rattle.image.proofs.Encoding.{fair-fits, frame-read, read-back}
 use Rattle.image.proofs.Fields.{both-first, both-second}
 use Rattle.tree.specs.Images.{items}
 use Rattle.tree.specs.Rules.{Seen, start, obeys, after, judgeItems, checkTree}
 use Rattle.tree.specs.Steps.{seenBy, startWalk, passed, stepIf, stepBy}
 use Rattle.tree.specs.declared.check.Checked.the-variants.{Good, BadFrame}
 use Rattle.tree.specs.declared.walk.Walk.{Walk}
 use Rattle.tree.specs.declared.walk.Step.{Step}
 use Rattle.tree.proofs.Items.{OnWay, goes-on, sets-out, arrives, check-judged, items-none, judge-on, judge-stop, judge-none}
 use Rattle.tree.proofs.PassedFrames.{passes}
 use Rattle.tree.proofs.Walks.{passed-at}
-use Rattle.growth.proofs.OneFrameMore.{Roomy, room-told}
-use Rattle.growth.specs.Growth.{fills, oneFrame, isGood, takes, hasRoom, obeysBy, admits, passedBy, Grows}
+use Rattle.tree.proofs.OneFrameMore.{Roomy, room-told}
+use Rattle.tree.specs.Growth.{fills, oneFrame, isGood, takes, hasRoom, obeysBy, admits, passedBy, Grows}
 
 -- a walk that has passed an image, whatever comes behind that
 pub record Passed (image : List ℕ) (walk : Walk) : Type 0 where

@@ -1,10 +1,10 @@
 // One frame more at the end of an image that lies at the front of a lent buffer.
+use super::walk::Step;
+use super::walk::Walk;
+use super::walk::step_over;
 use buffer::push;
-use tree::Step;
-use tree::Walk;
-use tree::step_over;
 ghost use mathlib.Core.Path.{_≡_};
-ghost use Rattle.growth.specs.Growth.{hasRoom, Grows};
+ghost use Rattle.tree.specs.Growth.{hasRoom, Grows};
 
 // Whether the walk's numbers are in range and so many bytes have room behind its place: in the buffer, and in an image.
 fn has_room(walk: Walk, size: usize, room: usize) -> bool

@@ -11,12 +11,12 @@ use Rattle.buffer.specs.Write.{overAt}
 use Rattle.buffer.proofs.Choices.{then-is, true-is-not-false}
 use Rattle.image.specs.Reading.{Read, read, broken, ended, readFirst}
 use Rattle.image.proofs.Fields.{both-first, both-second}
 use Rattle.tree.specs.Rules.{Seen}
 use Rattle.tree.specs.Steps.{Sound, seenBy, stepIf, stepBy}
 use Rattle.tree.specs.declared.walk.Walk.{Walk}
 use Rattle.tree.proofs.Walks.{passed-at}
 use Rattle.tree.specs.declared.walk.Step.{Step}
-use Rattle.growth.specs.Growth.{fills, oneFrame, hasRoom, obeysBy, admits, passedBy, Grows}
+use Rattle.tree.specs.Growth.{fills, oneFrame, hasRoom, obeysBy, admits, passedBy, Grows}
 
 -- how the tests for room decide, in the order of the code
 module _ (walk : Walk) (size room : ℕ) where
