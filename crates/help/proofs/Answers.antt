@@ -17,7 +17,7 @@ use Rattle.tree.specs.Images.{framesOf}
 use Rattle.tree.specs.Rules.{checkTree}
 use Rattle.tree.specs.declared.check.Checked.the-variants.{Good, BadFrame}
 use Rattle.tree.proofs.WellFormedImages.{good-well-formed}
-use Rattle.layout.specs.Texts.{helpText}
+use Rattle.help.specs.Texts.{helpText}
 use Rattle.ink.specs.Answer.{showAnswer, showLeaves, Showing}
 use Rattle.ink.specs.declared.show.Shown.{Shown}
 use Rattle.ink.specs.declared.show.Shown.the-variants.{Text as ShownText, NoRoom as ShownNoRoom}

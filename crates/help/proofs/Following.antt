@@ -27,7 +27,7 @@ use Rattle.lookup.specs.declared.look.Sought.the-variants.{Node, Upper}
 use Rattle.lookup.specs.declared.node.Subtree.{Subtree}
 use Rattle.lookup.specs.declared.node.Subtree.the-variants.{Between, Nowhere}
 use Rattle.lookup.proofs.Subtrees.{find-holds}
-use Rattle.layout.proofs.Words.{NextTold, next-told, next-nothing, words-none}
+use Rattle.help.proofs.SpacedWords.{NextTold, next-told, next-nothing, words-none}
 use Rattle.help.specs.Paths.{found, lost, onSubtree, followed, between, FoundAt, LostAt}
 
 -- the frames of a subtree fit as all do

@@ -15,7 +15,7 @@ use Rattle.tree.specs.Rules.{checkTree}
 use Rattle.tree.specs.declared.check.Checked.{Checked}
 use Rattle.tree.specs.declared.check.Checked.the-variants.{Good, BadFrame}
 use Rattle.tree.specs.Subtrees.{subtree}
-use Rattle.layout.specs.Texts.{helpText}
+use Rattle.help.specs.Texts.{helpText}
 use Rattle.help.specs.Paths.{Led, found, lost, onSubtree, followed}
 use Rattle.help.specs.declared.call.Helped.{Helped}
 use Rattle.help.specs.declared.call.Helped.the-variants.{Text, BadTree, LineTooLong, IllFormed, NoWords, UnknownCommand, NoRoom}

@@ -1,11 +1,11 @@
 // The call: help for the words of a line, or the first refusal in the order of the standard.
 use super::path::Followed;
 use super::path::follow;
+use super::show::show_help;
 use buffer::part;
 use frame::frame_size;
 use frame::write_frame;
 use ink::Shown;
-use layout::show_help;
 use text::Word;
 use text::next_word;
 use text::well_formed_prefix;

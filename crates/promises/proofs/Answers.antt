@@ -30,7 +30,7 @@ use Rattle.parse.specs.declared.answer.Parsed.the-variants.{BadTree, NoRoom}
 use Rattle.parse.proofs.Answers.{Numbered, report, four, five, six, seven, numbered}
 use Rattle.frame.specs.Text.{Bytes}
 use Rattle.frame.specs.Framed.{frameOf}
-use Rattle.layout.specs.Texts.{helpText}
+use Rattle.help.specs.Texts.{helpText}
 use Rattle.message.specs.Messages.{goodbye}
 use Rattle.editor.proofs.Seats.{over-nothing}
 use Rattle.help.specs.Paths.{Led, found, lost, onSubtree, followed}

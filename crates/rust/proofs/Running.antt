@@ -23,7 +23,7 @@ use Rattle.tree.specs.Subtrees.{subtree}
 use Rattle.ink.specs.Ascii.{ascii}
 use Rattle.message.specs.Debug.{debugBytes, unknownHelp}
 use Rattle.message.specs.Messages.{illFormed, goodbye, clearScreen}
-use Rattle.layout.specs.Texts.{availableText}
+use Rattle.help.specs.Texts.{availableText}
 use Rattle.help.specs.Paths.{Led, found, lost, onSubtree, followed}
 use Rattle.help.specs.Answer.{replyBy, helpIn, helpOf}
 use Rattle.shell.specs.Lines.{silence, text, farewell, builtinOf, onBuiltin, beginsHelp, helpWords, helpSaid, execute, otherSaid, lineSaid, saidOf}

@@ -20,7 +20,7 @@ use Rattle.ink.specs.Ascii.{ascii}
 use Rattle.rows.specs.Rows.{blanks, padded, shortThen, shownAs, entry, flagRow, nodeRow, rows, titled}
 use Rattle.message.specs.Messages.{message, illFormed, clearScreen}
 use Rattle.message.specs.Debug.{debugByte, debugBytes, unknownHelp}
-use Rattle.layout.specs.Texts.{spaced, lists, about, helpText, availableText}
+use Rattle.help.specs.Texts.{spaced, lists, about, helpText, availableText}
 use Rattle.help.specs.Paths.{followed}
 use Rattle.help.specs.Answer.{helpIn, helpOf}
 use Rattle.arguments.specs.Meanings.{definitionsOf, firstName, meaning, isOption}

@@ -21,7 +21,7 @@ use Rattle.ink.specs.Ascii.{ascii}
 use Rattle.ink.specs.Inks.{Inked, Countable}
 use Rattle.ink.proofs.Inking.{inked-nothing, inked-both, inked-as}
 use Rattle.message.specs.declared.error.ParseError.the-variants.{MissingRequired}
-use Rattle.layout.specs.Texts.{spaced}
+use Rattle.help.specs.Texts.{spaced}
 use Rattle.shell.specs.Lines.{faultMessage, joined}
 
 -- the last of the fault numbers

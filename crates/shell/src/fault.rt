@@ -16,7 +16,7 @@ ghost use Rattle.ink.specs.Inks.{Inked};
 ghost use Rattle.ink.specs.Answer.{Showing};
 ghost use Rattle.message.specs.Messages.{message};
 ghost use Rattle.message.specs.declared.error.ParseError.the-variants.{NoHandler};
-ghost use Rattle.layout.specs.Texts.{spaced};
+ghost use Rattle.help.specs.Texts.{spaced};
 ghost use Rattle.shell.specs.Lines.{faultMessage, joined};
 
 // The message of a fault by its number.
