@@ -18,9 +18,9 @@ use Rattle.tree.specs.Rules.{checkTree}
 use Rattle.tree.specs.declared.check.Checked.the-variants.{Good, BadFrame}
 use Rattle.tree.proofs.WellFormedImages.{good-well-formed}
 use Rattle.help.specs.Texts.{helpText}
-use Rattle.ink.specs.Answer.{showAnswer, showLeaves, Showing}
-use Rattle.ink.specs.declared.show.Shown.{Shown}
-use Rattle.ink.specs.declared.show.Shown.the-variants.{Text as ShownText, NoRoom as ShownNoRoom}
+use Rattle.buffer.specs.Showing.{showAnswer, showLeaves, Showing}
+use Rattle.buffer.specs.declared.show.Shown.{Shown}
+use Rattle.buffer.specs.declared.show.Shown.the-variants.{Text as ShownText, NoRoom as ShownNoRoom}
 use Rattle.help.specs.Paths.{Led, followed, FoundAt, LostAt, between}
 use Rattle.help.specs.Answer.{Reply, said, unknown, wordless, replyBy, helpIn, helpOf, helpLine, bytesOf, roomFor, answerBy, answerIn, answerFor, leavesBy, leavesFor, Helping, Replied}
 use Rattle.help.specs.declared.call.Helped.{Helped}

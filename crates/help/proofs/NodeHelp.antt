@@ -18,11 +18,11 @@ use Rattle.image.proofs.HeadBytes.{view}
 use Rattle.tree.specs.Images.{framesOf}
 use Rattle.tree.proofs.Items.{frames-read}
 use Rattle.lookup.proofs.Seeks.{frames-broken, frames-ended}
-use Rattle.ink.specs.Ascii.{ascii}
-use Rattle.ink.specs.Inks.{Inked}
+use Rattle.buffer.specs.Ascii.{ascii}
+use Rattle.buffer.specs.Inks.{Inked}
 use Rattle.help.specs.Texts.{spaced, usageLine, about, lists, helpText}
 use Rattle.help.specs.Inner.{aboutIn}
-use Rattle.ink.proofs.Inking.{inked-both, inked-three}
+use Rattle.buffer.proofs.Inking.{inked-both, inked-three}
 
 pub take-most : (n : ℕ) (t l : List ℕ) → t ≡ take n l → length t ≤ n
 take-most n t l e = let k = ap length e ∙ length-take n l in omega arith

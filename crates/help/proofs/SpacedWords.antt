@@ -13,10 +13,10 @@ use Rattle.text.specs.declared.apart.Word.{Word}
 use Rattle.text.specs.declared.apart.Word.the-variants.{At, Nothing}
 use Rattle.text.proofs.Pieces.{pieces-bytes, piece-some}
 use Rattle.text.proofs.Splits.{words-next, run-splits}
-use Rattle.ink.specs.Ascii.{ascii}
-use Rattle.ink.specs.Inks.{Inked, InkedFrom, Countable}
+use Rattle.buffer.specs.Ascii.{ascii}
+use Rattle.buffer.specs.Inks.{Inked, InkedFrom, Countable}
 use Rattle.help.specs.Texts.{spaced}
-use Rattle.ink.proofs.Inking.{inked-nothing, inked-both, inked-as}
+use Rattle.buffer.proofs.Inking.{inked-nothing, inked-both, inked-as}
 
 -- what the next word of a text tells
 pub record NextTold (s : List ℕ) (start end : ℕ) : Type 0 where

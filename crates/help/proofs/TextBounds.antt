@@ -12,7 +12,7 @@ use Rattle.text.proofs.WhiteRuns.{some-bytes}
 use Rattle.image.specs.Frames.{Perhaps, absent, present, Frame, node, option, flag}
 use Rattle.image.specs.Limits.{isNote, optionally}
 use Rattle.lookup.proofs.FrameCounts.{note-short, node-short, Few}
-use Rattle.ink.specs.Ascii.{ascii}
+use Rattle.buffer.specs.Ascii.{ascii}
 use Rattle.rows.specs.Rows.{rows, titled}
 use Rattle.rows.specs.declared.row.Listing.the-variants.{Options, Flags, Subcommands, Commands}
 use Rattle.rows.proofs.Bounds.{rows-bounded, titled-most}

@@ -2,7 +2,7 @@
 use mathlib.Core.Path.{_≡_, refl}
 use mathlib.Core.List.{List, [], _∷_, _++_}
 use Rattle.image.specs.Frames.{Frame, node, option, flag, absent, present}
-use Rattle.ink.specs.Ascii.{ascii}
+use Rattle.buffer.specs.Ascii.{ascii}
 use Rattle.rows.specs.Rows.{blanks, padded, shortThen, shownAs, requiredMark, entry, optionRow, flagRow, nodeRow, rows, titled}
 use Rattle.help.specs.Texts.{spaced, lists, about, helpText, availableHead, availableFoot, availableText}
 

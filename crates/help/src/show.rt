@@ -1,12 +1,12 @@
 // The Rust's `show_help` and `show_available_commands`: each text is measured, then written if there is room.
 use super::word::put_words;
+use buffer::Shown;
 use buffer::part;
+use buffer::put;
 use buffer::rest;
 use image::Head;
 use image::Lengths;
 use image::head_of;
-use ink::Shown;
-use ink::put;
 use rows::Listing;
 use rows::put_rows;
 use rows::put_titled;
@@ -16,10 +16,10 @@ ghost use lib.ListN.{length, drop};
 ghost use Rattle.image.specs.Reading.{Small, perhapsIn};
 ghost use Rattle.text.specs.Apart.{wordsBetween};
 ghost use Rattle.tree.specs.Images.{framesOf};
-ghost use Rattle.ink.specs.Inks.{Inked};
+ghost use Rattle.buffer.specs.Inks.{Inked};
 ghost use Rattle.help.specs.Texts.{usageLine, lists, helpText, availableText};
 ghost use Rattle.help.specs.Inner.{aboutIn};
-ghost use Rattle.ink.specs.Answer.{Showing};
+ghost use Rattle.buffer.specs.Showing.{Showing};
 
 // The usage of a node on a line of its own, if it has one: n is its length byte, `from` the place behind that.
 fn put_usage(s: &[u8], from: usize, n: usize, out: &mut [u8], at: usize) -> usize

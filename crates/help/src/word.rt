@@ -1,13 +1,13 @@
 // The words of a line, one behind the other.
 use buffer::part;
+use buffer::put;
 use buffer::rest;
-use ink::put;
 use text::Word;
 use text::next_word;
 ghost use Prim.Native.Nat.{_+_, _*_, _<_};
 ghost use lib.ListN.{length};
 ghost use Rattle.text.specs.Apart.{wordsBetween};
-ghost use Rattle.ink.specs.Inks.{InkedFrom};
+ghost use Rattle.buffer.specs.Inks.{InkedFrom};
 ghost use Rattle.help.specs.Texts.{spaced};
 
 // The words of a line, each behind a space.

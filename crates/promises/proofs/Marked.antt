@@ -30,7 +30,7 @@ use Rattle.parse.specs.Commands.{isMissing, missingRequired, Outcome, parsed, f
 use Rattle.tree.specs.Commands.{descend}
 use Rattle.parse.specs.Answer.{Parsing, number as parsedNumber, value as parsedValue}
 use Rattle.parse.specs.declared.answer.Parsed.{Parsed}
-use Rattle.ink.specs.Ascii.{ascii}
+use Rattle.buffer.specs.Ascii.{ascii}
 use Rattle.promises.proofs.Tables.{told, row, first, lacks}
 use Rattle.promises.proofs.Answers.{tooLong, illFormed, isBadTree, tokenizeTable, tokenize-tells, outcomeTable, parseTable, parse-tells}
 

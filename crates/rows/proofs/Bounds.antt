@@ -9,8 +9,8 @@ use lib.ListN.{length, length-append}
 use Rattle.image.specs.Frames.{Perhaps, absent, present, Frame, node, option, flag}
 use Rattle.image.specs.Limits.{isName, optionally, fair}
 use Rattle.lookup.proofs.FrameCounts.{name-short, node-short, option-short, flag-short, Few}
-use Rattle.ink.specs.Ascii.{ascii}
-use Rattle.ink.proofs.Inking.{cond-most}
+use Rattle.buffer.specs.Ascii.{ascii}
+use Rattle.buffer.proofs.Inking.{cond-most}
 use Rattle.rows.specs.Rows.{shownAs, requiredMark, entry, optionRow, flagRow, nodeRow, rowOf, rows, titled}
 use Rattle.rows.specs.declared.row.Listing.{Listing}
 use Rattle.rows.specs.declared.row.Listing.the-variants.{Options, Flags, Subcommands, Commands}

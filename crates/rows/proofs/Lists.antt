@@ -17,9 +17,9 @@ use Rattle.image.proofs.Encoding.{length-text, read-within, read-size}
 use Rattle.tree.specs.Images.{framesOf}
 use Rattle.tree.proofs.Items.{frames-read}
 use Rattle.lookup.proofs.Seeks.{frames-broken, frames-ended, frames-none}
-use Rattle.ink.specs.Ascii.{ascii}
-use Rattle.ink.specs.Inks.{Inked, InkedFrom, Countable}
-use Rattle.ink.proofs.Inking.{inked-nothing, inked-both, inked-as, cond-most}
+use Rattle.buffer.specs.Ascii.{ascii}
+use Rattle.buffer.specs.Inks.{Inked, InkedFrom, Countable}
+use Rattle.buffer.proofs.Inking.{inked-nothing, inked-both, inked-as, cond-most}
 use Rattle.rows.specs.Rows.{blanks, padded, shortThen, shownAs, requiredMark, entry, optionRow, flagRow, nodeRow, rowOf, endsList, rows, titled}
 use Rattle.rows.specs.Steps.{rowBy, sizeBy}
 use Rattle.rows.specs.declared.row.Listing.{Listing}

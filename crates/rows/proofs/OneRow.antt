@@ -16,14 +16,14 @@ use Rattle.image.specs.declared.head.Head.{Head}
 use Rattle.image.specs.declared.head.Head.the-variants.{Node as NodeHead, Option as OptionHead, Flag as FlagHead, Bad, End}
 use Rattle.image.proofs.head.Head.{the-type as head-type}
 use Rattle.image.proofs.HeadBytes.{view, definition-small}
-use Rattle.ink.specs.Ascii.{ascii}
-use Rattle.ink.specs.Inks.{Inked, Countable}
+use Rattle.buffer.specs.Ascii.{ascii}
+use Rattle.buffer.specs.Inks.{Inked, Countable}
 use Rattle.rows.specs.Rows.{blanks, padded, shortThen, shownAs, entry, requiredMark, optionRow, nodeRow, rowOf, endsList}
 use Rattle.rows.specs.Steps.{labelIn, Measured, rowBy, sizeBy}
 use Rattle.rows.specs.declared.row.Listing.{Listing}
 use Rattle.rows.specs.declared.row.Listing.the-variants.{Options, Flags, Subcommands, Commands}
 use Rattle.rows.proofs.row.Listing.{the-type}
-use Rattle.ink.proofs.Inking.{inked-both, counts-first, counts-then}
+use Rattle.buffer.proofs.Inking.{inked-both, counts-first, counts-then}
 
 -- spaces: none, or as many of twenty as are missing
 pub blanks-none : (width used : ℕ) → width ≤ used → blanks width used ≡ []

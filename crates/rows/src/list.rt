@@ -2,13 +2,13 @@
 use super::row::Listing;
 use super::row::listed_size;
 use super::row::put_row;
+use buffer::put;
 use buffer::rest;
-use ink::put;
 ghost use mathlib.Core.Path.{_≡_};
 ghost use Prim.Native.Nat.{_+_, _*_, _<_, _≤_};
 ghost use lib.ListN.{length};
 ghost use Rattle.tree.specs.Images.{framesOf};
-ghost use Rattle.ink.specs.Inks.{Inked, InkedFrom};
+ghost use Rattle.buffer.specs.Inks.{Inked, InkedFrom};
 ghost use Rattle.rows.specs.Rows.{rows, titled};
 
 // The rows that frames give in a list.

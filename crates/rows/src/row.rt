@@ -1,17 +1,17 @@
 // One row of a list: what a frame gives in it, and where the list ends.
 use buffer::part;
+use buffer::put;
+use buffer::put_byte;
 use image::Head;
 use image::Lengths;
 use image::head_of;
-use ink::put;
-use ink::put_byte;
 ghost use mathlib.Core.Path.{_≡_};
 ghost use mathlib.Core.List.{List, _++_};
 ghost use Prim.Native.Nat.{ℕ, _≤_, _<_};
 ghost use Rattle.image.specs.Frames.{Perhaps, node};
 ghost use Rattle.image.specs.Reading.{Small, noteIn, nodeIn, optionIn, flagIn, readFirst};
-ghost use Rattle.ink.specs.Ascii.{ascii};
-ghost use Rattle.ink.specs.Inks.{Inked, Countable};
+ghost use Rattle.buffer.specs.Ascii.{ascii};
+ghost use Rattle.buffer.specs.Inks.{Inked, Countable};
 ghost use Rattle.rows.specs.Rows.{blanks, shortThen, entry, nodeRow, rowOf, endsList};
 ghost use Rattle.rows.specs.Steps.{labelIn, Measured, rowBy, sizeBy};
 

@@ -14,7 +14,7 @@ use Rattle.frame.specs.Framed.{frameOf}
 use Rattle.frame.specs.Series.{runs as frameRuns}
 use Rattle.image.specs.Frames.{absent, present, option, flag}
 use Rattle.tree.specs.Forest.{Forest, bare, grown}
-use Rattle.ink.specs.Ascii.{ascii}
+use Rattle.buffer.specs.Ascii.{ascii}
 use Rattle.screen.specs.Decimal.{digitsIn, decimal}
 use Rattle.report.specs.Report.{optionFrame, flagFrame, reportOf}
 use Rattle.editor.specs.declared.line.Mode.the-variants.{Typing}

@@ -10,7 +10,7 @@ use Rattle.tree.specs.Images.{framesOf}
 use Rattle.tree.specs.Forest.{Forest, flatten, orderly}
 use Rattle.tree.proofs.Forests.{StandsFor}
 use Rattle.tree.specs.Subtrees.{subtree}
-use Rattle.ink.specs.Ascii.{ascii}
+use Rattle.buffer.specs.Ascii.{ascii}
 use Rattle.rows.specs.Rows.{rows, titled}
 use Rattle.rows.specs.declared.row.Listing.the-variants.{Options, Flags, Subcommands}
 use Rattle.help.specs.Texts.{spaced, usageLine, lists, about, helpText, availableHead, availableFoot, availableText}

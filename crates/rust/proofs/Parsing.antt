@@ -15,7 +15,7 @@ use Rattle.tree.proofs.Flattening.{forest-obeys}
 use Rattle.tree.proofs.Forests.{StandsFor}
 use Rattle.tree.specs.Subtrees.{subtree}
 use Rattle.tree.specs.Commands.{Reached, descend, onSubtree}
-use Rattle.ink.specs.Ascii.{ascii}
+use Rattle.buffer.specs.Ascii.{ascii}
 use Rattle.arguments.specs.Arguments.{noneFound, Stand, go, wait, unknownOption, missingValue, args}
 use Rattle.parse.specs.Commands.{Outcome, parsed, fault, isMissing, missingRequired, onMissing, outcomeOf, concluded, parseIn, parseWords, parseLine}
 use Rattle.rust.specs.Tree.{optionDefs, get, commandsOf}

@@ -16,7 +16,7 @@ use Rattle.text.proofs.Prefix.{codes-step, codes-none}
 use Rattle.image.specs.Frames.{Perhaps, absent, present}
 use Rattle.image.specs.Limits.{shown, allShown, isName, isShort, optionally}
 use Rattle.image.proofs.Fields.{both-first, both-second}
-use Rattle.ink.specs.Ascii.{ascii}
+use Rattle.buffer.specs.Ascii.{ascii}
 use Rattle.rows.specs.Rows.{blanks, padded, shortThen, shownAs}
 use Rattle.rust.specs.Std.{isEmpty, leftIn}
 use Rattle.rust.specs.Tree.{someOf, textOf}

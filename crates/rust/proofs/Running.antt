@@ -20,7 +20,7 @@ use Rattle.tree.specs.Images.{framesOf}
 use Rattle.tree.specs.Forest.{Forest, flatten}
 use Rattle.tree.proofs.Forests.{StandsFor}
 use Rattle.tree.specs.Subtrees.{subtree}
-use Rattle.ink.specs.Ascii.{ascii}
+use Rattle.buffer.specs.Ascii.{ascii}
 use Rattle.message.specs.Debug.{debugBytes, unknownHelp}
 use Rattle.message.specs.Messages.{illFormed, goodbye, clearScreen}
 use Rattle.help.specs.Texts.{availableText}

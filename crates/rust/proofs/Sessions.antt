@@ -14,7 +14,7 @@ use Rattle.tree.specs.Images.{framesOf}
 use Rattle.tree.specs.Forest.{Forest}
 use Rattle.tree.specs.declared.check.Checked.the-variants.{Good}
 use Rattle.tree.proofs.Forests.{StandsFor, forest-good}
-use Rattle.ink.specs.Ascii.{ascii}
+use Rattle.buffer.specs.Ascii.{ascii}
 use Rattle.shell.specs.Lines.{Said, silence, text, farewell, handed as handsOver, builtinOf, beginsHelp, otherSaid, lineSaid, saidOf}
 use Rattle.editor.specs.Keys.{State, Kind, shows, enters, drops, Turn, lineFeed, turnOf}
 use Rattle.editor.specs.Answer.{stateOf, editorOf, historyOf, goodState}

@@ -10,7 +10,7 @@ use Rattle.image.specs.Limits.{allShown, isName, isNote, isShort, definable, fa
 use Rattle.tree.specs.Images.{flat}
 use Rattle.tree.specs.Forest.{Forest, bare, grown, flatten, nodesIn, optionsIn, flagsIn, definitionsOnly, orderly}
 use Rattle.tree.proofs.Forests.{StandsFor}
-use Rattle.ink.specs.Ascii.{ascii}
+use Rattle.buffer.specs.Ascii.{ascii}
 use Rattle.trees.specs.Commands.{ascii as letters, command, marked, baseTree, fsTree}
 use Rattle.rust.specs.Tree.{Commands, insertNode, someOf, optionDefs, flagDefs, commandsOf}
 use Rattle.rust.specs.Base.{carryOut, placeIn, namesBy, buildBaseCmd, buildCommandTree}

@@ -13,7 +13,7 @@ use Rattle.history.specs.declared.stepping.Step.{Step}
 use Rattle.editor.specs.declared.line.Mode.{Mode}
 use Rattle.editor.specs.declared.line.Mode.the-variants.{Typing, Escape, Sequence}
 use Rattle.editor.specs.Keys.{State}
-use Rattle.ink.specs.Ascii.{ascii}
+use Rattle.buffer.specs.Ascii.{ascii}
 use Rattle.image.specs.Limits.{both}
 use Rattle.table.specs.Map.{Map}
 use Rattle.report.specs.Report.{reportOf}

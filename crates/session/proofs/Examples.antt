@@ -28,7 +28,7 @@ use Rattle.report.specs.Report.{optionFrame, flagFrame, reportOf, faultOf, dash
 use Rattle.parse.specs.Commands.{isMissing, missingRequired, concluded, parseIn, parseWords, parseLine}
 use Rattle.tree.specs.Commands.{descend}
 use Rattle.parse.specs.Answer.{toldIn, outcomeAnswer, outcomeLeaves, parseAnswer, parseLeaves}
-use Rattle.ink.specs.Ascii.{ascii}
+use Rattle.buffer.specs.Ascii.{ascii}
 use Rattle.shell.specs.Lines.{builtinOf, beginsHelp, helpWords, faultMessage, joined, handlerOf, carried, executeIn, execute, otherSaid, lineSaid, saidOf}
 use Rattle.screen.specs.Decimal.{digitsIn, decimal, valueBehind, valueOf}
 use Rattle.screen.specs.Redraw.{moveBack, redraw, roomAnswer}

@@ -9,9 +9,9 @@ use lib.Dec.{ltb}
 use lib.ListN.{length}
 use Rattle.buffer.specs.Write.{over}
 use Rattle.buffer.proofs.Choices.{else-is}
-use Rattle.ink.specs.Answer.{showAnswer, leavesBy as showLeavesBy, showLeaves, Showing}
-use Rattle.ink.specs.declared.show.Shown.{Shown}
-use Rattle.ink.specs.declared.show.Shown.the-variants.{Text as ShownText, NoRoom as ShownShort}
+use Rattle.buffer.specs.Showing.{showAnswer, leavesBy as showLeavesBy, showLeaves, Showing}
+use Rattle.buffer.specs.declared.show.Shown.{Shown}
+use Rattle.buffer.specs.declared.show.Shown.the-variants.{Text as ShownText, NoRoom as ShownShort}
 use Rattle.report.specs.Report.{reportAnswer, leavesBy as reportLeavesBy, reportLeaves, Reporting}
 use Rattle.report.specs.declared.answer.Reported.{Reported}
 use Rattle.report.specs.declared.answer.Reported.the-variants.{Report, NoRoom as ReportShort}

@@ -11,7 +11,7 @@ use Rattle.text.specs.Unicode.{encode}
 use Rattle.text.specs.Decoding.{Piece, character, table, decodeFirst, piecesFrom, piecesOf, bytesAll}
 use Rattle.text.specs.Space.{whiteSpace, among, isWhiteSpace}
 use Rattle.text.specs.Apart.{white, behindRun, beforeEnd, trimEnd, trimmed, ended, wordsAfter, wordsBetween}
-use Rattle.ink.specs.Ascii.{ascii}
+use Rattle.buffer.specs.Ascii.{ascii}
 use Rattle.shell.specs.Lines.{builtinOf, beginsHelp, helpWords}
 use Rattle.shell.specs.declared.builtin.Builtin.the-variants.{Help}
 

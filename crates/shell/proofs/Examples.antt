@@ -16,7 +16,7 @@ use Rattle.image.specs.Frames.{absent, present, Frame, node, flag}
 use Rattle.tree.specs.Subtrees.{upTo, onFrom, subtree}
 use Rattle.tree.specs.Commands.{descend}
 use Rattle.lookup.specs.Searches.{keyed}
-use Rattle.ink.specs.Ascii.{ascii}
+use Rattle.buffer.specs.Ascii.{ascii}
 use Rattle.rows.specs.Rows.{blanks, padded, shortThen, shownAs, entry, flagRow, nodeRow, rows, titled}
 use Rattle.message.specs.Messages.{message, illFormed, clearScreen}
 use Rattle.message.specs.Debug.{debugByte, debugBytes, unknownHelp}

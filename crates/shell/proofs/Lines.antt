@@ -27,7 +27,7 @@ use Rattle.tree.specs.Images.{framesOf}
 use Rattle.tree.specs.Rules.{checkTree}
 use Rattle.tree.specs.declared.check.Checked.{Checked}
 use Rattle.tree.specs.declared.check.Checked.the-variants.{Good, BadFrame}
-use Rattle.ink.specs.Ascii.{ascii}
+use Rattle.buffer.specs.Ascii.{ascii}
 use Rattle.message.specs.Messages.{illFormed, clearScreen}
 use Rattle.message.specs.Debug.{unknownHelp}
 use Rattle.help.specs.Texts.{helpText, availableText}

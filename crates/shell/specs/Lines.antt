@@ -11,7 +11,7 @@ use Rattle.words.specs.Tokens.{wordsOf}
 use Rattle.image.specs.Frames.{Frame, node, option, flag}
 use Rattle.tree.specs.Subtrees.{subtree}
 use Rattle.tree.specs.Commands.{descend}
-use Rattle.ink.specs.Ascii.{ascii}
+use Rattle.buffer.specs.Ascii.{ascii}
 use Rattle.message.specs.Messages.{message, illFormed, clearScreen}
 use Rattle.message.specs.Debug.{unknownHelp}
 use Rattle.message.specs.declared.error.ParseError.{ParseError}

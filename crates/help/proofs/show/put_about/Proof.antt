@@ -1,7 +1,7 @@
 -- `help::show::put_about` meets its contract: six texts in a row, each within its bound.
 use Rattle.help.proofs.NodeHelp.{take-most, about-put}
 use Rattle.help.specs.Inner.{aboutIn}
-use Rattle.ink.specs.Ascii.{ascii}
+use Rattle.buffer.specs.Ascii.{ascii}
 use borrow.Author.Needs.{needs}
 use native.Mathlib.Omega.{arith}
 use Prim.Native.Nat.{_+_}

@@ -1,7 +1,7 @@
 -- `help::show::put_available` meets its contract: the rows between the fixed lines.
-use Rattle.ink.proofs.Inking.{inked-three}
+use Rattle.buffer.proofs.Inking.{inked-three}
 use Rattle.help.specs.Texts.{availableHead, availableFoot, availableText}
-use Rattle.ink.specs.Ascii.{ascii}
+use Rattle.buffer.specs.Ascii.{ascii}
 use borrow.Author.Needs.{needs}
 use Rattle.help.proofs.show.put_available.Statement.{statement}
 use Rattle.help.proofs.show.put_available.Tie as tie

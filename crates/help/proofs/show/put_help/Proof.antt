@@ -1,6 +1,6 @@
 -- `help::show::put_help` meets its contract: the node's own lines, then its lists.
 use Rattle.help.proofs.NodeHelp.{help-node, help-none, depth-told, drop-most}
-use Rattle.ink.proofs.Inking.{inked-nothing, inked-both, inked-as}
+use Rattle.buffer.proofs.Inking.{inked-nothing, inked-both, inked-as}
 use Rattle.image.proofs.HeadBytes.{view, node-small}
 use Rattle.frame.specs.Text.{Bytes}
 use borrow.Author.Needs.{needs}

@@ -1,7 +1,7 @@
 -- `help::show::put_lists` meets its contract: three lists in a row.
-use Rattle.ink.proofs.Inking.{inked-three}
+use Rattle.buffer.proofs.Inking.{inked-three}
 use Rattle.help.specs.Texts.{lists}
-use Rattle.ink.specs.Ascii.{ascii}
+use Rattle.buffer.specs.Ascii.{ascii}
 use borrow.Author.Needs.{needs}
 use Rattle.help.proofs.show.put_lists.Statement.{statement}
 use Rattle.help.proofs.show.put_lists.Tie as tie

@@ -1,7 +1,7 @@
 -- `help::show::put_usage` meets its contract: nothing, or three texts in a row.
 use Rattle.help.proofs.NodeHelp.{take-most, usage-none, usage-some}
-use Rattle.ink.proofs.Inking.{inked-nothing, inked-three, inked-as}
-use Rattle.ink.specs.Ascii.{ascii}
+use Rattle.buffer.proofs.Inking.{inked-nothing, inked-three, inked-as}
+use Rattle.buffer.specs.Ascii.{ascii}
 use borrow.Author.Needs.{needs}
 use native.Mathlib.Omega.{arith}
 use lib.ListN.{drop}

@@ -1,5 +1,5 @@
 -- `help::show::show_help` meets its contract: measured, then written if there is room.
-use Rattle.ink.proofs.Inking.{shown, no-room}
+use Rattle.buffer.proofs.Inking.{shown, no-room}
 use borrow.Author.Needs.{needs}
 use Rattle.help.proofs.show.show_help.Statement.{statement}
 use Rattle.help.proofs.show.show_help.Tie as tie

@@ -1,6 +1,6 @@
 -- `help::word::put_words` meets its contract: whoever writes the words that are left has written them all.
 use Rattle.help.proofs.SpacedWords.{OnLine, sets-out, arrives, stops, word-here, word-counts, goes-on}
-use Rattle.ink.specs.Ascii.{ascii}
+use Rattle.buffer.specs.Ascii.{ascii}
 use borrow.Author.Needs.{needs}
 use native.Mathlib.Omega.{arith}
 use Prim.Native.Nat.{_-_}

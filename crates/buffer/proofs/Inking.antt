@@ -6,12 +6,12 @@ use mathlib.Core.List.{List, [], _++_}
 use native.Mathlib.Omega.{arith}
 use lib.ListN.{length, length-append}
 use borrow.Author.Tests.{lt-ltb, le-ltb}
 use Rattle.buffer.specs.Write.{overAt, Pushed}
 use Rattle.buffer.proofs.Lending.{overAt-both, overAt-nothing, overAt-front, length-overAt}
-use Rattle.ink.specs.Inks.{Inked, Countable}
-use Rattle.ink.specs.Answer.{showAnswer, showLeaves, Showing}
-use Rattle.ink.specs.declared.show.Shown.{Shown}
-use Rattle.ink.specs.declared.show.Shown.the-variants.{Text, NoRoom}
+use Rattle.buffer.specs.Inks.{Inked, Countable}
+use Rattle.buffer.specs.Showing.{showAnswer, showLeaves, Showing}
+use Rattle.buffer.specs.declared.show.Shown.{Shown}
+use Rattle.buffer.specs.declared.show.Shown.the-variants.{Text, NoRoom}
 
 -- nothing, a text that fits, and one that does not
 pub inked-none : (out : List ℕ) (at : ℕ) → Inked [] out at at out

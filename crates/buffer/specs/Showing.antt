@@ -5,9 +5,9 @@ use mathlib.Core.Bool.{cond}
 use mathlib.Core.List.{List}
 use lib.Dec.{ltb}
 use lib.ListN.{length}
 use Rattle.buffer.specs.Write.{over}
-use Rattle.ink.specs.declared.show.Shown.{Shown}
-use Rattle.ink.specs.declared.show.Shown.the-variants.{Text, NoRoom}
+use Rattle.buffer.specs.declared.show.Shown.{Shown}
+use Rattle.buffer.specs.declared.show.Shown.the-variants.{Text, NoRoom}
 
 unfoldable pub showAnswer : List ℕ → ℕ → Shown
 showAnswer text room = cond (ltb room (length text)) (NoRoom (length text)) (Text (length text))

@@ -1,8 +1,8 @@
--- `ink::place::put` meets its contract: what fits is pushed, what does not is left out.
-use Rattle.ink.proofs.Inking.{inked-not}
+-- `buffer::place::put` meets its contract: what fits is pushed, what does not is left out.
+use Rattle.buffer.proofs.Inking.{inked-not}
 use borrow.Author.Needs.{needs}
-use Rattle.ink.proofs.place.put.Statement.{statement}
-use Rattle.ink.proofs.place.put.Tie as tie
+use Rattle.buffer.proofs.measuring.put.Statement.{statement}
+use Rattle.buffer.proofs.measuring.put.Tie as tie
 
 add-end : tie.Need-add-end
 add-end c = search needs

@@ -1,8 +1,8 @@
 // Writing at a place where there may be no room: a text that does not fit is left out, and the place behind it is told all the same.
-use buffer::push;
-use buffer::push_byte;
+use super::write::push;
+use super::write::push_byte;
 ghost use mathlib.Core.List.{[], _∷_};
-ghost use Rattle.ink.specs.Inks.{Inked, Countable};
+ghost use Rattle.buffer.specs.Inks.{Inked, Countable};
 
 // Writes src at the place `at` of out if it fits there, and returns the place behind it.
 pub fn put(src: &[u8], out: &mut [u8], at: usize) -> usize

@@ -1,9 +1,9 @@
--- `ink::place::put_byte` meets its contract: as `put`, for one byte.
-use Rattle.ink.proofs.Inking.{inked-not}
+-- `buffer::place::put_byte` meets its contract: as `put`, for one byte.
+use Rattle.buffer.proofs.Inking.{inked-not}
 use borrow.Author.Needs.{needs}
 use native.Mathlib.Omega.{arith}
-use Rattle.ink.proofs.place.put_byte.Statement.{statement}
-use Rattle.ink.proofs.place.put_byte.Tie as tie
+use Rattle.buffer.proofs.measuring.put_byte.Statement.{statement}
+use Rattle.buffer.proofs.measuring.put_byte.Tie as tie
 
 add-end : tie.Need-add-end
 add-end c = search needs
