@@ -6,10 +6,10 @@ use mathlib.Core.List.{List, [], _++_}
 use native.Mathlib.Omega.{arith}
 use lib.ListN.{length, length-append}
 use borrow.Author.Tests.{lt-ltb, le-ltb}
-use Rattle.buffer.specs.Write.{overAt, Pushed}
+use Rattle.buffer.specs.Write.{overIfFits, overAt, Pushed}
 use Rattle.buffer.proofs.Lending.{overAt-both, overAt-nothing, overAt-front, length-overAt}
 use Rattle.buffer.specs.Inks.{Inked, Countable}
-use Rattle.buffer.specs.Showing.{showAnswer, showLeaves, Showing}
+use Rattle.buffer.specs.Showing.{showAnswer, Showing}
 use Rattle.buffer.specs.declared.show.Shown.{Shown}
 use Rattle.buffer.specs.declared.show.Shown.the-variants.{Text, NoRoom}
 
@@ -74,7 +74,7 @@ inked-three x y z out at p mid q next r left a b c = inked-both (x ++ y) z out a
 -- a text shown at the front, and one that lacks room
 module _ (text out : List ℕ) (n : ℕ) (e : n ≡ length text) where
   pub shown : (r : ℕ) (left : List ℕ) → n ≤ length out → Inked text out 0 r left → Showing text out (Text r) left
-  unfolding showAnswer showLeaves
+  unfolding showAnswer overIfFits
   shown r left h a =
       let k = a .place in
       let m : r ≡ length text = omega arith in
@@ -85,7 +85,7 @@ module _ (text out : List ℕ) (n : ℕ) (e : n ≡ length text) where
       }
 
   pub no-room : length out < n → Showing text out (NoRoom n) out
-  unfolding showAnswer showLeaves
+  unfolding showAnswer overIfFits
   no-room h =
       let t : length out < length text = omega arith in
       record { answer = rw (lt-ltb (length out) (length text) t, e); bytes = rw (lt-ltb (length out) (length text) t) }

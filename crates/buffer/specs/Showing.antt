@@ -5,23 +5,16 @@ use mathlib.Core.Bool.{cond}
 use mathlib.Core.List.{List}
 use lib.Dec.{ltb}
 use lib.ListN.{length}
-use Rattle.buffer.specs.Write.{over}
+use Rattle.buffer.specs.Write.{overIfFits}
 use Rattle.buffer.specs.declared.show.Shown.{Shown}
 use Rattle.buffer.specs.declared.show.Shown.the-variants.{Text, NoRoom}
 
 unfoldable pub showAnswer : List ℕ → ℕ → Shown
 showAnswer text room = cond (ltb room (length text)) (NoRoom (length text)) (Text (length text))
 
-abbrev pub leavesBy : Shown → List ℕ → List ℕ → List ℕ
-leavesBy (Text n) text out = over text out
-leavesBy (NoRoom n) text out = out
-
-unfoldable pub showLeaves : List ℕ → List ℕ → List ℕ
-showLeaves text out = leavesBy (showAnswer text (length out)) text out
-
 pub record Showing (text out : List ℕ) (r : Shown) (left : List ℕ) : Type 0 where
   pub answer : r ≡ showAnswer text (length out)
-  pub bytes : left ≡ showLeaves text out
+  pub bytes : left ≡ overIfFits text out
 
 -- the refusal's number in 01 (0: none), and the value that goes with it
 abbrev pub number : Shown → ℕ

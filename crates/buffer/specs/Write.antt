@@ -1,12 +1,18 @@
 -- What a write leaves in a lent buffer.
 use Prim.Native.Nat.{ℕ, _+_}
 use mathlib.Core.Path.{_≡_}
+use mathlib.Core.Bool.{cond}
 use mathlib.Core.List.{List, _++_}
+use lib.Dec.{ltb}
 use lib.ListN.{length, take, drop}
 
 -- a buffer after `text` was written at its front: the bytes behind the text stay
 unfoldable pub over : List ℕ → List ℕ → List ℕ
 over text out = text ++ drop (length text) out
+
+-- the same where there may be no room: a buffer that is too short for the text stays as it is
+unfoldable pub overIfFits : List ℕ → List ℕ → List ℕ
+overIfFits text out = cond (ltb (length out) (length text)) out (over text out)
 
 -- a buffer after `text` was written at the place `at`: the bytes before and behind it stay
 unfoldable pub overAt : List ℕ → List ℕ → ℕ → List ℕ
