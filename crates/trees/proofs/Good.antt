@@ -8,7 +8,8 @@ use Rattle.image.specs.Reading.{span, perhapsIn, nodeLengths, definitionLengths
 use Rattle.tree.specs.Images.{itemsFrom, items, flat}
 use Rattle.tree.specs.Rules.{rises, follows, obeys, after, judgeItems, checkTree}
 use Rattle.tree.specs.declared.check.Checked.the-variants.{Good as WellFormed}
-use Rattle.trees.specs.Commands.{ascii, command, marked, baseTree, fsTree}
+use Rattle.buffer.specs.Ascii.{ascii}
+use Rattle.trees.specs.Commands.{command, marked, baseTree, fsTree}
 
 pub good :
     (checkTree (flat baseTree) ≡ WellFormed)

@@ -1,5 +1,6 @@
 -- `trees::fs_tree` meets its contract: the bytes are computed from the frames.
-use Rattle.trees.specs.Commands.{ascii, command, marked, fsTree}
+use Rattle.buffer.specs.Ascii.{ascii}
+use Rattle.trees.specs.Commands.{command, marked, fsTree}
 use Rattle.tree.specs.Images.{flat}
 use Rattle.image.specs.Frames.{text, perhaps, encode}
 use Rattle.frame.specs.Text.{numberBytes, textOf}
