@@ -10,9 +10,13 @@ pub record Inked (text out : List ℕ) (at r : ℕ) (left : List ℕ) : Type 0 w
   pub size : length left ≡ length out
   pub bytes : at + length text ≤ length out → left ≡ overAt text out at
 
+-- places are counted below this number, far above what the limits of trees and lines need
+abbrev pub countLimit : ℕ
+countLimit = 4294967296
+
 -- the places up to the end of a text can be counted
 abbrev pub Countable : List ℕ → ℕ → Type 0
-Countable text at = at + length text < 4294967296
+Countable text at = at + length text < countLimit
 
 -- the same for a text that is at most 64 times as long as the frames that it is written from
 pub record InkedFrom (frames : List ℕ) (text out : List ℕ) (at r : ℕ) (left : List ℕ) : Type 0 where

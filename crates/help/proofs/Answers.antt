@@ -22,7 +22,8 @@ use Rattle.buffer.specs.Showing.{showAnswer, Showing}
 use Rattle.buffer.specs.declared.show.Shown.{Shown}
 use Rattle.buffer.specs.declared.show.Shown.the-variants.{Text as ShownText, NoRoom as ShownNoRoom}
 use Rattle.help.specs.Paths.{Led, followed, FoundAt, LostAt, between}
-use Rattle.help.specs.Answer.{Reply, said, unknown, wordless, replyBy, helpIn, helpOf, helpLine, bytesOf, roomFor, answerBy, answerIn, answerFor, leavesBy, leavesFor, Helping, Replied}
+use Rattle.help.specs.Answer.{Reply, said, unknown, wordless, replyBy, helpIn, helpOf, helpLine, bytesOf, roomFor, answerBy, answerIn, answerFor, leavesBy, leavesFor, Helping}
+use Rattle.help.specs.Inner.{Replied}
 use Rattle.help.specs.declared.call.Helped.{Helped}
 use Rattle.help.specs.declared.call.Helped.the-variants.{Text, BadTree, LineTooLong, IllFormed, NoWords, UnknownCommand, NoRoom}
 

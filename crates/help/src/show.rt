@@ -20,6 +20,8 @@ ghost use Rattle.buffer.specs.Inks.{Inked};
 ghost use Rattle.help.specs.Texts.{usageLine, lists, helpText, availableText};
 ghost use Rattle.help.specs.Inner.{aboutIn};
 ghost use Rattle.buffer.specs.Showing.{Showing};
+ghost use Rattle.frame.specs.Limits.{lineLimit};
+ghost use Rattle.tree.specs.Rules.{imageLimit};
 
 // The usage of a node on a line of its own, if it has one: n is its length byte, `from` the place behind that.
 fn put_usage(s: &[u8], from: usize, n: usize, out: &mut [u8], at: usize) -> usize
@@ -37,7 +39,7 @@ fn put_usage(s: &[u8], from: usize, n: usize, out: &mut [u8], at: usize) -> usiz
 // The lines on the node at the front of s itself, under the words of a line: at most 64 bytes for each byte of that line, and two texts
 // of fewer than 256 bytes.
 fn put_about(s: &[u8], texts: Lengths, line: &[u8], out: &mut [u8]) -> usize
-    requires { ⌜ Small texts × (length (now line) ≤ 1024) ⌝ }
+    requires { ⌜ Small texts × (length (now line) ≤ lineLimit) ⌝ }
     ensures { λ r. ⌜ Inked (aboutIn (wordsBetween (now (line .entry))) (now (s .entry)) texts) (now (out .entry)) 0 r (now (out .exit)) × (r ≤ 67000) ⌝ }
 {
     let words = put(b"Command:", out, 0);
@@ -56,7 +58,7 @@ fn put_about(s: &[u8], texts: Lengths, line: &[u8], out: &mut [u8]) -> usize
 
 // The options, flags and children of a node of that depth, from the frames behind it.
 fn put_lists(below: &[u8], depth: usize, out: &mut [u8], at: usize) -> usize
-    requires { ⌜ (length (now below) ≤ 32768) × (at ≤ 67000) × (depth < 256) ⌝ }
+    requires { ⌜ (length (now below) ≤ imageLimit) × (at ≤ 67000) × (depth < 256) ⌝ }
     ensures { λ r. ⌜ Inked (lists depth (framesOf (now (below .entry)))) (now (out .entry)) at r (now (out .exit)) ⌝ }
 {
     let options = put_titled(b"\nOptions:\n", below, Listing::Options, out, at);
@@ -72,7 +74,7 @@ fn put_lists(below: &[u8], depth: usize, out: &mut [u8], at: usize) -> usize
 
 // The help of the node that the frames begin with.
 fn put_help(frames: &[u8], line: &[u8], out: &mut [u8]) -> usize
-    requires { ⌜ (length (now frames) ≤ 32768) × (length (now line) ≤ 1024) ⌝ }
+    requires { ⌜ (length (now frames) ≤ imageLimit) × (length (now line) ≤ lineLimit) ⌝ }
     ensures { λ r. ⌜ Inked (helpText (wordsBetween (now (line .entry))) (framesOf (now (frames .entry)))) (now (out .entry)) 0 r (now (out .exit)) ⌝ }
 {
     let Head::Node {
@@ -88,7 +90,7 @@ fn put_help(frames: &[u8], line: &[u8], out: &mut [u8]) -> usize
 }
 
 fn help_size(frames: &[u8], line: &[u8]) -> usize
-    requires { ⌜ (length (now frames) ≤ 32768) × (length (now line) ≤ 1024) ⌝ }
+    requires { ⌜ (length (now frames) ≤ imageLimit) × (length (now line) ≤ lineLimit) ⌝ }
     ensures { λ r. ⌜ r ≡ length (helpText (wordsBetween (now (line .entry))) (framesOf (now (frames .entry)))) ⌝ }
 {
     let mut none = [0; 1];
@@ -97,7 +99,7 @@ fn help_size(frames: &[u8], line: &[u8]) -> usize
 
 // The help of the node that a subtree's frames begin with, under the words of a line that lead to it.
 pub fn show_help(frames: &[u8], line: &[u8], out: &mut [u8]) -> Shown
-    requires { ⌜ (length (now frames) ≤ 32768) × (length (now line) ≤ 1024) ⌝ }
+    requires { ⌜ (length (now frames) ≤ imageLimit) × (length (now line) ≤ lineLimit) ⌝ }
     ensures { λ r. ⌜ Showing (helpText (wordsBetween (now (line .entry))) (framesOf (now (frames .entry)))) (now (out .entry)) r (now (out .exit)) ⌝ }
 {
     let needed = help_size(frames, line);
@@ -109,7 +111,7 @@ pub fn show_help(frames: &[u8], line: &[u8], out: &mut [u8]) -> Shown
 
 // All commands of an image with their children, between the fixed lines.
 fn put_available(image: &[u8], out: &mut [u8]) -> usize
-    requires { ⌜ length (now image) ≤ 32768 ⌝ }
+    requires { ⌜ length (now image) ≤ imageLimit ⌝ }
     ensures { λ r. ⌜ Inked (availableText (framesOf (now (image .entry)))) (now (out .entry)) 0 r (now (out .exit)) ⌝ }
 {
     let start = put(b"ArceOS Shell - Available Commands:\n\n", out, 0);
@@ -122,7 +124,7 @@ fn put_available(image: &[u8], out: &mut [u8]) -> usize
 }
 
 fn available_size(image: &[u8]) -> usize
-    requires { ⌜ length (now image) ≤ 32768 ⌝ }
+    requires { ⌜ length (now image) ≤ imageLimit ⌝ }
     ensures { λ r. ⌜ r ≡ length (availableText (framesOf (now (image .entry)))) ⌝ }
 {
     let mut none = [0; 1];
@@ -131,7 +133,7 @@ fn available_size(image: &[u8]) -> usize
 
 // The list of all commands of an image.
 pub fn show_available_commands(image: &[u8], out: &mut [u8]) -> Shown
-    requires { ⌜ length (now image) ≤ 32768 ⌝ }
+    requires { ⌜ length (now image) ≤ imageLimit ⌝ }
     ensures { λ r. ⌜ Showing (availableText (framesOf (now (image .entry)))) (now (out .entry)) r (now (out .exit)) ⌝ }
 {
     let needed = available_size(image);

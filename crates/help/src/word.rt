@@ -7,12 +7,12 @@ use text::next_word;
 ghost use Prim.Native.Nat.{_+_, _*_, _<_};
 ghost use lib.ListN.{length};
 ghost use Rattle.text.specs.Apart.{wordsBetween};
-ghost use Rattle.buffer.specs.Inks.{InkedFrom};
+ghost use Rattle.buffer.specs.Inks.{InkedFrom, countLimit};
 ghost use Rattle.help.specs.Texts.{spaced};
 
 // The words of a line, each behind a space.
 pub fn put_words(line: &[u8], out: &mut [u8], at: usize) -> usize
-    requires { ⌜ at + 64 * length (now line) < 4294967296 ⌝ }
+    requires { ⌜ at + 64 * length (now line) < countLimit ⌝ }
     ensures { λ r. ⌜ InkedFrom (now (line .entry)) (spaced (wordsBetween (now (line .entry)))) (now (out .entry)) at r (now (out .exit)) ⌝ }
 {
     let mut place = 0;

@@ -11,7 +11,7 @@ use borrow.Author.Tests.{le-leb, lt-leb, ne-eqb}
 use Rattle.buffer.proofs.Lists.{drop-step, drop-end}
 use Rattle.buffer.proofs.Lending.{rest-lent}
 use Rattle.image.specs.Limits.{both, shown, allShown}
-use Rattle.image.specs.Blocks.{strange, strangest}
+use Rattle.image.specs.Inner.{strange, strangest}
 use Rattle.image.proofs.Fields.{both-second}
 
 module _ (low b : ℕ) where

@@ -13,7 +13,8 @@ use denote.Enum.Declared.{tagOf}
 use Rattle.image.proofs.head.Head.{the-type}
 use Rattle.frame.specs.Text.{Bytes}
 use Rattle.image.specs.Limits.{fair}
-use Rattle.image.specs.Reading.{strictly, Small, nodeLengths, definitionLengths, nodeFirst, optionFirst, flagFirst, headFirst, strictFirst, nodeIn, optionIn, flagIn, definedIn}
+use Rattle.image.specs.Reading.{strictly, Small, nodeLengths, definitionLengths, nodeFirst, optionFirst, flagFirst, headFirst, strictFirst, nodeIn, optionIn, flagIn}
+use Rattle.image.specs.Inner.{definedIn}
 use Rattle.image.specs.declared.head.Lengths.{Lengths}
 use Rattle.image.specs.declared.head.Head.{Head}
 use Rattle.image.specs.declared.head.Head.the-variants.{Node, Option, Flag, Bad, End}

@@ -1,12 +1,11 @@
 -- How the first frame of bytes is read: its numbers and the lengths of its texts, a byte past the end being 0.
 use Prim.Native.Nat.{ℕ, _+_, _*_, _<_}
-use mathlib.Core.Path.{_≡_}
-use mathlib.Core.Bool.{Bool, cond}
+use mathlib.Core.Bool.{cond}
 use mathlib.Core.List.{List}
 use lib.Dec.{leb, eqb}
 use lib.ListN.{length, take, drop, getD}
 use Rattle.image.specs.Frames.{Perhaps, absent, present, Frame, node, option, flag}
-use Rattle.image.specs.Limits.{definable, fair}
+use Rattle.image.specs.Limits.{fair}
 use Rattle.image.specs.declared.head.Lengths.{Lengths}
 use Rattle.image.specs.declared.head.Head.{Head}
 use Rattle.image.specs.declared.head.Head.the-variants.{Node, Option, Flag, Bad, End}
@@ -74,9 +73,6 @@ optionIn s required short texts = option required short (nameIn s 3 texts) (long
 
 unfoldable pub flagIn : List ℕ → ℕ → Lengths → Frame
 flagIn s short texts = flag short (nameIn s 2 texts) (longIn s 2 texts) (noteIn s 2 texts)
-
-unfoldable pub definedIn : List ℕ → ℕ → ℕ → Lengths → Bool
-definedIn s p short texts = definable short (nameIn s p texts) (longIn s p texts) (noteIn s p texts)
 
 -- a head whose frame is within the limits
 abbrev pub strictly : List ℕ → Head → Head

@@ -8,9 +8,9 @@ use buffer::rest;
 ghost use mathlib.Core.Path.{_≡_};
 ghost use Prim.Native.Nat.{ℕ, _≤_, _<_, max};
 ghost use lib.ListN.{length, drop};
-ghost use Rattle.image.specs.Blocks.{strange};
-ghost use Rattle.image.specs.Limits.{allShown, isName, isNote, isShort, optionally, definable, fair};
-ghost use Rattle.image.specs.Reading.{Small, perhapsIn, definedIn, nodeIn, strictFirst};
+ghost use Rattle.image.specs.Inner.{strange, definedIn};
+ghost use Rattle.image.specs.Limits.{allShown, isName, isNote, isShort, optionally, fair};
+ghost use Rattle.image.specs.Reading.{Small, perhapsIn, nodeIn, strictFirst};
 
 // The largest byte of a text, 7E.
 const LAST: u8 = 0x7E;

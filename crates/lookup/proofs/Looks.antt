@@ -16,7 +16,8 @@ use Rattle.image.specs.Reading.{perhapsIn, headFirst, read, readBy, readFirst, 
 use Rattle.image.specs.declared.head.Lengths.{Lengths}
 use Rattle.image.specs.declared.head.Head.{Head}
 use Rattle.image.specs.declared.head.Head.the-variants.{Node as NodeHead, Option as OptionHead, Flag as FlagHead, Bad, End}
-use Rattle.lookup.specs.Searches.{keyed, hitOr, lookAt, lookBy}
+use Rattle.lookup.specs.Searches.{keyed}
+use Rattle.lookup.specs.Inner.{hitOr, lookAt, lookBy}
 use Rattle.lookup.specs.declared.look.Sought.{Sought}
 use Rattle.lookup.specs.declared.look.Sought.the-variants.{Node, Upper, OptionKeyed}
 use Rattle.lookup.specs.declared.look.Look.{Look}

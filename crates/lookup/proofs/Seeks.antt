@@ -15,7 +15,7 @@ use Rattle.image.proofs.Encoding.{read-within, read-size, read-ended}
 use Rattle.tree.specs.Images.{framesIn, framesOf}
 use Rattle.tree.proofs.Items.{items-broken, items-none, frames-read}
 use Rattle.lookup.specs.Spots.{shifted, placeOf, spot}
-use Rattle.lookup.specs.Searches.{hitOr, lookBy}
+use Rattle.lookup.specs.Inner.{hitOr, lookBy}
 use Rattle.lookup.specs.declared.seek.Spot.{Spot}
 use Rattle.lookup.specs.declared.seek.Spot.the-variants.{At, Nothing}
 use Rattle.lookup.specs.declared.look.Look.{Look}

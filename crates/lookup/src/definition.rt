@@ -10,7 +10,8 @@ ghost use mathlib.Core.Path.{_≡_};
 ghost use Rattle.image.specs.Reading.{readFirst};
 ghost use Rattle.lookup.specs.Spots.{spot};
 ghost use Rattle.lookup.specs.Searches.{wanted, endedBy};
-ghost use Rattle.lookup.specs.Definitions.{hasKey, hasShort, shortIs, flagOr, defined, orElse, matchBy};
+ghost use Rattle.lookup.specs.Definitions.{hasKey, hasShort, shortIs, flagOr, defined};
+ghost use Rattle.lookup.specs.Inner.{orElse, matchBy};
 ghost use Rattle.lookup.specs.declared.look.Sought.the-variants.{OptionKeyed};
 ghost use Rattle.lookup.specs.declared.seek.Spot.the-variants.{At as SpotAt, Nothing as NoSpot};
 

@@ -7,7 +7,8 @@ use image::head_of;
 ghost use mathlib.Core.Path.{_≡_};
 ghost use Prim.Native.Nat.{ℕ, _≤_};
 ghost use Rattle.image.specs.Reading.{Small, nameIn, longIn, nodeIn, optionIn, readFirst};
-ghost use Rattle.lookup.specs.Searches.{keyed, wanted, endedBy, hitOr, lookAt, lookBy};
+ghost use Rattle.lookup.specs.Searches.{keyed, wanted, endedBy};
+ghost use Rattle.lookup.specs.Inner.{hitOr, lookAt, lookBy};
 
 // What is sought.
 pub enum Sought {

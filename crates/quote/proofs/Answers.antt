@@ -8,7 +8,7 @@ use Rattle.buffer.specs.Write.{over}
 use Rattle.buffer.proofs.Choices.{then-is, else-is}
 use Rattle.quote.specs.Given.{listed, Judged, bad, fine, onJudged, judgeWords}
 use Rattle.quote.specs.Answer.{quoteLine, lineAnswer, quoteAnswer, lineOf, leavesBy, quoteLeaves, Quotation}
-use Rattle.quote.specs.Steps.{measured, IsFine}
+use Rattle.quote.specs.Inner.{measured, IsFine}
 use Rattle.quote.specs.declared.quoter.Quoted.{Quoted}
 use Rattle.quote.specs.declared.quoter.Quoted.the-variants.{Line, BadWord, LineTooLong, NoRoom}
 use Rattle.quote.specs.declared.quoter.Measured.{Measured}

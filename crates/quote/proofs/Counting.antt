@@ -16,7 +16,7 @@ use Rattle.quote.specs.Given.{listed, Judged, bad, fine, onJudged, befor
 use Rattle.quote.specs.Shown.{shown}
 use Rattle.quote.specs.Joined.{gapBefore, joinedFrom, joined}
 use Rattle.quote.specs.Answer.{quoteLine, lineOf}
-use Rattle.quote.specs.Steps.{itemFirst, measured, IsFine}
+use Rattle.quote.specs.Inner.{itemFirst, measured, IsFine}
 use Rattle.quote.specs.declared.given.Item.the-variants.{Bad as NoWord}
 use Rattle.quote.specs.declared.quoter.Measured.{Measured}
 use Rattle.quote.specs.declared.quoter.Measured.the-variants.{Needs, Bad}

@@ -28,7 +28,7 @@ use Rattle.words.proofs.GoodWords.{Each, nothing, also, Good}
 use Rattle.quote.specs.Given.{Listed, done, broken, word, listedFrom, listed, goodWord, Judged, bad, fine, before, judgeWords}
 use Rattle.quote.specs.Joined.{gapBefore, joinedFrom, joined}
 use Rattle.quote.specs.Answer.{quoteLine}
-use Rattle.quote.specs.Steps.{itemFirst}
+use Rattle.quote.specs.Inner.{itemFirst}
 use Rattle.quote.specs.declared.given.Item.{Item}
 use Rattle.quote.specs.declared.given.Item.the-variants.{Word, Bad}
 use Rattle.quote.proofs.Listing.{good-some, good-formed, item-told, judge-first, judge-bad}

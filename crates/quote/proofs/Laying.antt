@@ -13,7 +13,7 @@ use Rattle.text.specs.declared.utf8.Decoded.the-variants.{Character}
 use Rattle.quote.specs.Given.{listed, judgeWords}
 use Rattle.quote.specs.Shown.{special, escaped, shown}
 use Rattle.quote.specs.Joined.{gapBefore}
-use Rattle.quote.specs.Steps.{escapedBytes, IsFine}
+use Rattle.quote.specs.Inner.{escapedBytes, IsFine}
 use Rattle.quote.proofs.Listing.{WordTold}
 use Rattle.quote.proofs.Showing.{escaped-turn}
 use Rattle.quote.proofs.Counting.{restLine, rest-turn}

@@ -21,7 +21,7 @@ use Rattle.frame.proofs.framed.Framed.{the-type}
 use Rattle.frame.proofs.Frames.{frame-within}
 use Rattle.quote.specs.Given.{Listed, broken, word, listedFrom, listed, goodWord, bad, fine, before, judgeWords}
 use Rattle.quote.specs.Shown.{shown}
-use Rattle.quote.specs.Steps.{itemOf, itemFirst, plainWord}
+use Rattle.quote.specs.Inner.{itemOf, itemFirst, plainWord}
 use Rattle.text.proofs.Prefix.{prefix-fits}
 use Rattle.quote.proofs.Showing.{plain-formed, shown-plain}
 use Rattle.quote.specs.declared.given.Item.{Item}

@@ -5,7 +5,7 @@ use lib.Dec.{eqb}
 use types.Run.{OneOf, hit, miss}
 use denote.Enum.Declared.{tagOf}
 use Rattle.text.proofs.utf8.Decoded.{the-type}
-use Rattle.words.specs.Scan.{ordinaryFirst}
+use Rattle.words.specs.Ordinary.{ordinaryFirst}
 use Rattle.words.proofs.Runs.{ordinary-told}
 use mathlib.Core.Bool.{Bool, true, false, cond}
 use Prim.Native.Nat.{_<_, ℕ, suc, _+_, _-_, _*_, _≤_}
@@ -21,7 +21,7 @@ use Rattle.text.specs.declared.utf8.Decoded.{Decoded}
 use Rattle.text.specs.declared.utf8.Decoded.the-variants.{Character, IllFormed, End}
 use Rattle.text.proofs.Pieces.{character-some, character-fits, character-bytes, encode-some}
 use Rattle.text.proofs.Prefix.{codes-step, codes-stop, codes-end, codes-whole, prefix-step, prefix-none, encode-append}
-use Rattle.quote.specs.Steps.{quietOf, quietFirst, plainWord, specials, escapedBytes}
+use Rattle.quote.specs.Inner.{quietOf, quietFirst, plainWord, specials, escapedBytes}
 
 -- what is still to come of a well-formed word begins with a character
 pub formed-on : (w : List ℕ) (at : ℕ) (d : Decoded) → at + wellFormedLength (drop at w) ≡ length w → decodeFirst (drop at w) ≡ d → OneOf (1 ∷ 2 ∷ []) (tagOf the-type d) → at < length w → ⊥

@@ -5,6 +5,7 @@ use mathlib.Core.Bool.{cond}
 use mathlib.Core.List.{List, [], map}
 use lib.Dec.{ltb}
 use lib.ListN.{length}
+use Rattle.frame.specs.Limits.{lineLimit, valueLimit}
 use Rattle.buffer.specs.Write.{over}
 use Rattle.quote.specs.Given.{listed, judgeWords, onJudged}
 use Rattle.quote.specs.Shown.{shown}
@@ -19,7 +20,7 @@ quoteLine words = joined (map shown words)
 -- the answer for a line of n bytes and a buffer of `room` bytes
 unfoldable pub lineAnswer : ℕ → ℕ → Quoted
 lineAnswer n room =
-    cond (ltb 1024 n) (LineTooLong (min n 65535))
+    cond (ltb lineLimit n) (LineTooLong (min n valueLimit))
     (cond (ltb room n) (NoRoom n)
     (Line n))
 

@@ -2,7 +2,7 @@
 ghost use Prim.Native.Nat.{_+_, _≤_};
 ghost use mathlib.Core.Path.{_≡_};
 ghost use lib.ListN.{length, drop};
-ghost use Rattle.quote.specs.Steps.{itemOf, itemFirst};
+ghost use Rattle.quote.specs.Inner.{itemOf, itemFirst};
 use super::word::is_plain;
 use super::word::quoted_size;
 use frame::Framed;

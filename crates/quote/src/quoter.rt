@@ -9,7 +9,7 @@ ghost use Rattle.quote.specs.Given.{listed, judgeWords};
 ghost use Rattle.quote.specs.Shown.{shown};
 ghost use Rattle.quote.specs.Joined.{gapBefore};
 ghost use Rattle.quote.specs.Answer.{lineOf, Quotation};
-ghost use Rattle.quote.specs.Steps.{measured, IsFine};
+ghost use Rattle.quote.specs.Inner.{measured, IsFine};
 use super::given::Item;
 use super::given::word_at;
 use super::word::push_shown;

@@ -7,7 +7,7 @@ ghost use Rattle.buffer.specs.Write.{Pushed};
 ghost use Rattle.text.specs.Unicode.{encodeAll};
 ghost use Rattle.text.specs.Decoding.{codesIn, wellFormedLength};
 ghost use Rattle.quote.specs.Shown.{special, quoting, escaped, shown};
-ghost use Rattle.quote.specs.Steps.{quietFirst, plainWord, specials, escapedBytes};
+ghost use Rattle.quote.specs.Inner.{quietFirst, plainWord, specials, escapedBytes};
 use buffer::push;
 use buffer::push_byte;
 use text::Decoded;

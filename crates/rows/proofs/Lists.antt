@@ -21,7 +21,7 @@ use Rattle.buffer.specs.Ascii.{ascii}
 use Rattle.buffer.specs.Inks.{Inked, InkedFrom, Countable}
 use Rattle.buffer.proofs.Inking.{inked-nothing, inked-both, inked-as, cond-most}
 use Rattle.rows.specs.Rows.{blanks, padded, shortThen, shownAs, requiredMark, entry, optionRow, flagRow, nodeRow, rowOf, endsList, rows, titled}
-use Rattle.rows.specs.Steps.{rowBy, sizeBy}
+use Rattle.rows.specs.Inner.{rowBy, sizeBy}
 use Rattle.rows.specs.declared.row.Listing.{Listing}
 use Rattle.rows.specs.declared.row.Listing.the-variants.{Options, Flags, Subcommands, Commands}
 use Rattle.rows.proofs.OneRow.{blanks-length}

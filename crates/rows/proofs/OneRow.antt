@@ -19,7 +19,7 @@ use Rattle.image.proofs.HeadBytes.{view, definition-small}
 use Rattle.buffer.specs.Ascii.{ascii}
 use Rattle.buffer.specs.Inks.{Inked, Countable}
 use Rattle.rows.specs.Rows.{blanks, padded, shortThen, shownAs, entry, requiredMark, optionRow, nodeRow, rowOf, endsList}
-use Rattle.rows.specs.Steps.{labelIn, Measured, rowBy, sizeBy}
+use Rattle.rows.specs.Inner.{labelIn, Measured, rowBy, sizeBy}
 use Rattle.rows.specs.declared.row.Listing.{Listing}
 use Rattle.rows.specs.declared.row.Listing.the-variants.{Options, Flags, Subcommands, Commands}
 use Rattle.rows.proofs.row.Listing.{the-type}

@@ -1,11 +1,13 @@
 -- The rows of the Rust's lists: options, flags and subcommands of a node, and the commands of a tree.
-use Prim.Native.Nat.{ℕ, _-_}
+use Prim.Native.Nat.{ℕ, _+_, _-_, _*_, _≤_}
 use mathlib.Core.Bool.{Bool, true, false, cond}
 use mathlib.Core.List.{List, [], _∷_, _++_}
 use lib.Dec.{eqb}
 use lib.ListN.{length, replicate}
 use Rattle.image.specs.Frames.{Perhaps, absent, present, Frame, node, option, flag}
 use Rattle.buffer.specs.Ascii.{ascii}
+use Rattle.buffer.specs.Inks.{Inked}
+use Rattle.tree.specs.Images.{framesOf}
 use Rattle.rows.specs.declared.row.Listing.{Listing}
 use Rattle.rows.specs.declared.row.Listing.the-variants.{Options, Flags, Subcommands, Commands}
 
@@ -79,3 +81,8 @@ rows listing (f ∷ l) = cond (endsList listing f) [] (rowOf listing f ++ rows l
 -- a list stands behind its title; an empty one has none
 unfoldable pub titled : List ℕ → List ℕ → List ℕ
 titled title list = cond (eqb (length list) 0) [] (title ++ list)
+
+-- what a writer of such a list leaves: its text, which ends at most 64 times as far on as the frames are long
+abbrev pub TitledRows : List ℕ → List ℕ → Listing → List ℕ → ℕ → ℕ → List ℕ → Type 0
+TitledRows title frames listing out at r left =
+    Inked (titled title (rows listing (framesOf frames))) out at r left × (r ≤ at + length title + 64 * length frames)

@@ -13,7 +13,7 @@ ghost use Rattle.image.specs.Reading.{Small, noteIn, nodeIn, optionIn, flagIn, 
 ghost use Rattle.buffer.specs.Ascii.{ascii};
 ghost use Rattle.buffer.specs.Inks.{Inked, Countable};
 ghost use Rattle.rows.specs.Rows.{blanks, shortThen, entry, nodeRow, rowOf, endsList};
-ghost use Rattle.rows.specs.Steps.{labelIn, Measured, rowBy, sizeBy};
+ghost use Rattle.rows.specs.Inner.{labelIn, Measured, rowBy, sizeBy};
 
 // What is listed.
 pub enum Listing {

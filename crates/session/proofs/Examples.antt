@@ -4,8 +4,9 @@ use mathlib.Core.Path.{_≡_, refl}
 use mathlib.Core.List.{List, [], _∷_, _++_}
 use Rattle.buffer.specs.Write.{overIfFits}
 use Rattle.text.specs.Unicode.{encode, encodeAll}
-use Rattle.text.specs.Decoding.{leastSecond, greatestSecond, within, decodeTwo, decodeThree, decodeFour, table, decodeFirst, letter, letterHead, letterFirst, piecesFrom, piecesOf, bytesAll, codesOf, codesIn, wellFormedLength}
-use Rattle.text.specs.Space.{whiteSpace, among, isWhiteSpace, lowWhite, gap}
+use Rattle.text.specs.Decoding.{leastSecond, greatestSecond, within, decodeTwo, decodeThree, decodeFour, table, decodeFirst, letter, letterFirst, piecesFrom, piecesOf, bytesAll, codesOf, codesIn, wellFormedLength}
+use Rattle.text.specs.Inner.{letterHead, lowWhite, gap}
+use Rattle.text.specs.Space.{whiteSpace, among, isWhiteSpace}
 use Rattle.text.specs.Apart.{runOf, behindRun, trimEnd, trimmed, allWhite, blank, wordsAfter, wordsBetween, nextWord}
 use Rattle.buffer.specs.Compare.{order, sameBytes}
 use Rattle.frame.specs.Text.{Bytes, numberBytes, numberOf, textOf, readText}
@@ -14,7 +15,8 @@ use Rattle.frame.specs.Series.{textsFrom, textsIn, runs}
 use Rattle.frame.specs.House.{houseLine, ended, digitsOf, readDigits, readHouse, houseLeaves, writeHouse}
 use Rattle.frame.specs.Hex.{digitOf, hexOf, digitValue, pairOf, unhex, firstBad}
 use Rattle.image.specs.Frames.{text, perhaps, encode as encodeImage}
-use Rattle.image.specs.Reading.{span, nodeLengths, definitionLengths, nodeFirst, optionFirst, flagFirst, headFirst, perhapsIn, nodeIn, optionIn, flagIn, definedIn, strictFirst, readFirst}
+use Rattle.image.specs.Reading.{span, nodeLengths, definitionLengths, nodeFirst, optionFirst, flagFirst, headFirst, perhapsIn, nodeIn, optionIn, flagIn, strictFirst, readFirst}
+use Rattle.image.specs.Inner.{definedIn}
 use Rattle.image.specs.Limits.{allShown, isName, isNote, isShort, definable, fair}
 use Rattle.tree.specs.Images.{itemsFrom, items, framesIn, framesOf, flat}
 use Rattle.tree.specs.Rules.{rises, follows, obeys, after, judgeItems, obeyAll, checkTree}

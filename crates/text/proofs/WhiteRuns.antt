@@ -14,7 +14,8 @@ use Rattle.text.proofs.Encoding.{decode-sound}
 use Rattle.text.specs.Decoding.{decodeFirst, Piece, piecesOf, bytesOf, bytesAll}
 use Rattle.text.specs.declared.apart.Seen.{Seen}
 use Rattle.text.specs.declared.apart.Seen.the-variants.{Here, End}
-use Rattle.text.specs.Apart.{white, seenFirst, runOf, trimEnd, beforeEnd}
+use Rattle.text.specs.Apart.{white, runOf, trimEnd, beforeEnd}
+use Rattle.text.specs.Inner.{seenFirst}
 use Rattle.text.proofs.Pieces.{Front, nothing, first, front, piece-some, pieces-none, pieces-character, pieces-stray, begins}
 
 -- a piece of n bytes begins the text, white space or not

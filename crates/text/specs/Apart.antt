@@ -5,20 +5,13 @@ use mathlib.Core.List.{List, [], _∷_, _++_, map}
 use lib.ListN.{length}
 use Rattle.text.specs.declared.apart.Word.{Word}
 use Rattle.text.specs.declared.apart.Word.the-variants.{At, Nothing}
-use Rattle.text.specs.declared.apart.Seen.{Seen}
-use Rattle.text.specs.declared.apart.Seen.the-variants.{Here, End}
-use Rattle.text.specs.Decoding.{Piece, character, stray, piecesOf, bytesOf, bytesAll}
+use Rattle.text.specs.Decoding.{Piece, character, stray, piecesOf, bytesAll}
 use Rattle.text.specs.Space.{isWhiteSpace}
 
 -- a stray byte is no white space
 abbrev pub white : Piece → Bool
 white (character code) = isWhiteSpace code
 white (stray b) = false
-
--- what pieces begin with, as white space goes, and its length in bytes
-abbrev pub seenFirst : List Piece → Seen
-seenFirst [] = End
-seenFirst (p ∷ pieces) = Here (white p) (length (bytesOf p))
 
 -- the run that pieces begin with, of white space or of anything else, and what lies behind it
 unfoldable pub runOf : Bool → List Piece → List Piece

@@ -31,7 +31,8 @@ use Rattle.tree.specs.Rules.{obeys, checkTree}
 use Rattle.tree.specs.Steps.{textFirst, nameAt, seenBy, startWalk, passed as walked, stepBy}
 use Rattle.tree.specs.Subtrees.{isNamed, isUpper, upTo, onFrom, rooted, subtree}
 use Rattle.tree.specs.Commands.{Reached, onSubtree, descend, reachedBy}
-use Rattle.tree.specs.Trails.{imagePart, Descended, Leads, Finding, allFair, nextIn, Ahead, foundBy, startTrail, isAbove, Inside, Trailed, inside, beyond, Passing}
+use Rattle.tree.specs.Trails.{imagePart, Descended, Leads, Finding}
+use Rattle.tree.specs.Inner.{allFair, nextIn, Ahead, foundBy, startTrail, isAbove, Inside, Trailed, inside, beyond, Passing}
 use Rattle.tree.specs.declared.walk.Walk.{Walk}
 use Rattle.tree.specs.declared.walk.Step.{Step}
 use Rattle.tree.specs.declared.command.Place.{Place}

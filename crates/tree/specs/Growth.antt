@@ -8,7 +8,7 @@ use lib.ListN.{length}
 use Rattle.buffer.specs.Write.{overAt}
 use Rattle.image.specs.Limits.{both}
 use Rattle.image.specs.Reading.{Read, read, broken, ended, readFirst}
-use Rattle.tree.specs.Rules.{Seen, obeys, checkTree}
+use Rattle.tree.specs.Rules.{Seen, obeys, checkTree, imageLimit}
 use Rattle.tree.specs.Steps.{seenBy, passed, stepIf}
 use Rattle.tree.specs.declared.check.Checked.{Checked}
 use Rattle.tree.specs.declared.check.Checked.the-variants.{Good, BadFrame}
@@ -35,7 +35,7 @@ takes image bytes = both (oneFrame bytes) (isGood (checkTree (image ++ bytes)))
 -- the same by a walk that has passed the image, so that the image is not read again: its numbers are in range, there is room, and the frame
 -- obeys after what the walk has seen
 unfoldable pub hasRoom : Walk → ℕ → ℕ → Bool
-hasRoom walk size room = both (leb (walk .deep) 8) (both (leb (walk .at + size) 32768) (leb (walk .at + size) room))
+hasRoom walk size room = both (leb (walk .deep) 8) (both (leb (walk .at + size) imageLimit) (leb (walk .at + size) room))
 
 abbrev pub obeysBy : Seen → Read → Bool
 obeysBy seen (read f n) = obeys seen f

@@ -8,3 +8,4 @@ pub mod Commands
 pub mod Trails
 pub mod Forest
 pub mod Growth
+pub mod Inner

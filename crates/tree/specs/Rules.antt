@@ -62,6 +62,10 @@ unfoldable pub obeyAll : Seen → List Frame → Bool
 obeyAll seen [] = true
 obeyAll seen (f ∷ l) = both (obeys seen f) (obeyAll (after seen f) l)
 
+-- the bytes of an image
+abbrev pub imageLimit : ℕ
+imageLimit = 32768
+
 -- the byte limit is tested first and gives 0
 unfoldable pub checkTree : List ℕ → Checked
-checkTree image = cond (ltb 32768 (length image)) (BadFrame 0) (judgeItems start 0 (items image))
+checkTree image = cond (ltb imageLimit (length image)) (BadFrame 0) (judgeItems start 0 (items image))

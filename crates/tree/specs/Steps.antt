@@ -4,9 +4,9 @@ use mathlib.Core.Path.{_≡_}
 use mathlib.Core.Bool.{Bool, false, cond}
 use mathlib.Core.List.{List, map}
 use lib.ListN.{length, take, drop, getD, set, replicate}
-use Rattle.image.specs.Frames.{Perhaps, Frame, node, option, flag}
+use Rattle.image.specs.Frames.{Frame, node, option, flag}
 use Rattle.image.specs.Reading.{Read, read, broken, ended}
-use Rattle.tree.specs.Rules.{Seen, follows, obeys}
+use Rattle.tree.specs.Rules.{Seen, obeys}
 use Rattle.tree.specs.declared.walk.Walk.{Walk}
 use Rattle.tree.specs.declared.walk.Step.{Step}
 
@@ -57,16 +57,3 @@ unfoldable pub stepBy : Seen → Walk → Read → Step
 stepBy seen walk (read f n) = stepIf (obeys seen f) walk (passed walk f n)
 stepBy seen walk broken = stepIf false walk walk
 stepBy seen walk ended = stepIf false walk walk
-
--- the same for a frame of each kind, of which only what the rules ask counts
-abbrev pub NodeStepped : List ℕ → Walk → ℕ → List ℕ → ℕ → Step → Type 0
-NodeStepped image walk depth name size r =
-    (h : ℕ) (ds : List ℕ) (u : Perhaps) → r ≡ stepIf (follows (seenBy image walk) (node depth h name ds u)) walk (afterNode walk depth size)
-
-abbrev pub OptionStepped : List ℕ → Walk → ℕ → Step → Type 0
-OptionStepped image walk size r =
-    (q c : ℕ) (n : List ℕ) (l : Perhaps) (ds : List ℕ) → r ≡ stepIf (follows (seenBy image walk) (option q c n l ds)) walk (afterOption walk size)
-
-abbrev pub FlagStepped : List ℕ → Walk → ℕ → Step → Type 0
-FlagStepped image walk size r =
-    (c : ℕ) (n : List ℕ) (l : Perhaps) (ds : List ℕ) → r ≡ stepIf (follows (seenBy image walk) (flag c n l ds)) walk (afterFlag walk size)

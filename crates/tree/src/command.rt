@@ -6,10 +6,10 @@ use buffer::same;
 use frame::Framed;
 use frame::read_frame;
 ghost use mathlib.Core.Path.{_≡_};
-ghost use Prim.Native.Nat.{_+_, _≤_, _<_};
-ghost use lib.ListN.{length, drop, getD};
+ghost use Prim.Native.Nat.{_+_, _<_};
+ghost use lib.ListN.{length, drop};
 ghost use Rattle.frame.specs.Framed.{frameFirst};
-ghost use Rattle.tree.specs.Trails.{nextIn, foundBy, Ahead, startTrail, Passing};
+ghost use Rattle.tree.specs.Inner.{nextIn, foundBy, Ahead, startTrail, Passing, AtFrame, AtChild};
 ghost use Rattle.tree.specs.declared.command.Next.the-variants.{Word};
 
 // A part of the image, and the place in the words behind the path that leads to it.
@@ -81,8 +81,8 @@ impl Trail {
     // The child at a place of the image is passed, and a word of that length is next: the child is followed if that is its name. Names of one
     // list often begin alike, so lengths and last bytes are compared first.
     fn after_name(self, words: &[u8], image: &[u8], at: usize, bytes: usize) -> Trail
-        requires { ⌜ (length (now words) ≤ 4096) × (length (now image) ≤ 32768) × (at < length (now image)) × Ahead (now words) self ⌝ }
-        requires { ⌜ (getD (now image) at 0 ≡ 1) × (getD (now image) (at + 1) 0 ≡ self .depth) × (length (now image) ≤ self .place .end) × (self .depth < 256) ⌝ }
+        requires { ⌜ AtFrame (now words) (now image) at self ⌝ }
+        requires { ⌜ AtChild (now image) at self ⌝ }
         requires { ⌜ self .next ≡ Word bytes ⌝ }
         ensures { λ r. ⌜ Passing (now (words .entry)) (now (image .entry)) at self r × Ahead (now (words .entry)) r ⌝ }
     {
@@ -110,8 +110,8 @@ impl Trail {
 
     // The child at a place of the image is passed: if a word is next, it may be its name.
     fn after_child(self, words: &[u8], image: &[u8], at: usize) -> Trail
-        requires { ⌜ (length (now words) ≤ 4096) × (length (now image) ≤ 32768) × (at < length (now image)) × Ahead (now words) self ⌝ }
-        requires { ⌜ (getD (now image) at 0 ≡ 1) × (getD (now image) (at + 1) 0 ≡ self .depth) × (length (now image) ≤ self .place .end) × (self .depth < 256) ⌝ }
+        requires { ⌜ AtFrame (now words) (now image) at self ⌝ }
+        requires { ⌜ AtChild (now image) at self ⌝ }
         ensures { λ r. ⌜ Passing (now (words .entry)) (now (image .entry)) at self r × Ahead (now (words .entry)) r ⌝ }
     {
         let next = self.next;
@@ -123,7 +123,7 @@ impl Trail {
 
     // The frame at a place of the image is passed.
     pub fn after(self, words: &[u8], image: &[u8], at: usize) -> Trail
-        requires { ⌜ (length (now words) ≤ 4096) × (length (now image) ≤ 32768) × (at < length (now image)) × Ahead (now words) self ⌝ }
+        requires { ⌜ AtFrame (now words) (now image) at self ⌝ }
         ensures { λ r. ⌜ Passing (now (words .entry)) (now (image .entry)) at self r × Ahead (now (words .entry)) r ⌝ }
     {
         if image[at] != 0x01 {

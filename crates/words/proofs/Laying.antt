@@ -19,7 +19,7 @@ use Rattle.words.specs.declared.role.Role.the-variants.{Take, Escape, To
 use Rattle.words.specs.declared.counting.Scan.{Scan}
 use Rattle.words.specs.Tokens.{wordFrames}
 use Rattle.words.specs.Answer.{written}
-use Rattle.words.specs.Scan.{closedAt, closedBy, advanced, headed, putBy, Reading}
+use Rattle.words.specs.Inner.{closedAt, closedBy, advanced, headed, putBy, Reading}
 use Rattle.words.proofs.OpenWords.{closed-some, headed-none, headed-some, take-room, gap-room}
 use Rattle.words.proofs.Standing.{shown, Standing, standing-start, standing-turn, standing-room, word-none, all-ended, length-ended}
 

@@ -9,7 +9,7 @@ use Rattle.frame.specs.Text.{numberBytes}
 use Rattle.words.specs.declared.role.Role.{Role}
 use Rattle.words.specs.declared.role.Role.the-variants.{Take, Escape, Toggle, Gap}
 use Rattle.words.specs.declared.counting.Scan.{Scan}
-use Rattle.words.specs.Scan.{closedAt, closedBy, advanced, headed}
+use Rattle.words.specs.Inner.{closedAt, closedBy, advanced, headed}
 
 pub closed-none : (done word : ℕ) → word ≡ 0 → closedAt done word ≡ done
 unfolding closedAt

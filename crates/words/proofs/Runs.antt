@@ -27,7 +27,8 @@ use Rattle.words.specs.declared.role.Role.{Role}
 use Rattle.words.specs.declared.role.Role.the-variants.{Take, Escape, Toggle, Gap}
 use Rattle.words.specs.declared.counting.Scan.{Scan}
 use Rattle.words.specs.Tokens.{backslash, quote, roleOf, tokensFrom}
-use Rattle.words.specs.Scan.{ordinary, ordinaryFirst, doneBy, isTake, runFirst, Reading, StepOf, Run, WholeRun}
+use Rattle.words.specs.Inner.{doneBy, isTake, runFirst, Reading, StepOf, Run, WholeRun}
+use Rattle.words.specs.Ordinary.{ordinary, ordinaryFirst}
 use Rattle.words.specs.declared.step.Step.{Step}
 use Rattle.words.specs.declared.step.Step.the-variants.{Go, IllFormed}
 use Rattle.words.proofs.role.Role.{the-type}

@@ -18,7 +18,7 @@ use Rattle.words.specs.declared.role.Role.the-variants.{Take, Escape, To
 use Rattle.words.specs.declared.counting.Scan.{Scan}
 use Rattle.words.specs.Tokens.{roleOf, onRole, tokensFrom, tokens, wordsOf, wordFrames}
 use Rattle.words.specs.Answer.{written}
-use Rattle.words.specs.Scan.{closedAt, closedBy, advanced, measured, doneBy, Reading}
+use Rattle.words.specs.Inner.{closedAt, closedBy, advanced, measured, doneBy, Reading}
 use Rattle.words.specs.declared.tokenizer.Measured.the-variants.{Needs, IllFormed}
 use Rattle.buffer.proofs.Choices.{then-is, else-is}
 use borrow.Author.Tests.{lt-ltb, le-ltb}

@@ -2,7 +2,7 @@
 use Rattle.quote.proofs.Listing.{item-none}
 use Rattle.quote.proofs.Laying.{Laying, laying-start, laying-end, word-room, word-turn}
 use Rattle.quote.proofs.Counting.{fine-word, word-within, word-formed, restLine, rest-start, rest-bad, rest-end, fine-turn}
-use Rattle.quote.specs.Steps.{IsFine}
+use Rattle.quote.specs.Inner.{IsFine}
 use Rattle.quote.specs.Answer.{lineOf}
 use Rattle.quote.specs.Given.{listed, judgeWords}
 use Rattle.buffer.proofs.Lending.{overAt-front}

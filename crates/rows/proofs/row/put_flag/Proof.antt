@@ -1,7 +1,7 @@
 -- `rows::row::put_flag` meets its contract: its entry and the end of the line.
 use Rattle.buffer.proofs.Inking.{counts-first, counts-then, inked-both}
 use Rattle.rows.specs.Rows.{entry, flagRow}
-use Rattle.rows.specs.Steps.{labelIn}
+use Rattle.rows.specs.Inner.{labelIn}
 use Rattle.buffer.specs.Ascii.{ascii}
 use Rattle.image.specs.Reading.{flagIn, noteIn}
 use borrow.Author.Needs.{needs}

@@ -7,7 +7,7 @@ use mathlib.Core.List.{List, _++_}
 use Rattle.rows.proofs.OneRow.{option-marked, option-plain}
 use Rattle.buffer.proofs.Inking.{counts-first, counts-then, counts-as, inked-both, inked-as}
 use Rattle.rows.specs.Rows.{entry, optionRow, requiredMark}
-use Rattle.rows.specs.Steps.{labelIn}
+use Rattle.rows.specs.Inner.{labelIn}
 use Rattle.buffer.specs.Ascii.{ascii}
 use Rattle.image.specs.Reading.{optionIn, noteIn}
 use Rattle.rows.proofs.row.put_option.Statement.{statement}

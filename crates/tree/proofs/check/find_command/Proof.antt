@@ -5,7 +5,7 @@ use native.Mathlib.Omega.{arith}
 use borrow.Author.Tests.{not-true, not-false}
 use borrow.Author.Needs.{needs}
 use lib.ListN.{length}
-use Rattle.tree.specs.Trails.{Ahead, Trailed}
+use Rattle.tree.specs.Inner.{Ahead, Trailed}
 use Rattle.tree.proofs.Items.{OnWay, goes-on, stops, sets-out, arrives, check-long, check-judged}
 use Rattle.tree.proofs.Trails.{follows-start, follows-end, follows-turn, found-bad, found-good}
 use Rattle.tree.proofs.check.find_command.Statement.{statement}

@@ -1,6 +1,6 @@
 -- `tree::command::next_word` meets its contract: the frame that stands there, or none.
 use mathlib.Core.Path.{sym, ap, _∙_}
-use Rattle.tree.specs.Trails.{nextIn}
+use Rattle.tree.specs.Inner.{nextIn}
 use borrow.Author.Needs.{needs}
 use Rattle.tree.proofs.command.next_word.Statement.{statement}
 use Rattle.tree.proofs.command.next_word.Tie as tie

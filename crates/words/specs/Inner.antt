@@ -1,13 +1,13 @@
--- How the code goes through a line, twice by the same steps: what a step does to its numbers, and to the buffer.
+-- What only contracts of inner functions cite: how the code goes through a line, twice by the same steps: what a step does to its numbers, and to the buffer.
 use Prim.Native.Nat.{ℕ, zero, suc, _+_, _-_, _≤_, _<_}
 use mathlib.Core.Path.{_≡_}
 use mathlib.Core.Bool.{Bool, true, false, cond, not}
 use mathlib.Core.List.{List, [], _∷_, _++_}
-use lib.Dec.{eqb, ltb, leb}
+use lib.Dec.{ltb}
 use lib.ListN.{length, take, drop}
 use Rattle.buffer.specs.Write.{overAt}
 use Rattle.frame.specs.Text.{numberBytes}
-use Rattle.text.specs.Decoding.{codesIn, letterFirst, wellFormedLength}
+use Rattle.text.specs.Decoding.{codesIn, wellFormedLength}
 use Rattle.words.specs.Answer.{written}
 use Rattle.words.specs.declared.role.Role.{Role}
 use Rattle.words.specs.declared.role.Role.the-variants.{Take, Escape, Toggle, Gap}
@@ -18,7 +18,7 @@ use Rattle.words.specs.declared.step.Step.{Step}
 use Rattle.words.specs.declared.step.Step.the-variants.{Go, IllFormed}
 use Rattle.text.specs.Unicode.{encodeAll}
 use Rattle.text.specs.Apart.{ended}
-use Rattle.words.specs.Tokens.{backslash, quote, roleOf, tokensFrom}
+use Rattle.words.specs.Tokens.{roleOf, tokensFrom}
 
 -- the words still to come after characters that do what the role says
 abbrev pub doneBy : Role → Bool → List ℕ → List ℕ → List ℕ → List (List ℕ)
@@ -52,15 +52,6 @@ advanced s Take n = record { at = s .at + n; done = s .done; word = s .word + n;
 advanced s Escape n = record { at = s .at + n; done = s .done; word = s .word; quotes = s .quotes; escaped = true }
 advanced s Toggle n = record { at = s .at + n; done = s .done; word = s .word; quotes = not (s .quotes); escaped = false }
 advanced s Gap n = record { at = s .at + n; done = closedAt (s .done) (s .word); word = 0; quotes = s .quotes; escaped = false }
-
--- an ASCII character that is taken anywhere
-unfoldable pub ordinary : ℕ → Bool
-ordinary b = cond (leb b 0x20) false (cond (leb 0x7F b) false (cond (eqb b quote) false (not (eqb b backslash))))
-
--- the length of the ordinary character that a text begins with, an ASCII character or a letter; 0 if it begins with any other
-unfoldable pub ordinaryFirst : List ℕ → ℕ
-ordinaryFirst [] = 0
-ordinaryFirst (a ∷ s) = cond (ordinary a) 1 (letterFirst (a ∷ s))
 
 -- what a step reads: characters that fill n bytes, and together do what the role says
 pub record Reading (line : List ℕ) (s : Scan) (role : Role) (n : ℕ) : Type 0 where

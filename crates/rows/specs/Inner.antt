@@ -1,4 +1,4 @@
--- The steps by which the code goes through a list: a definition as it is read, and one frame of the list.
+-- What only contracts of inner functions cite: a definition as it is read, and one frame of a list.
 use Prim.Native.Nat.{ℕ, _+_}
 use mathlib.Core.Path.{_≡_}
 use mathlib.Core.Bool.{cond}

@@ -1,4 +1,4 @@
--- How the code goes through words and characters: the next good word, a quiet character, a character's bytes, and what measuring finds.
+-- What only contracts of inner functions cite: the next good word, a quiet character, a character's bytes, and what measuring finds.
 use Prim.Native.Nat.{ℕ, suc}
 use mathlib.Core.Bool.{Bool, false, cond}
 use mathlib.Core.List.{List, [], _∷_}
