@@ -1,4 +1,4 @@
--- Laws of a writer that also measures: texts one behind the other, and a text with room or with none.
+-- Laws of a writer that also measures: texts one after the other, and a text with room or with none.
 use Prim.Native.Nat.{ℕ, _+_, _<_, _≤_}
 use mathlib.Core.Path.{_≡_, refl, sym, ap, _∙_}
 use mathlib.Core.Bool.{Bool, true, false, cond}
@@ -34,7 +34,7 @@ inked-as x y out at r left e a = rw (← e) a
 pub inked-nothing : (x out : List ℕ) (at : ℕ) → [] ≡ x → Inked x out at at out
 inked-nothing x out at e = inked-as [] x out at at out e (inked-none out at)
 
--- a text right behind a text is both
+-- a text right after a text is both
 pub inked-both : (x y out : List ℕ) (at p : ℕ) (mid : List ℕ) (r : ℕ) (left : List ℕ) → Inked x out at p mid → Inked y mid p r left → Inked (x ++ y) out at r left
 inked-both x y out at p mid r left a b =
     let l = length-append x y in
@@ -49,7 +49,7 @@ inked-both x y out at p mid r left a b =
     join : at + length x ≤ length out → p + length y ≤ length mid → left ≡ overAt (x ++ y) out at
     join h g = b .bytes g ∙ rw (a .bytes h, a .place) (overAt-both x y out at h)
 
--- the first of two texts can be counted, and the second behind it
+-- the first of two texts can be counted, and the second after it
 pub counts-first : (x y : List ℕ) (at : ℕ) → Countable (x ++ y) at → Countable x at
 counts-first x y at h = let l = length-append x y in omega arith
 

@@ -1,4 +1,4 @@
--- A writer at a place that also measures: where the text does not fit, it only tells the place behind it.
+-- A writer at a place that also measures: where the text does not fit, it only tells the place after it.
 use Prim.Native.Nat.{ℕ, _+_, _*_, _<_, _≤_}
 use mathlib.Core.Path.{_≡_}
 use mathlib.Core.List.{List}

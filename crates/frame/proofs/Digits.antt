@@ -227,7 +227,7 @@ module _ (s : List ℕ) (i : ℕ) where
   unfolding firstBad
   bad-end h = rw (drop-end s i h) (omega arith)
 
--- a turn of the writing of digits: those of the first i bytes stand in front of what out had behind them
+-- a turn of the writing of digits: those of the first i bytes stand in front of what out had after them
 pub hex-step : (s out : List ℕ) (i high low : ℕ) → i < length s → length (hexOf s) ≤ length out
     → high ≡ digitOf (getD s i 0 / 16) → low ≡ digitOf (getD s i 0 % 16)
     → set (set (take (2 * i) (hexOf s) ++ drop (2 * i) out) (2 * i) high) (2 * i + 1) low ≡ take (2 * (i + 1)) (hexOf s) ++ drop (2 * (i + 1)) out

@@ -1,4 +1,4 @@
--- Laws of texts behind their length, over the width of the length: what is written is read, and what is read was so written.
+-- Laws of texts after their length, over the width of the length: what is written is read, and what is read was so written.
 use Prim.Native.Nat.{ℕ, zero, suc, _+_, _*_, _/_, _-_, _%_, _^_, _≤_, _<_}
 use mathlib.Core.Path.{_≡_, refl, sym, ap, _∙_}
 use mathlib.Core.Bool.{Bool, true, false, cond}
@@ -106,7 +106,7 @@ pub value-two : (s : List ℕ) (at : ℕ) → at + 1 < length s → numberOf (ta
 unfolding numberOf
 value-two s at h = rw (drop-step s at 0 (omega arith), drop-step s (at + 1) 0 h) (omega arith)
 
--- what is written is read, whatever stands behind it
+-- what is written is read, whatever stands after it
 module _ (w : ℕ) (t rest : List ℕ) where
   apart : textOf w t ++ rest ≡ numberBytes w (length t) ++ (t ++ rest)
   unfolding textOf
@@ -125,7 +125,7 @@ module _ (w : ℕ) (t rest : List ℕ) where
   text-found =
       rw (apart, drop-at (numberBytes w (length t)) (t ++ rest) w (length-number w (length t))) (take-at t rest (length t) refl)
 
--- what is read as a text is the writing of it, and what stands behind
+-- what is read as a text is the writing of it, and what stands after
 pub text-back : (w : ℕ) (s : List ℕ) (n : ℕ) → Bytes s → readText w s ≡ Whole n → s ≡ textOf w (take n (drop w s)) ++ drop (w + n) s
 unfolding textOf
 text-back w s n h e =

@@ -1,4 +1,4 @@
-// What passes between the layers as bytes: texts behind their length, frames of one text, and house lines, each both ways.
+// What passes between the layers as bytes: texts after their length, frames of one text, and house lines, each both ways.
 mod framed;
 mod hex;
 mod house;

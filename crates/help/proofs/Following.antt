@@ -1,4 +1,4 @@
--- Laws of following words: one word, then the words behind it from the subtree that it names.
+-- Laws of following words: one word, then the words after it from the subtree that it names.
 use Prim.Native.Nat.{ℕ, zero, suc, _+_, _-_, _≤_}
 use mathlib.Core.Path.{_≡_, refl, sym, ap, _∙_}
 use mathlib.Core.Bool.{Bool, true, false, cond}

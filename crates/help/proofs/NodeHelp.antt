@@ -39,7 +39,7 @@ pub usage-some : (n : ℕ) (s t : List ℕ) → (n ≡ 0xff → ⊥) → t ≡ t
 unfolding perhapsIn
 usage-some n s t k e = rw (ne-eqb n 0xff k, e)
 
--- the Rust's `join(" ")`: words each behind a space are a space and the words joined
+-- the Rust's `join(" ")`: words each after a space are a space and the words joined
 abbrev pub joined : List ℕ → List (List ℕ) → List ℕ
 joined word [] = word
 joined word (next ∷ words) = word ++ (ascii " " ++ joined next words)
@@ -50,7 +50,7 @@ spaced-joined word [] = append-nil (ascii " " ++ word)
 spaced-joined word (next ∷ words) =
     append-assoc (ascii " ") word (spaced (next ∷ words)) ∙ ap (λ (l : List ℕ). ascii " " ++ (word ++ l)) (spaced-joined next words)
 
--- the lines on a node itself, written one part behind the other
+-- the lines on a node itself, written one part after the other
 pub about-put : (words : List (List ℕ)) (description : List ℕ) (usage : Perhaps) (out o₁ o₂ o₃ o₄ o₅ left : List ℕ) (p₁ p₂ p₃ p₄ p₅ r : ℕ)
     → Inked (ascii "Command:") out 0 p₁ o₁ → Inked (spaced words) o₁ p₁ p₂ o₂ → Inked (ascii "\nDescription: ") o₂ p₂ p₃ o₃ → Inked description o₃ p₃ p₄ o₄
     → Inked (ascii "\n") o₄ p₄ p₅ o₅ → Inked (usageLine usage) o₅ p₅ r left → Inked (about words description usage) out 0 r left

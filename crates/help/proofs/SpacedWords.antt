@@ -1,4 +1,4 @@
--- Laws of the words of a line, one behind the other, each behind a space.
+-- Laws of the words of a line, one after the other, each after a space.
 use Prim.Native.Nat.{ℕ, _+_, _-_, _*_, _<_, _≤_}
 use mathlib.Core.Path.{_≡_, refl, sym, ap, _∙_}
 use mathlib.Core.Bool.{true, false}
@@ -8,7 +8,7 @@ use lib.ListN.{length, take, drop, length-append, length-take, length-drop}
 use lib.Seq.{drop-drop}
 use Rattle.buffer.proofs.Lists.{drop-end}
 use Rattle.text.specs.Decoding.{Piece, piecesOf, bytesOf, bytesAll}
-use Rattle.text.specs.Apart.{runOf, behindRun, wordsBetween, wordAt, nextWord}
+use Rattle.text.specs.Apart.{runOf, afterRun, wordsBetween, wordAt, nextWord}
 use Rattle.text.specs.declared.apart.Word.{Word}
 use Rattle.text.specs.declared.apart.Word.the-variants.{At, Nothing}
 use Rattle.text.proofs.Pieces.{pieces-bytes, piece-some}
@@ -26,21 +26,21 @@ pub record NextTold (s : List ℕ) (start end : ℕ) : Type 0 where
 
 next-within : (s : List ℕ) (start end : ℕ) → nextWord 0 s ≡ At start end → (start < end) × (end ≤ length s)
 unfolding nextWord bytesAll
-next-within s start end e = by (runOf false (behindRun true (piecesOf s))) refl e
+next-within s start end e = by (runOf false (afterRun true (piecesOf s))) refl e
   where
     before : List ℕ
     before = bytesAll (runOf true (piecesOf s))
 
     behind : List ℕ
-    behind = bytesAll (behindRun false (behindRun true (piecesOf s)))
+    behind = bytesAll (afterRun false (afterRun true (piecesOf s)))
 
-    by : (word : List Piece) → runOf false (behindRun true (piecesOf s)) ≡ word → wordAt (0 + length before) word ≡ At start end → (start < end) × (end ≤ length s)
+    by : (word : List Piece) → runOf false (afterRun true (piecesOf s)) ≡ word → wordAt (0 + length before) word ≡ At start end → (start < end) × (end ≤ length s)
     by [] q k = absurd (let z : _≡_ {A = ℕ} 0 1 = cc in omega arith)
     by (p ∷ word) q k =
         let a : 0 + length before ≡ start = cc in
         let b : 0 + length before + length (bytesAll (p ∷ word)) ≡ end = cc in
         let whole : s ≡ before ++ (bytesAll (p ∷ word) ++ behind) =
-        sym (pieces-bytes s) ∙ run-splits true (piecesOf s) ∙ ap (λ (l : List ℕ). before ++ l) (run-splits false (behindRun true (piecesOf s)) ∙ ap (λ (w : List Piece). bytesAll w ++ behind) q)
+        sym (pieces-bytes s) ∙ run-splits true (piecesOf s) ∙ ap (λ (l : List ℕ). before ++ l) (run-splits false (afterRun true (piecesOf s)) ∙ ap (λ (w : List Piece). bytesAll w ++ behind) q)
         in
         let l = ap length whole ∙ length-append before (bytesAll (p ∷ word) ++ behind) in
         let m = length-append (bytesAll (p ∷ word)) behind in

@@ -6,7 +6,7 @@ use Rattle.buffer.specs.Ascii.{ascii}
 use Rattle.rows.specs.Rows.{rows, titled}
 use Rattle.rows.specs.declared.row.Listing.the-variants.{Options, Flags, Subcommands, Commands}
 
--- each word behind a space
+-- each word after a space
 unfoldable pub spaced : List (List ℕ) → List ℕ
 spaced [] = []
 spaced (w ∷ words) = ascii " " ++ w ++ spaced words
@@ -16,7 +16,7 @@ abbrev pub usageLine : Perhaps → List ℕ
 usageLine absent = []
 usageLine (present usage) = ascii "Usage: " ++ usage ++ ascii "\n"
 
--- a node's options, flags and children, whose titles stand behind an empty line
+-- a node's options, flags and children, whose titles stand after an empty line
 unfoldable pub lists : ℕ → List Frame → List ℕ
 lists depth below =
     titled (ascii "\nOptions:\n") (rows Options below)

@@ -23,7 +23,7 @@ ghost use Rattle.buffer.specs.Showing.{Showing};
 ghost use Rattle.frame.specs.Limits.{lineLimit};
 ghost use Rattle.tree.specs.Rules.{imageLimit};
 
-// The usage of a node on a line of its own, if it has one: n is its length byte, `from` the place behind that.
+// The usage of a node on a line of its own, if it has one: n is its length byte, `from` the place after that.
 fn put_usage(s: &[u8], from: usize, n: usize, out: &mut [u8], at: usize) -> usize
     requires { ⌜ (n < 256) × (at < 4294000000) ⌝ }
     ensures { λ r. ⌜ Inked (usageLine (perhapsIn n (drop «from» (now (s .entry))))) (now (out .entry)) at r (now (out .exit)) × (r ≤ at + 263) ⌝ }
@@ -56,7 +56,7 @@ fn put_about(s: &[u8], texts: Lengths, line: &[u8], out: &mut [u8]) -> usize
     )
 }
 
-// The options, flags and children of a node of that depth, from the frames behind it.
+// The options, flags and children of a node of that depth, from the frames after it.
 fn put_lists(below: &[u8], depth: usize, out: &mut [u8], at: usize) -> usize
     requires { ⌜ (length (now below) ≤ imageLimit) × (at ≤ 67000) × (depth < 256) ⌝ }
     ensures { λ r. ⌜ Inked (lists depth (framesOf (now (below .entry)))) (now (out .entry)) at r (now (out .exit)) ⌝ }

@@ -1,4 +1,4 @@
-// The words of a line, one behind the other.
+// The words of a line, one after the other.
 use buffer::part;
 use buffer::put;
 use buffer::rest;
@@ -10,7 +10,7 @@ ghost use Rattle.text.specs.Apart.{wordsBetween};
 ghost use Rattle.buffer.specs.Inks.{InkedFrom, countLimit};
 ghost use Rattle.help.specs.Texts.{spaced};
 
-// The words of a line, each behind a space.
+// The words of a line, each after a space.
 pub fn put_words(line: &[u8], out: &mut [u8], at: usize) -> usize
     requires { ⌜ at + 64 * length (now line) < countLimit ⌝ }
     ensures { λ r. ⌜ InkedFrom (now (line .entry)) (spaced (wordsBetween (now (line .entry)))) (now (out .entry)) at r (now (out .exit)) ⌝ }

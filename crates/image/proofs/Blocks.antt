@@ -61,7 +61,7 @@ module _ (low : ℕ) where
       by true e = e
       by false e = refl
 
-  -- a text from a place on: a block of it, and what stands behind that
+  -- a text from a place on: a block of it, and what stands after that
   module _ (t : List ℕ) (at n m : ℕ) (size : n ≡ m - at) (order : at ≤ m) (r : Bool) (told : r ≡ allShown low (take n (drop at t))) where
     shown-split : allShown low (drop at t) ≡ both r (allShown low (drop m t))
     shown-split =

@@ -28,7 +28,7 @@ text-is t = text-one t
 pub length-text : (t : List ℕ) → length (text t) ≡ 1 + length t
 length-text t = rw (text-is t) (omega arith)
 
--- a text at a place p of bytes, its first byte at r and the place behind it at q
+-- a text at a place p of bytes, its first byte at r and the place after it at q
 module _ (s : List ℕ) (p r n q : ℕ) (hr : r ≡ p + 1) (hn : n ≡ getD s p 0) where
   pub text-split : q ≡ p + 1 + n → q ≤ length s → drop p s ≡ text (take n (drop r s)) ++ drop q s
   text-split hq h =
@@ -63,7 +63,7 @@ split-three s h = split-two s (omega arith) ∙ ap (λ (l : List ℕ). getD s 0 
 pub split-four : (s : List ℕ) → 4 ≤ length s → s ≡ getD s 0 0 ∷ getD s 1 0 ∷ getD s 2 0 ∷ getD s 3 0 ∷ drop 4 s
 split-four s h = split-three s (omega arith) ∙ ap (λ (l : List ℕ). getD s 0 0 ∷ getD s 1 0 ∷ getD s 2 0 ∷ l) (drop-step s 3 0 (omega arith))
 
--- three pieces one behind the other
+-- three pieces one after the other
 pub three : (a b c d x y z : List ℕ) → a ≡ x ++ b → b ≡ y ++ c → c ≡ z ++ d → a ≡ x ++ y ++ z ++ d
 three a b c d x y z p q r = p ∙ rw (q, r) (simp append-assoc)
 
@@ -129,7 +129,7 @@ module _ (s : List ℕ) (b : Bytes s) where
       rw (v .texts, v .short)
       (split-two s long ∙ rw (v .kind) (ap (λ (l : List ℕ). 3 ∷ getD s 1 0 ∷ l) (definition-back 2 size)))
 
-  -- the bytes are the frame's and what stands behind it
+  -- the bytes are the frame's and what stands after it
   pub read-back : (f : Frame) (n : ℕ) → readFirst s ≡ read f n → s ≡ encode f ++ drop n s
   unfolding readFirst
   read-back f n e = by (headFirst s) refl e

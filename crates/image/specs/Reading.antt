@@ -10,11 +10,11 @@ use Rattle.image.specs.declared.head.Lengths.{Lengths}
 use Rattle.image.specs.declared.head.Head.{Head}
 use Rattle.image.specs.declared.head.Head.the-variants.{Node, Option, Flag, Bad, End}
 
--- how many bytes a text that may be missing takes behind its length byte
+-- how many bytes a text that may be missing takes after its length byte
 unfoldable pub span : ℕ → ℕ
 span n = cond (eqb n 0xff) 0 n
 
--- three texts one behind the other from a place on: name, description, usage
+-- three texts one after the other from a place on: name, description, usage
 unfoldable pub nodeLengths : List ℕ → Lengths
 nodeLengths s =
     let name : ℕ = getD s 4 0 in

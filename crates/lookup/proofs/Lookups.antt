@@ -201,7 +201,7 @@ first-size : (f : Frame) → length (flat (f ∷ [])) ≡ length (encode f)
 unfolding flat
 first-size f = ap length (append-nil (encode f))
 
--- a list of definitions ends at the next node of any depth, whatever stands behind
+-- a list of definitions ends at the next node of any depth, whatever stands after
 pub definitions-end : (test : Frame → Bool) (defs : List Frame) (d : ℕ) (f : Forest) → definitionsOnly defs ≡ true → placeOf test isNode (defs ++ flatten d f) ≡ placeOf test isNode defs
 unfolding placeOf definitionsOnly flatten
 definitions-end test [] d bare o = refl
@@ -212,7 +212,7 @@ definitions-end test (option r c n x ds ∷ l) d f o =
 definitions-end test (flag c n x ds ∷ l) d f o =
     ap (λ (s : Spot). cond (test (flag c n x ds)) (At 0) (shifted (length (encode (flag c n x ds))) s)) (definitions-end test l d f (both-second (fair (flag c n x ds)) _ o))
 
--- the definitions of a node, sought in the part of its tree from behind the node, are those of the node alone
+-- the definitions of a node, sought in the part of its tree from after the node, are those of the node alone
 pub definitions-spot : (test : Frame → Bool) (h : ℕ) (n ds : List ℕ) (u : Perhaps) (defs : List Frame) (below : Forest) (d : ℕ) → definitionsOnly defs ≡ true
     → AllFit (flatten d (grown h n ds u defs below bare))
     → spot test isNode (flat (flatten d (grown h n ds u defs below bare))) (length (encode (node d h n ds u))) ≡ shifted (length (encode (node d h n ds u))) (placeOf test isNode defs)

@@ -1,4 +1,4 @@
--- Laws of the pass over a node's definitions, for any test of a definition: one frame, then the pass from the place behind it.
+-- Laws of the pass over a node's definitions, for any test of a definition: one frame, then the pass from the place after it.
 use Prim.Native.Nat.{ℕ, _+_, _<_, _≤_}
 use mathlib.Core.Path.{_≡_, refl, sym, _∙_}
 use mathlib.Core.Bool.{Bool, true, false, cond}

@@ -1,4 +1,4 @@
--- Laws of a search: one frame, then the search from the place behind it.
+-- Laws of a search: one frame, then the search from the place after it.
 use Prim.Native.Nat.{ℕ, _+_, _<_, _≤_}
 use mathlib.Core.Path.{_≡_, refl, sym, ap, _∙_}
 use mathlib.Core.Bool.{Bool, true, false, cond}

@@ -38,7 +38,7 @@ later-none : (x : Spot) → shifted 0 x ≡ x
 later-none (At k) = ap At (omega arith)
 later-none Nothing = refl
 
--- the place of the first frame that passes is behind those before it
+-- the place of the first frame that passes is after those before it
 abbrev placed : List Frame → List Frame → Spot
 placed before [] = Nothing
 placed before (f ∷ l) = At (length (flat before))
@@ -61,7 +61,7 @@ place-up test (f ∷ l) = by (test f) (place-up test l)
     by true e = refl
     by false e = rw e (placed-later f (upTo test l) (onFrom test l))
 
--- the frames of what stands behind frames
+-- the frames of what stands after frames
 module _ (a b : List Frame) (fit : AllFit (a ++ b)) where
   behind : drop (length (flat a)) (flat (a ++ b)) ≡ flat b
   behind = rw (flat-append a b) (drop-append-seam (flat a) (flat b))
@@ -69,7 +69,7 @@ module _ (a b : List Frame) (fit : AllFit (a ++ b)) where
   frames-behind : framesOf (drop (length (flat a)) (flat (a ++ b))) ≡ b
   frames-behind = ap framesOf behind ∙ frames-flat b (fit-append a b fit)
 
--- a search in joined frames, from behind some of them
+-- a search in joined frames, from after some of them
 pub spot-behind : (test ends : Frame → Bool) (a b : List Frame) → AllFit (a ++ b) → spot test ends (flat (a ++ b)) (length (flat a)) ≡ shifted (length (flat a)) (placeOf test ends b)
 unfolding spot
 spot-behind test ends a b fit = rw (frames-behind a b fit)

@@ -113,7 +113,7 @@ module _ (words : List ℕ) (size n at : ℕ) (h : Counted words size n at) wher
   unfolding joinedFrom
   counted-end k = h .all ∙ ap (resume n size) (listed-end words at k) ∙ ap Needs (omega arith)
 
--- what is still to be written behind n words
+-- what is still to be written after n words
 abbrev pub restLine : ℕ → Judged → List ℕ
 restLine n (bad k) = []
 restLine n (fine ws) = joinedFrom n (map shown ws)

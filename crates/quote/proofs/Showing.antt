@@ -27,7 +27,7 @@ use Rattle.quote.specs.Inner.{quietOf, quietFirst, plainWord, specials, 
 pub formed-on : (w : List ℕ) (at : ℕ) (d : Decoded) → at + wellFormedLength (drop at w) ≡ length w → decodeFirst (drop at w) ≡ d → OneOf (1 ∷ 2 ∷ []) (tagOf the-type d) → at < length w → ⊥
 formed-on w at d f e k l = let z = prefix-none (drop at w) (codes-stop (drop at w) d e k) in omega arith
 
--- a character more, seen from the place behind it
+-- a character more, seen from the place after it
 pub codes-at : (w : List ℕ) (at code n : ℕ) → decodeFirst (drop at w) ≡ Character code n → codesIn (drop at w) ≡ code ∷ codesIn (drop (at + n) w)
 codes-at w at code n d = codes-step (drop at w) code n d ∙ ap (λ (l : List ℕ). code ∷ codesIn l) (drop-drop n at w)
 

@@ -9,7 +9,7 @@ use frame::Framed;
 use frame::read_frame;
 use text::well_formed_prefix;
 
-// What stands at a place: a good word of that many bytes, behind the three bytes of its frame's head, which takes `size` bytes
+// What stands at a place: a good word of that many bytes, after the three bytes of its frame's head, which takes `size` bytes
 // when it is shown; or none.
 pub enum Item {
     Word { length: usize, size: usize },

@@ -63,7 +63,7 @@ fn measure(words: &[u8]) -> Measured
     Measured::Needs(size)
 }
 
-// Writes a word that n words precede at the place `at` and returns the place behind.
+// Writes a word that n words precede at the place `at` and returns the place after.
 fn push_word(n: usize, word: &[u8], out: &mut [u8], at: usize) -> usize
     requires { ⌜ wellFormedLength (now word) ≡ length (now word) ⌝ }
     requires { ⌜ at + length (gapBefore n ++ shown (now word)) ≤ length (now out) ⌝ }

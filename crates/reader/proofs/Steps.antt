@@ -27,7 +27,7 @@ size-read s (Flag c t) = refl
 size-read s Bad = refl
 size-read s End = refl
 
--- what the first bytes tell: a frame and the frames behind it, or none
+-- what the first bytes tell: a frame and the frames after it, or none
 pub record StepTold (s : List ℕ) (size : ℕ) : Type 0 where
   pub within : size ≤ length s
   pub some : 0 < size → length (framesOf s) ≡ 1 + length (framesOf (drop size s))

@@ -14,6 +14,6 @@ sizeBy (Flag short texts) = texts .size
 sizeBy Bad = 0
 sizeBy End = 0
 
--- the place behind the frame at a place; the same place where there is none
+-- the place after the frame at a place; the same place where there is none
 unfoldable pub nextPlace : List ℕ → ℕ → ℕ
 nextPlace image at = at + sizeBy (headFirst (drop at image))

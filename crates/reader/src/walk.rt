@@ -27,7 +27,7 @@ fn size_of(head: Head) -> usize
     }
 }
 
-// The place behind the frame at a place; the same place where there is none.
+// The place after the frame at a place; the same place where there is none.
 pub fn next_at(image: &[u8], at: usize) -> usize
     ensures { λ r. ⌜ r ≡ nextPlace (now (image .entry)) at ⌝ }
 {

@@ -48,7 +48,7 @@ most Flags n o g = 201 * g
 most (Subcommands depth) n o g = 154 * n
 most Commands n o g = 154 * n
 
--- a row, and the rows behind it
+-- a row, and the rows after it
 joined : (row rest : List ℕ) (a b m : ℕ) → length row ≤ a → length rest ≤ b → a + b ≤ m → length (row ++ rest) ≤ m
 joined row rest a b m h k l = let s = length-append row rest in omega arith
 
@@ -79,7 +79,7 @@ rows-bounded Commands (node d h name ds u ∷ l) n o g k =
 rows-bounded Commands (option r c name x ds ∷ l) n o g k = rows-bounded Commands l n (o - 1) g (k .2)
 rows-bounded Commands (flag c name x ds ∷ l) n o g k = rows-bounded Commands l n o (g - 1) (k .2)
 
--- a list behind its title
+-- a list after its title
 pub titled-most : (title list : List ℕ) (n : ℕ) → length list ≤ n → length (titled title list) ≤ length title + n
 unfolding titled
 titled-most title list n h = let s = length-append title list in cond-most (eqb (length list) 0) _ _ _ (omega arith) (omega arith)

@@ -1,4 +1,4 @@
--- Laws of a list of rows: one frame's row, then the rows of the frames behind it; a row is at most 64 times as long as its frame.
+-- Laws of a list of rows: one frame's row, then the rows of the frames after it; a row is at most 64 times as long as its frame.
 use Prim.Native.Nat.{ℕ, _+_, _*_, _<_, _≤_}
 use mathlib.Core.Path.{_≡_, refl, sym, ap, _∙_}
 use mathlib.Core.Bool.{Bool, true, false, cond}
@@ -141,7 +141,7 @@ module _ (listing : Listing) (s : List ℕ) where
       by broken q e = rw (frames-broken s q)
       by ended q e = rw (frames-ended s q)
 
-  -- a frame, and those behind it
+  -- a frame, and those after it
   pub record RowAt (size : ℕ) : Type 0 where
     pub some : 0 < size
     pub fits : size ≤ length s
@@ -233,7 +233,7 @@ module _ (listing : Listing) (frames out₀ : List ℕ) (at : ℕ) where
               },
             )
 
--- a list behind its title
+-- a list after its title
 pub titled-none : (title list : List ℕ) → length list ≡ 0 → [] ≡ titled title list
 unfolding titled
 titled-none title list e = rw (eq-eqb (length list) 0 e)

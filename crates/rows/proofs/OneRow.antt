@@ -67,7 +67,7 @@ module _ (s : List ℕ) (p short : ℕ) (texts : Lengths) where
   unfolding labelIn shownAs perhapsIn
   label-short tail o n e = rw (eq-eqb (texts .other) 0xff o, ne-eqb short 0 n, e)
 
--- an entry as it is written: indent and label, then what stands behind the label
+-- an entry as it is written: indent and label, then what stands after the label
 pub entry-is : (indent label description : List ℕ) (width : ℕ) → entry indent width label description ≡ (indent ++ label) ++ (blanks width (length label) ++ ascii " " ++ description)
 unfolding entry padded
 entry-is indent label description width =
@@ -221,7 +221,7 @@ module _ (listing : Listing) where
       by (Subcommands d) = (refl, refl)
       by Commands = (refl, refl)
 
--- an option's row behind its entry, with the mark and without it
+-- an option's row after its entry, with the mark and without it
 pub option-marked : (r c : ℕ) (n : List ℕ) (x : Perhaps) (ds : List ℕ) → r ≡ 1 → optionRow r c n x ds ≡ entry (ascii "  ") 20 (shownAs c n x) ds ++ ascii " (required)\n"
 unfolding optionRow requiredMark ascii
 option-marked r c n x ds e = rw (eq-eqb r 1 e) (append-assoc (entry (ascii "  ") 20 (shownAs c n x) ds) (ascii " (required)") (ascii "\n"))

@@ -11,14 +11,14 @@ use Rattle.tree.specs.Images.{framesOf}
 use Rattle.rows.specs.declared.row.Listing.{Listing}
 use Rattle.rows.specs.declared.row.Listing.the-variants.{Options, Flags, Subcommands, Commands}
 
--- `{:<n}`: spaces behind a text up to n characters, each of which is a byte in a tree
+-- `{:<n}`: spaces after a text up to n characters, each of which is a byte in a tree
 unfoldable pub blanks : ℕ → ℕ → List ℕ
 blanks n used = replicate (n - used) 0x20
 
 unfoldable pub padded : ℕ → List ℕ → List ℕ
 padded n t = t ++ blanks n (length t)
 
--- `-s` and what stands behind it; nothing if there is no short
+-- `-s` and what stands after it; nothing if there is no short
 unfoldable pub shortThen : ℕ → List ℕ → List ℕ
 shortThen short tail = cond (eqb short 0) [] (ascii "-" ++ short ∷ tail)
 
@@ -78,7 +78,7 @@ unfoldable pub rows : Listing → List Frame → List ℕ
 rows listing [] = []
 rows listing (f ∷ l) = cond (endsList listing f) [] (rowOf listing f ++ rows listing l)
 
--- a list stands behind its title; an empty one has none
+-- a list stands after its title; an empty one has none
 unfoldable pub titled : List ℕ → List ℕ → List ℕ
 titled title list = cond (eqb (length list) 0) [] (title ++ list)
 

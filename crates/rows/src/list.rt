@@ -1,4 +1,4 @@
-// Lists of rows over frames, and a list behind its title.
+// Lists of rows over frames, and a list after its title.
 use super::row::Listing;
 use super::row::listed_size;
 use super::row::put_row;
@@ -39,7 +39,7 @@ fn rows_size(frames: &[u8], listing: Listing) -> usize
     put_rows(frames, listing, &mut none[..0], 0)
 }
 
-// A list behind its title; an empty one has none.
+// A list after its title; an empty one has none.
 pub fn put_titled(title: &[u8], frames: &[u8], listing: Listing, out: &mut [u8], at: usize) -> usize
     requires { ⌜ at + length (now title) + 64 * length (now frames) < countLimit ⌝ }
     ensures { λ r. ⌜ TitledRows (now (title .entry)) (now (frames .entry)) listing (now (out .entry)) at r (now (out .exit)) ⌝ }

@@ -27,7 +27,7 @@ pub enum Listing {
     Commands,
 }
 
-// The spaces behind a text of `used` bytes, up to the width.
+// The spaces after a text of `used` bytes, up to the width.
 fn pad(used: usize, width: usize, out: &mut [u8], at: usize) -> usize
     requires { ⌜ (width ≤ 20) × Countable (blanks width used) at ⌝ }
     ensures { λ r. ⌜ Inked (blanks width used) (now (out .entry)) at r (now (out .exit)) ⌝ }
@@ -40,7 +40,7 @@ fn pad(used: usize, width: usize, out: &mut [u8], at: usize) -> usize
     put(&spaces[..n], out, at)
 }
 
-// The rest of an entry behind a label of `used` bytes: its column, and the description.
+// The rest of an entry after a label of `used` bytes: its column, and the description.
 fn put_note(used: usize, width: usize, note: &[u8], out: &mut [u8], at: usize) -> usize
     requires { ⌜ (width ≤ 20) × Countable (blanks width used ++ ascii " " ++ now note) at ⌝ }
     ensures { λ r. ⌜ Inked (blanks width used ++ ascii " " ++ now (note .entry)) (now (out .entry)) at r (now (out .exit)) ⌝ }
@@ -50,7 +50,7 @@ fn put_note(used: usize, width: usize, note: &[u8], out: &mut [u8], at: usize) -
     put(note, out, start)
 }
 
-// `-s` and what stands behind it; nothing if there is no short.
+// `-s` and what stands after it; nothing if there is no short.
 fn put_short(short: usize, tail: &[u8], out: &mut [u8], at: usize) -> usize
     requires { ⌜ (short < 256) × Countable (shortThen short (now tail)) at ⌝ }
     ensures { λ r. ⌜ Inked (shortThen short (now (tail .entry))) (now (out .entry)) at r (now (out .exit)) ⌝ }

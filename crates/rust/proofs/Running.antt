@@ -12,7 +12,7 @@ use Rattle.buffer.specs.Compare.{sameBytes}
 use Rattle.buffer.proofs.Choices.{then-is, true-is-not-false}
 use Rattle.text.specs.Unicode.{WellFormed}
 use Rattle.text.specs.Decoding.{piecesFrom, piecesOf, bytesAll, codesIn, wellFormedLength}
-use Rattle.text.specs.Apart.{behindRun, trimEnd, trimmed, blank, wordsBetween}
+use Rattle.text.specs.Apart.{afterRun, trimEnd, trimmed, blank, wordsBetween}
 use Rattle.text.proofs.Prefix.{prefix-fits, whole-is, is-whole}
 use Rattle.words.specs.Tokens.{wordsOf}
 use Rattle.image.specs.Frames.{Frame}
@@ -108,7 +108,7 @@ unfolding println illFormed ascii
 ill-is = refl
 
 empty-is-none : (printable : ℕ → Bool) (tree : Commands) → handleBuiltinCommands printable tree [] ≡ none
-unfolding handleBuiltinCommands trimmed piecesOf piecesFrom behindRun trimEnd bytesAll sameBytes startsWith ascii
+unfolding handleBuiltinCommands trimmed piecesOf piecesFrom afterRun trimEnd bytesAll sameBytes startsWith ascii
 empty-is-none printable tree = refl
 
 -- WELL-FORMED LINES

@@ -1,4 +1,4 @@
--- Laws of a redraw: its length, its parts written one behind the other, each answer, and that there is no second one.
+-- Laws of a redraw: its length, its parts written one after the other, each answer, and that there is no second one.
 use Prim.Native.Nat.{ℕ, zero, suc, _+_, _-_, _^_, _≤_, _<_, min}
 use mathlib.Core.Path.{_≡_, refl, sym, ap, _∙_}
 use mathlib.Core.List.{List, [], _∷_, _++_, append-assoc}

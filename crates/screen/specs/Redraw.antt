@@ -19,7 +19,7 @@ unfoldable pub moveBack : ℕ → List ℕ
 moveBack zero = []
 moveBack (suc n) = 0x1B ∷ 0x5B ∷ (decimal (suc n) ++ (0x44 ∷ []))
 
--- the bytes of a redraw; a cursor at the content's end or past it has nothing behind it
+-- the bytes of a redraw; a cursor at the content's end or past it has nothing after it
 unfoldable pub redraw : List ℕ → List ℕ → ℕ → List ℕ
 redraw prompt content cursor = clearLine ++ (prompt ++ (content ++ moveBack (length content - cursor)))
 

@@ -17,7 +17,7 @@ pub enum Redrawn {
     NoRoom(usize),
 }
 
-// How many places behind the cursor the content ends.
+// How many places after the cursor the content ends.
 fn behind(content: &[u8], cursor: usize) -> usize
     ensures { λ r. ⌜ r ≡ length (now (content .entry)) - cursor ⌝ }
 {
@@ -49,7 +49,7 @@ fn redraw_size(prompt: &[u8], content: &[u8], cursor: usize) -> usize
     texts + rest
 }
 
-// Writes the move by n places back at the place `at` and returns the place behind it.
+// Writes the move by n places back at the place `at` and returns the place after it.
 fn push_move(n: usize, out: &mut [u8], at: usize) -> usize
     requires { ⌜ at + length (moveBack n) ≤ length (now out) ⌝ }
     ensures { λ r. ⌜ Pushed (moveBack n) (now (out .entry)) at r (now (out .exit)) ⌝ }

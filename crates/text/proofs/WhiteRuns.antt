@@ -96,7 +96,7 @@ run-none t is e = rw (e, pieces-none)
 pub sees-fits : (s : List ℕ) (at n : ℕ) (w : Bool) → Sees (drop at s) w n → (0 < n) × (at + n ≤ length s)
 sees-fits s at n w h = let k = h .fits in let l = h .some in (l, omega (arith, length-drop at s))
 
--- the last solid piece: behind it if one is left, else where the last one found ends
+-- the last solid piece: after it if one is left, else where the last one found ends
 abbrev pub reach : ℕ → ℕ → ℕ → ℕ
 reach end at zero = end
 reach end at (suc n) = at + suc n

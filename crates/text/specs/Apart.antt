@@ -13,14 +13,14 @@ abbrev pub white : Piece → Bool
 white (character code) = isWhiteSpace code
 white (stray b) = false
 
--- the run that pieces begin with, of white space or of anything else, and what lies behind it
+-- the run that pieces begin with, of white space or of anything else, and what lies after it
 unfoldable pub runOf : Bool → List Piece → List Piece
 runOf is [] = []
 runOf is (p ∷ pieces) = cond (Bool·beq (white p) is) (p ∷ runOf is pieces) []
 
-unfoldable pub behindRun : Bool → List Piece → List Piece
-behindRun is [] = []
-behindRun is (p ∷ pieces) = cond (Bool·beq (white p) is) (behindRun is pieces) (p ∷ pieces)
+unfoldable pub afterRun : Bool → List Piece → List Piece
+afterRun is [] = []
+afterRun is (p ∷ pieces) = cond (Bool·beq (white p) is) (afterRun is pieces) (p ∷ pieces)
 
 -- without the white space that pieces end with
 abbrev pub beforeEnd : Piece → List Piece → List Piece
@@ -33,7 +33,7 @@ trimEnd (p ∷ pieces) = beforeEnd p (trimEnd pieces)
 
 -- without the white space at either end
 unfoldable pub trimmed : List ℕ → List ℕ
-trimmed s = bytesAll (trimEnd (behindRun true (piecesOf s)))
+trimmed s = bytesAll (trimEnd (afterRun true (piecesOf s)))
 
 -- nothing but white space
 unfoldable pub allWhite : List Piece → Bool
@@ -60,7 +60,7 @@ abbrev pub wordAt : ℕ → List Piece → Word
 wordAt start [] = Nothing
 wordAt start (p ∷ word) = At start (start + length (bytesAll (p ∷ word)))
 
--- where the next word lies, given what is left of the text behind its first `at` bytes: behind the white space there, up to the next
+-- where the next word lies, given what is left of the text after its first `at` bytes: after the white space there, up to the next
 unfoldable pub nextWord : ℕ → List ℕ → Word
 nextWord at s =
-    wordAt (at + length (bytesAll (runOf true (piecesOf s)))) (runOf false (behindRun true (piecesOf s)))
+    wordAt (at + length (bytesAll (runOf true (piecesOf s)))) (runOf false (afterRun true (piecesOf s)))

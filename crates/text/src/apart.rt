@@ -39,7 +39,7 @@ fn see(s: &[u8], at: usize) -> Seen
     }
 }
 
-// The place behind the run at a place: of white space, or of anything else.
+// The place after the run at a place: of white space, or of anything else.
 fn run_end(s: &[u8], from: usize, is_white: bool) -> usize
     requires { ⌜ from ≤ length (now s) ⌝ }
     ensures { λ r. ⌜ r ≡ from + length (bytesAll (runOf «is_white» (piecesOf (drop from (now (s .entry)))))) ⌝ }
@@ -57,7 +57,7 @@ fn run_end(s: &[u8], from: usize, is_white: bool) -> usize
     at
 }
 
-// The place behind the last piece from a place on that is no white space; that place itself if there is none.
+// The place after the last piece from a place on that is no white space; that place itself if there is none.
 fn last_solid(s: &[u8], from: usize) -> usize
     requires { ⌜ from ≤ length (now s) ⌝ }
     ensures { λ r. ⌜ r ≡ from + length (bytesAll (trimEnd (piecesOf (drop from (now (s .entry)))))) ⌝ }

@@ -28,7 +28,7 @@ check : List Frame → Checked
 check fs = checkTree (flat fs)
 
 -- the empty image; a, with a flag and an option, below it b (over a) and c, then d; then each rule broken: an option before any node, a depth two
--- above, equal siblings, siblings that fall, a name before its prefix, bytes behind the last frame that are none
+-- above, equal siblings, siblings that fall, a name before its prefix, bytes after the last frame that are none
 table :
     (check [] ≡ Good)
     × (check (plain 0 0x61 ∷ long ∷ config ∷ plain 1 0x62 ∷ plain 2 0x61 ∷ plain 1 0x63 ∷ plain 0 0x64 ∷ []) ≡ Good)

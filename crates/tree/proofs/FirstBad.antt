@@ -12,12 +12,12 @@ use Rattle.tree.specs.Images.{Item, whole, torn, items}
 use Rattle.tree.specs.Rules.{Seen, start, obeys, after, judgeItems, obeyAll, checkTree}
 use Rattle.tree.specs.declared.check.Checked.the-variants.{BadFrame}
 
--- what is known behind frames
+-- what is known after frames
 unfoldable pub afterAll : Seen → List Frame → Seen
 afterAll seen [] = seen
 afterAll seen (f ∷ frames) = afterAll (after seen f) frames
 
--- bytes that are no frame, or a frame that does not obey behind those before it
+-- bytes that are no frame, or a frame that does not obey after those before it
 abbrev pub Breaks : Seen → Item → Type 0
 Breaks seen (whole f) = obeys seen f ≡ false
 Breaks seen torn = Unit {0}

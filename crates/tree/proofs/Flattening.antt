@@ -128,7 +128,7 @@ abbrev Grows : Forest → ℕ → Type 0
 Grows f d =
     (seen : Seen) (rest : List Frame) → orderly (getD (seen .path) d []) d f ≡ true → d ≤ length (seen .path) → seen .nodes + nodesIn f ≤ 256 → Grown seen d f rest
 
--- the path below a node and the path behind it
+-- the path below a node and the path after it
 module _ (d : ℕ) (n : List ℕ) (path q : List (List ℕ)) (h : d ≤ length path) (e : take (suc d) q ≡ take (suc d) (take d path ++ n ∷ [])) where
   whole-path : take (suc d) q ≡ take d path ++ n ∷ []
   whole-path = e ∙ take-all (suc d) (take d path ++ n ∷ []) (let k = put-length path d n h in omega arith)

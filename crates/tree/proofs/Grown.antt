@@ -29,7 +29,7 @@ use Rattle.tree.proofs.Walks.{passed-at}
 use Rattle.tree.proofs.OneFrameMore.{Roomy, room-told}
 use Rattle.tree.specs.Growth.{fills, oneFrame, isGood, takes, hasRoom, obeysBy, admits, passedBy, Grows}
 
--- a walk that has passed an image, whatever comes behind that
+-- a walk that has passed an image, whatever comes after that
 pub record Passed (image : List ℕ) (walk : Walk) : Type 0 where
   pub place : walk .at ≡ length image
   pub short : length image ≤ 32768
@@ -51,13 +51,13 @@ pub start-stands : (buffer : List ℕ) → Stands buffer startWalk
 unfolding seenBy
 start-stands buffer = (omega arith, record { place = refl; short = omega arith; number = 0; way = λ rest. sets-out rest startWalk refl; seen = λ rest. refl })
 
--- a frame that is alone is read the same whatever comes behind it
+-- a frame that is alone is read the same whatever comes after it
 frame-behind : (frame rest : List ℕ) (f : Frame) → Bytes frame → fair f ≡ true → readFirst frame ≡ read f (length frame) → readFirst (frame ++ rest) ≡ read f (length frame)
 frame-behind frame rest f b g e =
     let back : frame ≡ encode f = read-back frame b f (length frame) e ∙ rw (drop-length frame) (append-nil (encode f)) in
     rw back (frame-read f rest (fair-fits f g))
 
--- one frame behind an image that was passed
+-- one frame after an image that was passed
 module _ (image : List ℕ) (walk : Walk) (p : Passed image walk) (frame : List ℕ) (b : Bytes frame) (f : Frame) (e : readFirst frame ≡ read f (length frame)) where
   behind : (rest : List ℕ) → drop (walk .at) (image ++ (frame ++ rest)) ≡ frame ++ rest
   behind rest = drop-at image (frame ++ rest) (walk .at) (sym (p .place))
@@ -172,7 +172,7 @@ module _ (walk : Walk) (frame buffer : List ℕ) (stands : Stands buffer walk) (
       rw (seen-is, le-leb (walk .deep) 8 (stands .1 .way [] .sound .deep))
       (admits-by (take (walk .at) buffer) walk (stands .1) frame b (readFirst frame) refl (leb (walk .at + length frame) (length buffer)))
 
-  -- the image in the buffer with the frame behind it
+  -- the image in the buffer with the frame after it
   written : walk .at + length frame ≤ length buffer → take (walk .at + length frame) (overAt frame buffer (walk .at)) ≡ take (walk .at) buffer ++ frame
   unfolding overAt over
   written h =

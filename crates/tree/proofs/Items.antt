@@ -1,4 +1,4 @@
--- Laws of an image as items: one frame, then the items of what stands behind it.
+-- Laws of an image as items: one frame, then the items of what stands after it.
 use Prim.Native.Nat.{ℕ, zero, suc, _+_, _-_, _<_, _≤_}
 use mathlib.Core.Path.{_≡_, refl, sym, ap, _∙_}
 use mathlib.Core.Bool.{true, false}

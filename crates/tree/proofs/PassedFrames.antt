@@ -53,7 +53,7 @@ module _ (s : List ℕ) (d h : ℕ) (t : Lengths) (e : Node d h t ≡ strictFirs
   unfolding nodeIn
   node-depth = fair-depth d h _ _ _ (frame-told s (Node d h t) _ _ e refl .good)
 
--- a node's name is the text four bytes behind the place where it is read
+-- a node's name is the text four bytes after the place where it is read
 module _ (image : List ℕ) (at : ℕ) where
   name-lies : (t : Lengths) → t ≡ nodeLengths (drop at image) → take (t .name) (drop 5 (drop at image)) ≡ nameAt image (at + 4)
   unfolding nodeLengths textFirst

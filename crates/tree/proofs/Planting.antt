@@ -70,7 +70,7 @@ module _ (d h : ℕ) (n ds : List ℕ) (u : Perhaps) (p : Planted) where
 regroup : (a b c r : List Frame) → (a ++ (b ++ c)) ++ r ≡ a ++ (b ++ (c ++ r))
 regroup a b c r = simp append-assoc
 
--- a node takes the definitions and the two layers behind it
+-- a node takes the definitions and the two layers after it
 layers-put : (d h : ℕ) (n ds : List ℕ) (u : Perhaps) (p : Planted) → layers d (put d h n ds u p .at) ≡ node d h n ds u ∷ (p .loose ++ layers (suc d) (p .at))
 unfolding layers flatten
 layers-put zero h n ds u p = rw (put-here 0 h n ds u p)

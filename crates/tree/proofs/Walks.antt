@@ -133,7 +133,7 @@ module _ (rule : Bool) (walk next : Walk) where
   pub step-taken : (after : Walk) → after ≡ next → rule ≡ true → record { walk = after; ok = true } ≡ stepIf rule walk next
   step-taken after e k = rw (k, e)
 
--- a text that was lent in three steps: the rest of the image, its first byte, and as many bytes behind that
+-- a text that was lent in three steps: the rest of the image, its first byte, and as many bytes after that
 pub name-lent : (image tail r : List ℕ) (p n : ℕ) → tail ≡ drop p image → n ≡ getD tail 0 0 → r ≡ take n (drop 1 tail) → r ≡ nameAt image p
 unfolding textFirst
 name-lent image tail r p n a b d = d ∙ rw (b, a)

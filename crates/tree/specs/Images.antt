@@ -1,4 +1,4 @@
--- An image as frames, one behind the other.
+-- An image as frames, one after the other.
 use Prim.Native.Nat.{ℕ, zero, suc, _-_}
 use mathlib.Core.List.{List, [], _∷_, _++_}
 use Rattle.image.specs.Frames.{Frame, encode}

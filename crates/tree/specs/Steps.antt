@@ -10,7 +10,7 @@ use Rattle.tree.specs.Rules.{Seen, obeys}
 use Rattle.tree.specs.declared.walk.Walk.{Walk}
 use Rattle.tree.specs.declared.walk.Step.{Step}
 
--- the text behind the length byte at the front
+-- the text after the length byte at the front
 unfoldable pub textFirst : List ℕ → List ℕ
 textFirst s = take (getD s 0 0) (drop 1 s)
 

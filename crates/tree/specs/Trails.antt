@@ -23,7 +23,7 @@ pub record Within (words image : List ℕ) (place : Place) : Type 0 where
   pub inside : place .end ≤ length image
   pub passed : place .at ≤ length words
 
--- a place that words have led to: the command's part of the image, and the words behind its path
+-- a place that words have led to: the command's part of the image, and the words after its path
 pub record Descended (words image : List ℕ) (place : Place) (r : Reached) : Type 0 where
   pub path : textsIn (take (place .at) words) ≡ r .path
   pub left : textsIn (drop (place .at) words) ≡ r .words

@@ -12,7 +12,7 @@ ghost use Rattle.frame.specs.Framed.{frameFirst};
 ghost use Rattle.tree.specs.Inner.{nextIn, foundBy, Ahead, startTrail, Passing, AtFrame, AtChild};
 ghost use Rattle.tree.specs.declared.command.Next.the-variants.{Word};
 
-// A part of the image, and the place in the words behind the path that leads to it.
+// A part of the image, and the place in the words after the path that leads to it.
 pub struct Place {
     pub start: usize,
     pub end: usize,

@@ -6,7 +6,7 @@ use buffer::push;
 ghost use mathlib.Core.Path.{_≡_};
 ghost use Rattle.tree.specs.Growth.{hasRoom, Grows};
 
-// Whether the walk's numbers are in range and so many bytes have room behind its place: in the buffer, and in an image.
+// Whether the walk's numbers are in range and so many bytes have room after its place: in the buffer, and in an image.
 fn has_room(walk: Walk, size: usize, room: usize) -> bool
     ensures { λ r. ⌜ r ≡ hasRoom walk size room ⌝ }
 {

@@ -81,7 +81,7 @@ impl Walk {
     }
 }
 
-// The text behind the length byte at a place.
+// The text after the length byte at a place.
 pub fn name_at(image: &[u8], place: usize) -> &[u8]
     ensures { λ r. ⌜ now r ≡ nameAt (now (image .entry)) place ⌝ }
 {

@@ -77,7 +77,7 @@ run-start line start quotes h =
       taken = refl;
     }
 
--- one run behind another
+-- one run after another
 runs-join : (quotes : Bool) (run more : List ℕ) → runFirst quotes run ≡ run → runFirst quotes more ≡ more → runFirst quotes (run ++ more) ≡ run ++ more
 unfolding runFirst
 runs-join quotes [] more h k = k
@@ -174,7 +174,7 @@ run-does : (run : List ℕ) (quotes : Bool) → runFirst quotes run ≡ run → 
 run-does [] quotes h word rest = ap (λ (l : List ℕ). tokensFrom l quotes false rest) (sym (append-nil word))
 run-does (c ∷ run) quotes h word rest = run-done word run rest quotes false c h
 
--- a character that is taken, and the run behind it
+-- a character that is taken, and the run after it
 pub reading-on : (line : List ℕ) (s : Scan) (n end : ℕ) → Reading line s Take n → WholeRun line (s .at + n) (s .quotes) end → Reading line s Take (end - s .at)
 reading-on line s n end h w =
     let r = w .reached in

@@ -1,4 +1,4 @@
--- `quote::quoter::write` meets its contract: each word is a write right behind those before it; a bad word does not come up.
+-- `quote::quoter::write` meets its contract: each word is a write right after those before it; a bad word does not come up.
 use Rattle.quote.proofs.Listing.{item-none}
 use Rattle.quote.proofs.Laying.{Laying, laying-start, laying-end, word-room, word-turn}
 use Rattle.quote.proofs.Counting.{fine-word, word-within, word-formed, restLine, rest-start, rest-bad, rest-end, fine-turn}

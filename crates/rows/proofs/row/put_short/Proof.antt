@@ -1,4 +1,4 @@
--- `rows::row::put_short` meets its contract: nothing, or a dash, the short and what stands behind it.
+-- `rows::row::put_short` meets its contract: nothing, or a dash, the short and what stands after it.
 use Rattle.rows.proofs.OneRow.{short-none, short-some}
 use Rattle.buffer.proofs.Inking.{inked-nothing, inked-as, counts-as, counts-1, counts-2, counts-3, inked-three}
 use Rattle.buffer.specs.Ascii.{ascii}

@@ -1,4 +1,4 @@
--- `tree::growing::add_frame` meets its contract: no room, a rule broken, bytes behind the frame, or the frame added.
+-- `tree::growing::add_frame` meets its contract: no room, a rule broken, bytes after the frame, or the frame added.
 use Rattle.tree.proofs.OneFrameMore.{room-told, walk-sound, refused-room, refused-rule, refused-end, added}
 use borrow.Author.Needs.{needs}
 use native.Mathlib.Omega.{arith}
