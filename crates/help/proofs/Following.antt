@@ -12,7 +12,7 @@ use Rattle.text.specs.Apart.{wordsBetween, nextWord}
 use Rattle.text.specs.declared.apart.Word.{Word}
 use Rattle.text.specs.declared.apart.Word.the-variants.{At, Nothing}
 use Rattle.frame.specs.Text.{Bytes}
-use Rattle.image.specs.Frames.{Frame, encode}
+use Rattle.image.specs.Frames.{Frame, encodeFrame}
 use Rattle.tree.specs.Images.{framesOf, flat}
 use Rattle.tree.specs.Rules.{start, checkTree}
 use Rattle.tree.specs.declared.check.Checked.the-variants.{Good}
@@ -68,7 +68,7 @@ place-none test ends [] e = refl
 place-none test ends (f ∷ l) e = by (test f) (ends f) e (place-none test ends l)
   where
     by : (t u : Bool) → cond t (f ∷ l) (onFrom test l) ≡ [] → (onFrom test l ≡ [] → placeOf test ends l ≡ NoSpot)
-        → cond u NoSpot (cond t (SpotAt 0) (shifted (length (encode f)) (placeOf test ends l))) ≡ NoSpot
+        → cond u NoSpot (cond t (SpotAt 0) (shifted (length (encodeFrame f)) (placeOf test ends l))) ≡ NoSpot
     by true u q more = cc
     by false true q more = refl
     by false false q more = rw (more q)

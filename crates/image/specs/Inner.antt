@@ -2,13 +2,13 @@
 use Prim.Native.Nat.{ℕ, max}
 use mathlib.Core.Bool.{cond, Bool}
 use mathlib.Core.List.{List, [], _∷_}
-use Rattle.image.specs.Limits.{shown, definable}
+use Rattle.image.specs.Limits.{isShown, definable}
 use Rattle.image.specs.declared.head.Lengths.{Lengths}
 use Rattle.image.specs.Reading.{nameIn, longIn, noteIn}
 
 -- 1 for a byte outside of the range
 unfoldable pub strange : ℕ → ℕ → ℕ
-strange low b = cond (shown low b) 0 1
+strange low b = cond (isShown low b) 0 1
 
 unfoldable pub strangest : ℕ → List ℕ → ℕ
 strangest low [] = 0

@@ -9,7 +9,7 @@ use lib.ListN.{length, drop, length-drop}
 use lib.Seq.{drop-drop}
 use Rattle.frame.specs.Text.{Bytes}
 use Rattle.frame.proofs.Texts.{bytes-drop}
-use Rattle.image.specs.Frames.{Frame, node, option, flag, encode}
+use Rattle.image.specs.Frames.{Frame, node, option, flag, encodeFrame}
 use Rattle.image.specs.Reading.{Read, read, broken, ended, readFirst}
 use Rattle.image.proofs.Encoding.{read-within, read-size, read-ended}
 use Rattle.tree.specs.Images.{Item, whole, torn, items, framesIn, framesOf}
@@ -82,14 +82,14 @@ place-first want ends (whole f ∷ l) s k b e p =
     let x = by i (ends f) (want f) refl (placeOf want ends (framesIn l)) p (λ j q. place-first want ends l (drop (i .size) s) j (bytes-drop (i .size) s b) (i .others) q) in
     record { frame-at = x .0; first = x .1 }
   where
-    by : (i : FirstItem s f l) (t u : Bool) → want f ≡ u → (x : Spot) → cond t Nothing (cond u (At 0) (shifted (length (encode f)) x)) ≡ At k
+    by : (i : FirstItem s f l) (t u : Bool) → want f ≡ u → (x : Spot) → cond t Nothing (cond u (At 0) (shifted (length (encodeFrame f)) x)) ≡ At k
         → ((j : ℕ) → x ≡ At j → FirstAt want ends (framesIn l) (drop (i .size) s) j)
         → (a : FrameAt want s k) × (cond t none (cond u (some f) (firstOf want ends (framesIn l))) ≡ some (a .frame))
     by i true u w x q more = absurd (let z : _≡_ {A = ℕ} 0 1 = cc in omega arith)
     by i false true w x q more = let z : _≡_ {A = ℕ} 0 k = cc in rw (← z) (here want s f (i .size) (i .found) w, refl)
     by i false false w (At j) q more =
         let n = read-size s f (i .size) b (i .found) in
-        let z : length (encode f) + j ≡ k = cc in
+        let z : length (encodeFrame f) + j ≡ k = cc in
         let y : i .size + j ≡ k = omega arith in
         let m = more j refl in
         rw (← y) (beyond want s (i .size) j (read-within s f (i .size) (i .found) .1) (m .frame-at), m .first)
@@ -129,7 +129,7 @@ unfolding placeOf firstOf
 place-none want ends [] e = refl
 place-none want ends (f ∷ l) e = by (ends f) (want f) (placeOf want ends l) e (place-none want ends l)
   where
-    by : (t u : Bool) (x : Spot) → cond t Nothing (cond u (At 0) (shifted (length (encode f)) x)) ≡ Nothing → (x ≡ Nothing → firstOf want ends l ≡ none)
+    by : (t u : Bool) (x : Spot) → cond t Nothing (cond u (At 0) (shifted (length (encodeFrame f)) x)) ≡ Nothing → (x ≡ Nothing → firstOf want ends l ≡ none)
         → cond t none (cond u (some f) (firstOf want ends l)) ≡ none
     by true u x q more = refl
     by false true x q more = absurd (let z : _≡_ {A = ℕ} 0 1 = cc in omega arith)

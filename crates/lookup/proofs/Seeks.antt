@@ -9,7 +9,7 @@ use lib.Seq.{drop-drop}
 use Rattle.buffer.proofs.Lists.{drop-end}
 use Rattle.frame.specs.Text.{Bytes}
 use Rattle.frame.proofs.Texts.{bytes-drop}
-use Rattle.image.specs.Frames.{Frame, encode}
+use Rattle.image.specs.Frames.{Frame, encodeFrame}
 use Rattle.image.specs.Reading.{Read, read, broken, ended, readFirst}
 use Rattle.image.proofs.Encoding.{read-within, read-size, read-ended}
 use Rattle.tree.specs.Images.{framesIn, framesOf}
@@ -98,12 +98,12 @@ module _ (want ends : Frame → Bool) (image : List ℕ) (at : ℕ) where
           let is : m ≡ n = size (ends f) (want f) m k in
           let w = read-within (drop at image) f m q in
           let l = length-drop at image in
-          let long : m ≡ length (encode f) = read-size (drop at image) f m (bytes-drop at image b) q in
+          let long : m ≡ length (encodeFrame f) = read-size (drop at image) f m (bytes-drop at image b) q in
           record {
             some = omega arith;
             within = λ h. omega arith;
             same =
-                rw (frames-read (drop at image) f m q, choose (ends f) (want f) m _ k, later-later at (length (encode f)), ← long, is, drop-drop n at image);
+                rw (frames-read (drop at image) f m q, choose (ends f) (want f) m _ k, later-later at (length (encodeFrame f)), ← long, is, drop-drop n at image);
           }
       by broken q k = absurd (let z : _≡_ {A = ℕ} 0 1 = cc in omega arith)
       by ended q k = absurd (let z : _≡_ {A = ℕ} 0 1 = cc in omega arith)

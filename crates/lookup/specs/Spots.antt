@@ -4,7 +4,7 @@ use mathlib.Core.Bool.{Bool, cond}
 use mathlib.Core.List.{List, [], _∷_}
 use mathlib.Core.Option.{Option, none, some}
 use lib.ListN.{length, drop}
-use Rattle.image.specs.Frames.{Frame, encode}
+use Rattle.image.specs.Frames.{Frame, encodeFrame}
 use Rattle.tree.specs.Images.{framesOf}
 use Rattle.lookup.specs.declared.seek.Spot.{Spot}
 use Rattle.lookup.specs.declared.seek.Spot.the-variants.{At, Nothing}
@@ -17,7 +17,7 @@ shifted n Nothing = Nothing
 unfoldable pub placeOf : (Frame → Bool) → (Frame → Bool) → List Frame → Spot
 placeOf wanted ends [] = Nothing
 placeOf wanted ends (f ∷ l) =
-    cond (ends f) Nothing (cond (wanted f) (At 0) (shifted (length (encode f)) (placeOf wanted ends l)))
+    cond (ends f) Nothing (cond (wanted f) (At 0) (shifted (length (encodeFrame f)) (placeOf wanted ends l)))
 
 -- that frame itself
 unfoldable pub firstOf : (Frame → Bool) → (Frame → Bool) → List Frame → Option Frame

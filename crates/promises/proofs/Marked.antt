@@ -14,7 +14,7 @@ use Rattle.frame.specs.Text.{numberBytes, textOf}
 use Rattle.words.specs.Tokens.{roleOf, tokensFrom, tokens, wordsOf, wordFrames}
 use Rattle.words.specs.Answer.{written, Tokenized, number as tokensNumber, value as tokensValue}
 use Rattle.words.specs.declared.tokenizer.Tokens.{Tokens}
-use Rattle.image.specs.Frames.{absent, present, Frame, node, option, flag, text, perhaps, encode as encodeFrame}
+use Rattle.image.specs.Frames.{absent, present, Frame, node, option, flag, text, perhaps, encodeFrame}
 use Rattle.image.specs.Limits.{allShown, isName, isNote, isShort, definable, fair}
 use Rattle.image.specs.Reading.{span, perhapsIn, nodeLengths, definitionLengths, nodeFirst, optionFirst, flagFirst, headFirst, nodeIn, optionIn, flagIn, readFirst}
 use Rattle.tree.specs.Images.{itemsFrom, items, framesIn, framesOf, flat}

@@ -59,7 +59,7 @@ use Rattle.history.specs.Answer.{entriesIn, Addition}
 use Rattle.history.specs.Steps.{back, onward}
 use Rattle.history.specs.declared.stepping.History.{History}
 use Rattle.history.specs.declared.adding.Added.the-variants.{Done}
-use Rattle.screen.specs.Decimal.{decimal, valueOf}
+use Rattle.screen.specs.Decimal.{decimal, digitsValue}
 use Rattle.screen.specs.Redraw.{redraw}
 use Rattle.screen.proofs.Numerals.{Digits, decimal-one, decimal-value, decimal-digits, decimal-lead}
 use Rattle.editor.specs.declared.line.Editor.{Editor}
@@ -178,7 +178,7 @@ pub split-whitespace : (s : List ℕ) → Splitting s
 split-whitespace = splitting
 
 -- `Display` of a usize (decimal): the ASCII digits of the number, one for 0 and no leading 0 for any other; and in `\u{..}` a digit of 16 (digitOf) has its value
-pub display : (n : ℕ) → (valueOf (decimal n) ≡ n) × Digits (decimal n) × (0 < n → 0x30 < getD (decimal n) 0 0)
+pub display : (n : ℕ) → (digitsValue (decimal n) ≡ n) × Digits (decimal n) × (0 < n → 0x30 < getD (decimal n) 0 0)
 display n = (decimal-value n, decimal-digits n, decimal-lead n)
 
 pub display-zero : decimal 0 ≡ 0x30 ∷ []

@@ -12,7 +12,7 @@ use native.Mathlib.Omega.{arith}
 use native.Mathlib.Numerals.{add-one}
 use lib.ListN.{length, take, drop, length-append, length-drop}
 use Rattle.text.specs.Decoding.{wellFormedLength}
-use Rattle.quote.specs.Given.{listed, Judged, bad, fine, onJudged, before, judgeWords, goodWord}
+use Rattle.quote.specs.Given.{listed, Judged, bad, fine, onJudged, wordBefore, judgeWords, goodWord}
 use Rattle.quote.specs.Shown.{shown}
 use Rattle.quote.specs.Joined.{gapBefore, joinedFrom, joined}
 use Rattle.quote.specs.Answer.{quoteLine, lineOf}
@@ -46,8 +46,8 @@ module _ (words : List ℕ) (at len : ℕ) (t : WordTold (drop at words) len) wh
   pub word-formed : wellFormedLength (take (at + 3 + len - (at + 3)) (drop (at + 3) words)) ≡ length (take (at + 3 + len - (at + 3)) (drop (at + 3) words))
   word-formed = rw (part-is words at len) (good-formed (take len (drop 3 (drop at words))) (t .good))
 
-  pub word-judged : judgeWords (listed (drop at words)) ≡ before (take (at + 3 + len - (at + 3)) (drop (at + 3) words)) (judgeWords (listed (drop (at + 3 + len) words)))
-  word-judged = judge-word words at len t ∙ ap (λ (w : List ℕ). before w (judgeWords (listed (drop (at + 3 + len) words)))) (sym (part-is words at len))
+  pub word-judged : judgeWords (listed (drop at words)) ≡ wordBefore (take (at + 3 + len - (at + 3)) (drop (at + 3) words)) (judgeWords (listed (drop (at + 3 + len) words)))
+  word-judged = judge-word words at len t ∙ ap (λ (w : List ℕ). wordBefore w (judgeWords (listed (drop (at + 3 + len) words)))) (sym (part-is words at len))
 
 -- what measuring finds, where n words of `size` bytes are passed
 abbrev pub resume : ℕ → ℕ → Judged → Measured
@@ -59,7 +59,7 @@ unfolding quoteLine joined
 resume-start (bad k) = ap Bad (omega arith)
 resume-start (fine ws) = ap Needs (omega arith)
 
-resume-turn : (n size : ℕ) (w : List ℕ) (j : Judged) → resume n size (before w j) ≡ resume (n + 1) (size + length (gapBefore n) + length (shown w)) j
+resume-turn : (n size : ℕ) (w : List ℕ) (j : Judged) → resume n size (wordBefore w j) ≡ resume (n + 1) (size + length (gapBefore n) + length (shown w)) j
 unfolding joinedFrom
 resume-turn n size w (bad k) = ap Bad (omega arith)
 resume-turn n size w (fine ws) =
@@ -126,14 +126,14 @@ rest-start words = by (judgeWords (listed words))
     by (bad k) = refl
     by (fine ws) = refl
 
-rest-more : (n : ℕ) (w : List ℕ) (j : Judged) → IsFine j → restLine n (before w j) ≡ (gapBefore n ++ shown w) ++ restLine (n + 1) j
+rest-more : (n : ℕ) (w : List ℕ) (j : Judged) → IsFine j → restLine n (wordBefore w j) ≡ (gapBefore n ++ shown w) ++ restLine (n + 1) j
 unfolding joinedFrom
 rest-more n w (bad k) f = absurd f
 rest-more n w (fine ws) f =
     sym (append-assoc (gapBefore n) (shown w) (joinedFrom (suc n) (map shown ws)))
     ∙ ap (λ (k : ℕ). (gapBefore n ++ shown w) ++ joinedFrom k (map shown ws)) (sym (add-one n))
 
-fine-behind : (w : List ℕ) (j : Judged) → IsFine (before w j) → IsFine j
+fine-behind : (w : List ℕ) (j : Judged) → IsFine (wordBefore w j) → IsFine j
 fine-behind w (bad k) f = f
 fine-behind w (fine ws) f = tt
 

@@ -25,7 +25,7 @@ use Rattle.words.specs.declared.role.Role.{Role}
 use Rattle.words.specs.declared.role.Role.the-variants.{Take, Escape, Toggle, Gap}
 use Rattle.words.specs.Tokens.{roleOf, onRole, tokensFrom, tokens, wordsOf, wordFrames}
 use Rattle.words.proofs.GoodWords.{Each, nothing, also, Good}
-use Rattle.quote.specs.Given.{Listed, done, broken, word, listedFrom, listed, goodWord, Judged, bad, fine, before, judgeWords}
+use Rattle.quote.specs.Given.{Listed, done, broken, word, listedFrom, listed, goodWord, Judged, bad, fine, wordBefore, judgeWords}
 use Rattle.quote.specs.Joined.{gapBefore, joinedFrom, joined}
 use Rattle.quote.specs.Answer.{quoteLine}
 use Rattle.quote.specs.Inner.{itemFirst}
@@ -264,7 +264,7 @@ fine-good done ws e = rw (sym (fine-is [] ws e)) nothing
 fine-good broken ws e = absurd (not-fine 0 ws e)
 fine-good (word w l) ws e = by (goodWord w) refl (judgeWords l) (λ vs q. fine-good l vs q) e
   where
-    by : (t : Bool) → goodWord w ≡ t → (j : Judged) → ((vs : List (List ℕ)) → j ≡ fine vs → Each Good vs) → cond t (before w j) (bad 0) ≡ fine ws → Each Good ws
+    by : (t : Bool) → goodWord w ≡ t → (j : Judged) → ((vs : List (List ℕ)) → j ≡ fine vs → Each Good vs) → cond t (wordBefore w j) (bad 0) ≡ fine ws → Each Good ws
     by true g (fine vs) h q = rw (sym (fine-is (w ∷ vs) ws q)) (also (good-word w g) (h vs refl))
     by true g (bad k) h q = absurd (not-fine (suc k) ws q)
     by false g j h q = absurd (not-fine 0 ws q)
@@ -287,7 +287,7 @@ unfolding wordFrames
 nothing-framed = refl
 
 step-back : (s w rest : List ℕ) (ws : List (List ℕ)) → s ≡ frameOf 0x14 w ++ rest → (j : Judged) → ((vs : List (List ℕ)) → j ≡ fine vs → wordFrames vs ≡ rest)
-    → before w j ≡ fine ws → wordFrames ws ≡ s
+    → wordBefore w j ≡ fine ws → wordFrames ws ≡ s
 unfolding wordFrames
 step-back s w rest ws q (fine vs) h e = rw (sym (fine-is (w ∷ vs) ws e)) (ap (λ (l : List ℕ). frameOf 0x14 w ++ l) (h vs refl) ∙ sym q)
 step-back s w rest ws q (bad k) h e = absurd (not-fine (suc k) ws e)

@@ -19,7 +19,7 @@ use Rattle.frame.specs.declared.framed.Framed.{Framed}
 use Rattle.frame.specs.declared.framed.Framed.the-variants.{Frame, Broken, End}
 use Rattle.frame.proofs.framed.Framed.{the-type}
 use Rattle.frame.proofs.Frames.{frame-within}
-use Rattle.quote.specs.Given.{Listed, broken, word, listedFrom, listed, goodWord, bad, fine, before, judgeWords}
+use Rattle.quote.specs.Given.{Listed, broken, word, listedFrom, listed, goodWord, bad, fine, wordBefore, judgeWords}
 use Rattle.quote.specs.Shown.{shown}
 use Rattle.quote.specs.Inner.{itemOf, itemFirst, plainWord}
 use Rattle.text.proofs.Prefix.{prefix-fits}
@@ -169,18 +169,18 @@ unfolding listedFrom listed judgeWords
 listed-end s at h = rw (drop-end s at h)
 
 -- and its judgement
-pub judge-first : (s : List ℕ) (n : ℕ) → WordTold s n → judgeWords (listed s) ≡ before (take n (drop 3 s)) (judgeWords (listed (drop (3 + n) s)))
+pub judge-first : (s : List ℕ) (n : ℕ) → WordTold s n → judgeWords (listed s) ≡ wordBefore (take n (drop 3 s)) (judgeWords (listed (drop (3 + n) s)))
 unfolding judgeWords
 judge-first s n t =
     ap judgeWords (listed-word s n (t .head)) ∙ then-is _ _ _ (t .good)
 
 pub judge-word : (words : List ℕ) (at n : ℕ) → WordTold (drop at words) n
-    → judgeWords (listed (drop at words)) ≡ before (take n (drop 3 (drop at words))) (judgeWords (listed (drop (at + 3 + n) words)))
+    → judgeWords (listed (drop at words)) ≡ wordBefore (take n (drop 3 (drop at words))) (judgeWords (listed (drop (at + 3 + n) words)))
 judge-word words at n t =
     let w : List ℕ = take n (drop 3 (drop at words)) in
     let place : at + (3 + n) ≡ at + 3 + n = omega arith in
     judge-first (drop at words) n t
-    ∙ ap (λ (l : List ℕ). before w (judgeWords (listed l))) (drop-drop (3 + n) at words ∙ ap (λ (k : ℕ). drop k words) place)
+    ∙ ap (λ (l : List ℕ). wordBefore w (judgeWords (listed l))) (drop-drop (3 + n) at words ∙ ap (λ (k : ℕ). drop k words) place)
 
 word-or-bad : (n size : ℕ) → Word n size ≡ Bad → ⊥
 word-or-bad n size e = let z : _≡_ {A = ℕ} 0 1 = cc in omega arith

@@ -11,7 +11,7 @@ use lib.Seq.{drop-drop}
 use Rattle.buffer.proofs.Lists.{drop-end}
 use Rattle.frame.specs.Text.{Bytes}
 use Rattle.frame.proofs.Texts.{bytes-drop}
-use Rattle.image.specs.Frames.{Perhaps, absent, present, Frame, node, option, flag, text, perhaps, encode}
+use Rattle.image.specs.Frames.{Perhaps, absent, present, Frame, node, option, flag, text, perhaps, encodeFrame}
 use Rattle.image.specs.Reading.{Read, read, broken, ended, readFirst}
 use Rattle.image.proofs.Encoding.{length-text, read-within, read-size}
 use Rattle.tree.specs.Images.{framesOf}
@@ -63,8 +63,8 @@ pub node-most : (indent : List ℕ) (w : ℕ) (n ds : List ℕ) → w ≤ 20 →
 unfolding nodeRow ascii
 node-most indent w n ds h = let a = length-append (entry indent w n ds) (ascii "\n") in let e = entry-most indent w n ds h in omega arith
 
-node-long : (d h : ℕ) (n ds : List ℕ) (u : Perhaps) → 6 + length n + length ds ≤ length (encode (node d h n ds u))
-unfolding encode
+node-long : (d h : ℕ) (n ds : List ℕ) (u : Perhaps) → 6 + length n + length ds ≤ length (encodeFrame (node d h n ds u))
+unfolding encodeFrame
 node-long d h n ds u =
     let a = length-append (text n ++ text ds) (perhaps u) in
     let b = length-append (text n) (text ds) in
@@ -85,8 +85,8 @@ pub definition-most : (c : ℕ) (n : List ℕ) (x : Perhaps) (ds : List ℕ) →
 unfolding ascii
 definition-most c n x ds = let e = entry-most (ascii "  ") 20 (shownAs c n x) ds (omega arith) in let s = shown-most c n x in omega arith
 
-option-most : (r c : ℕ) (n : List ℕ) (x : Perhaps) (ds : List ℕ) → length (optionRow r c n x ds) ≤ 64 * length (encode (option r c n x ds))
-unfolding optionRow requiredMark ascii encode
+option-most : (r c : ℕ) (n : List ℕ) (x : Perhaps) (ds : List ℕ) → length (optionRow r c n x ds) ≤ 64 * length (encodeFrame (option r c n x ds))
+unfolding optionRow requiredMark ascii encodeFrame
 option-most r c n x ds =
     let e : List ℕ = entry (ascii "  ") 20 (shownAs c n x) ds in
     let a = length-append (e ++ cond (eqb r 1) (ascii " (required)") []) (ascii "\n") in
@@ -96,15 +96,15 @@ option-most r c n x ds =
     let l = definition-long n x ds in
     omega arith
 
-flag-most : (c : ℕ) (n : List ℕ) (x : Perhaps) (ds : List ℕ) → length (flagRow c n x ds) ≤ 64 * length (encode (flag c n x ds))
-unfolding flagRow ascii encode
+flag-most : (c : ℕ) (n : List ℕ) (x : Perhaps) (ds : List ℕ) → length (flagRow c n x ds) ≤ 64 * length (encodeFrame (flag c n x ds))
+unfolding flagRow ascii encodeFrame
 flag-most c n x ds =
     let a = length-append (entry (ascii "  ") 20 (shownAs c n x) ds) (ascii "\n") in
     let k = definition-most c n x ds in
     let l = definition-long n x ds in
     omega arith
 
-row-most : (k : Listing) (f : Frame) → length (rowOf k f) ≤ 64 * length (encode f)
+row-most : (k : Listing) (f : Frame) → length (rowOf k f) ≤ 64 * length (encodeFrame f)
 unfolding ascii
 row-most Options (node d h n ds u) = omega arith
 row-most Options (option r c n x ds) = option-most r c n x ds

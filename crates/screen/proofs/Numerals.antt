@@ -11,7 +11,7 @@ use borrow.Author.Tests.{lt-ltb, le-ltb, ltb-true, ltb-false}
 use Rattle.buffer.specs.Write.{Pushed}
 use Rattle.buffer.proofs.Choices.{then-is, else-is}
 use Rattle.buffer.proofs.Writing.{pushed-both}
-use Rattle.screen.specs.Decimal.{digitsIn, decimal, valueAfter, valueOf}
+use Rattle.screen.specs.Decimal.{digitsIn, decimal, valueAfter, digitsValue}
 
 -- the bound on the number of digits does not matter
 enough : (j k n : ℕ) → n ≤ j → n ≤ k → digitsIn j n ≡ digitsIn k n
@@ -56,17 +56,17 @@ value-snoc v [] d = refl
 value-snoc v (x ∷ s) d = value-snoc (v * 10 + (x - 0x30)) s d
 
 -- THE VALUE of a number's digits is the number
-pub decimal-value : (n : ℕ) → valueOf (decimal n) ≡ n
-unfolding valueOf valueAfter
-decimal-value = by-digits (λ n. valueOf (decimal n) ≡ n) one more
+pub decimal-value : (n : ℕ) → digitsValue (decimal n) ≡ n
+unfolding digitsValue valueAfter
+decimal-value = by-digits (λ n. digitsValue (decimal n) ≡ n) one more
   where
-    one : (n : ℕ) → n < 10 → valueOf (decimal n) ≡ n
-    one n h = ap valueOf (decimal-one n h) ∙ omega arith
+    one : (n : ℕ) → n < 10 → digitsValue (decimal n) ≡ n
+    one n h = ap digitsValue (decimal-one n h) ∙ omega arith
 
-    more : (n : ℕ) → 10 ≤ n → valueOf (decimal (n / 10)) ≡ n / 10 → valueOf (decimal n) ≡ n
+    more : (n : ℕ) → 10 ≤ n → digitsValue (decimal (n / 10)) ≡ n / 10 → digitsValue (decimal n) ≡ n
     more n h e =
         let s = value-snoc 0 (decimal (n / 10)) (0x30 + n % 10) in
-        ap valueOf (decimal-more n h) ∙ s ∙ ap (λ (v : ℕ). v * 10 + (0x30 + n % 10 - 0x30)) e ∙ omega arith
+        ap digitsValue (decimal-more n h) ∙ s ∙ ap (λ (v : ℕ). v * 10 + (0x30 + n % 10 - 0x30)) e ∙ omega arith
 
 -- ASCII digits, and texts of them
 abbrev pub Digit : ℕ → Type 0
@@ -137,8 +137,8 @@ behind v (x ∷ s) h d =
     lastDigit : (v x : ℕ) → Digit x → 0x30 + (v * 10 + (x - 0x30)) % 10 ≡ x
     lastDigit v x d = omega arith
 
-pub decimal-only : (d : ℕ) (s : List ℕ) → 0x30 < d → Digits (d ∷ s) → decimal (valueOf (d ∷ s)) ≡ d ∷ s
-unfolding valueOf valueAfter
+pub decimal-only : (d : ℕ) (s : List ℕ) → 0x30 < d → Digits (d ∷ s) → decimal (digitsValue (d ∷ s)) ≡ d ∷ s
+unfolding digitsValue valueAfter
 decimal-only d s h k =
     let first : 0 * 10 + (d - 0x30) ≡ d - 0x30 = omega arith in
     let back : 0x30 + (d - 0x30) ≡ d = omega arith in

@@ -18,5 +18,5 @@ unfoldable pub valueAfter : ℕ → List ℕ → ℕ
 valueAfter v [] = v
 valueAfter v (d ∷ s) = valueAfter (v * 10 + (d - 0x30)) s
 
-unfoldable pub valueOf : List ℕ → ℕ
-valueOf s = valueAfter 0 s
+unfoldable pub digitsValue : List ℕ → ℕ
+digitsValue s = valueAfter 0 s

@@ -12,7 +12,7 @@ use Rattle.buffer.specs.Write.{over, overAt}
 use Rattle.buffer.proofs.Choices.{true-is-not-false}
 use Rattle.buffer.proofs.Lending.{length-overAt}
 use Rattle.frame.specs.Text.{Bytes}
-use Rattle.image.specs.Frames.{Frame, encode}
+use Rattle.image.specs.Frames.{Frame, encodeFrame}
 use Rattle.image.specs.Limits.{both, fair}
 use Rattle.image.specs.Reading.{Read, read, broken, ended, readFirst}
 use Rattle.image.proofs.Encoding.{fair-fits, frame-read, read-back}
@@ -54,7 +54,7 @@ start-stands buffer = (omega arith, record { place = refl; short = omega arith; 
 -- a frame that is alone is read the same whatever comes after it
 frame-behind : (frame rest : List ℕ) (f : Frame) → Bytes frame → fair f ≡ true → readFirst frame ≡ read f (length frame) → readFirst (frame ++ rest) ≡ read f (length frame)
 frame-behind frame rest f b g e =
-    let back : frame ≡ encode f = read-back frame b f (length frame) e ∙ rw (drop-length frame) (append-nil (encode f)) in
+    let back : frame ≡ encodeFrame f = read-back frame b f (length frame) e ∙ rw (drop-length frame) (append-nil (encodeFrame f)) in
     rw back (frame-read f rest (fair-fits f g))
 
 -- one frame after an image that was passed

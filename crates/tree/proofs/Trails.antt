@@ -19,7 +19,7 @@ use Rattle.frame.specs.declared.framed.Framed.{Framed as Frames}
 use Rattle.frame.specs.declared.framed.Framed.the-variants.{Frame as Framed, Broken, End as Ended}
 use Rattle.frame.proofs.Texts.{bytes-drop}
 use Rattle.frame.proofs.Series.{texts-stop, word-within, word-length, words-more, texts-none, whole-none, path-more, path-whole}
-use Rattle.image.specs.Frames.{Perhaps, text, perhaps, Frame, node, option, flag, encode}
+use Rattle.image.specs.Frames.{Perhaps, text, perhaps, Frame, node, option, flag, encodeFrame}
 use Rattle.image.specs.Limits.{both, isName, fair}
 use Rattle.image.specs.Reading.{headFirst, readBy, Read, read, broken, ended, readFirst, nodeIn, optionIn, flagIn}
 use Rattle.image.specs.declared.head.Head.{Head}
@@ -138,20 +138,20 @@ plain-flag c name l ds = record { below = by; other = λ k w. refl }
     by (suc k) = refl
 
 module _ (image : List ℕ) (at n : ℕ) (b : Bytes image) where
-  byte-of : (i : ℕ) (f : Frame) → readFirst (drop at image) ≡ read f n → getD image (at + i) 0 ≡ getD (encode f ++ drop n (drop at image)) i 0
+  byte-of : (i : ℕ) (f : Frame) → readFirst (drop at image) ≡ read f n → getD image (at + i) 0 ≡ getD (encodeFrame f ++ drop n (drop at image)) i 0
   byte-of i f e = sym (getD-drop at image i 0) ∙ ap (λ (s : List ℕ). getD s i 0) (read-back (drop at image) (bytes-drop at image b) f n e)
 
-  kind-of : (f : Frame) → readFirst (drop at image) ≡ read f n → getD image at 0 ≡ getD (encode f ++ drop n (drop at image)) 0 0
+  kind-of : (f : Frame) → readFirst (drop at image) ≡ read f n → getD image at 0 ≡ getD (encodeFrame f ++ drop n (drop at image)) 0 0
   kind-of f e = let k : at + 0 ≡ at = omega arith in ap (λ (i : ℕ). getD image i 0) (sym k) ∙ byte-of 0 f e
 
   pub no-node : (f : Frame) → readFirst (drop at image) ≡ read f n → (getD image at 0 ≡ 1 → ⊥) → Plain f
-  unfolding encode
+  unfolding encodeFrame
   no-node (node d h name ds u) e k = absurd (k (kind-of (node d h name ds u) e))
   no-node (option r c name l ds) e k = plain-option r c name l ds
   no-node (flag c name l ds) e k = plain-flag c name l ds
 
   pub node-at : (f : Frame) → readFirst (drop at image) ≡ read f n → getD image at 0 ≡ 1 → NodeAt image at f
-  unfolding encode text textOf numberBytes fair isName
+  unfolding encodeFrame text textOf numberBytes fair isName
   node-at (node d h name ds u) e k =
       let q : getD image (at + 1) 0 ≡ d = byte-of 1 (node d h name ds u) e in
       record {
@@ -200,20 +200,20 @@ module _ (words image : List ℕ) (b : Bytes image) (at n : ℕ) (f : Frame) (e 
   frames-on : framesOf (drop at image) ≡ f ∷ more
   frames-on = frames-read (drop at image) f n e ∙ ap (λ (l : List ℕ). f ∷ framesOf l) (drop-drop n at image)
 
-  bytes-on : take n (drop at image) ≡ encode f
+  bytes-on : take n (drop at image) ≡ encodeFrame f
   bytes-on =
       let back = read-back (drop at image) (bytes-drop at image b) f n e in
-      let all : length (drop at image) ≡ length (encode f) + length (drop n (drop at image)) = ap length back ∙ length-append (encode f) (drop n (drop at image)) in
+      let all : length (drop at image) ≡ length (encodeFrame f) + length (drop n (drop at image)) = ap length back ∙ length-append (encodeFrame f) (drop n (drop at image)) in
       let less = length-drop n (drop at image) in
       let in-it = read-within (drop at image) f n e .1 in
-      let size : n ≡ length (encode f) = omega arith in
-      ap (take n) back ∙ ap (λ (m : ℕ). take m (encode f ++ drop n (drop at image))) size ∙ take-append-seam (encode f) (drop n (drop at image))
+      let size : n ≡ length (encodeFrame f) = omega arith in
+      ap (take n) back ∙ ap (λ (m : ℕ). take m (encodeFrame f ++ drop n (drop at image))) size ∙ take-append-seam (encodeFrame f) (drop n (drop at image))
 
   within : at + n ≤ length image
   within = let l = length-drop at image in let w = read-within (drop at image) f n e .1 in omega arith
 
   -- the bytes from a place before
-  front-on : (start : ℕ) → start ≤ at → take (at + n - start) (drop start image) ≡ take (at - start) (drop start image) ++ encode f
+  front-on : (start : ℕ) → start ≤ at → take (at + n - start) (drop start image) ≡ take (at - start) (drop start image) ++ encodeFrame f
   front-on start l =
       let k : at + n - start ≡ at - start + n = omega arith in
       let j : start + (at - start) ≡ at = omega arith in
@@ -222,9 +222,9 @@ module _ (words image : List ℕ) (b : Bytes image) (at n : ℕ) (f : Frame) (e 
       ∙ ap (λ (l : List ℕ). take (at - start) (drop start image) ++ take n l) (drop-drop (at - start) start image ∙ ap (λ (m : ℕ). drop m image) j)
       ∙ ap (λ (l : List ℕ). take (at - start) (drop start image) ++ l) bytes-on
 
-  flat-one : flat (f ∷ []) ≡ encode f
+  flat-one : flat (f ∷ []) ≡ encodeFrame f
   unfolding flat
-  flat-one = append-nil (encode f)
+  flat-one = append-nil (encodeFrame f)
 
   fair-one : allFair (f ∷ []) ≡ true
   unfolding allFair
@@ -258,7 +258,7 @@ module _ (words image : List ℕ) (b : Bytes image) (at n : ℕ) (f : Frame) (e 
           whole = o .whole;
           top = o .top;
           none = o .none;
-          bytes = front-on (t .place .start) (o .start) ∙ ap (λ (s : List ℕ). s ++ encode f) (o .bytes) ∙ ap (λ (s : List ℕ). flat passed ++ s) (sym flat-one) ∙ sym (flat-append passed (f ∷ []));
+          bytes = front-on (t .place .start) (o .start) ∙ ap (λ (s : List ℕ). s ++ encodeFrame f) (o .bytes) ∙ ap (λ (s : List ℕ). flat passed ++ s) (sym flat-one) ∙ sym (flat-append passed (f ∷ []));
           fair = fair-both passed (f ∷ []) (o .fair) fair-one;
           free = λ w l q. on-behind (isNamed (t .depth) w) passed (f ∷ []) (o .free w l q) ∙ on-other (isNamed (t .depth) w) (m w l q);
           steps =

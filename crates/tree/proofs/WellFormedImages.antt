@@ -10,7 +10,7 @@ use lib.Seq.{drop-append-seam}
 use borrow.Author.Tests.{le-ltb, ltb-false}
 use Rattle.frame.specs.Text.{Bytes}
 use Rattle.frame.proofs.Texts.{bytes-drop}
-use Rattle.image.specs.Frames.{Frame, encode}
+use Rattle.image.specs.Frames.{Frame, encodeFrame}
 use Rattle.image.specs.Limits.{both, fair}
 use Rattle.image.specs.Reading.{Read, read, broken, ended, readFirst}
 use Rattle.image.proofs.Fields.{both-first, both-second, both-true}
@@ -27,15 +27,15 @@ AllFit (f ∷ l) = Fits f × AllFit l
 pub flat-append : (a b : List Frame) → flat (a ++ b) ≡ flat a ++ flat b
 unfolding flat
 flat-append [] b = refl
-flat-append (f ∷ a) b = rw (flat-append a b) (sym (append-assoc (encode f) (flat a) (flat b)))
+flat-append (f ∷ a) b = rw (flat-append a b) (sym (append-assoc (encodeFrame f) (flat a) (flat b)))
 
 -- frames that were joined are read back
 pub items-flat : (fs : List Frame) → AllFit fs → items (flat fs) ≡ map whole fs
 unfolding flat
 items-flat [] k = items-none
 items-flat (f ∷ l) k =
-    items-read (encode f ++ flat l) f (length (encode f)) (frame-read f (flat l) (k .0))
-    ∙ ap (λ (m : List ℕ). whole f ∷ items m) (drop-append-seam (encode f) (flat l))
+    items-read (encodeFrame f ++ flat l) f (length (encodeFrame f)) (frame-read f (flat l) (k .0))
+    ∙ ap (λ (m : List ℕ). whole f ∷ items m) (drop-append-seam (encodeFrame f) (flat l))
     ∙ ap (λ (m : List Item). whole f ∷ m) (items-flat l (k .1))
 
 pub frames-whole : (fs : List Frame) → framesIn (map whole fs) ≡ fs
@@ -58,7 +58,7 @@ flat-back [] s b e = by (readFirst s) refl
     by ended q = read-ended s q
 flat-back (f ∷ l) s b e = by (readFirst s) refl (λ n. flat-back l (drop n s) (bytes-drop n s b))
   where
-    by : (x : Read) → readFirst s ≡ x → ((n : ℕ) → items (drop n s) ≡ map whole l → drop n s ≡ flat l) → s ≡ encode f ++ flat l
+    by : (x : Read) → readFirst s ≡ x → ((n : ℕ) → items (drop n s) ≡ map whole l → drop n s ≡ flat l) → s ≡ encodeFrame f ++ flat l
     by (read g n) q more =
         let z = items-read s g n q in
         let same : g ≡ f = cc in
@@ -138,7 +138,7 @@ flat-shorter zero fs = omega arith
 flat-shorter (suc n) [] = omega arith
 flat-shorter (suc n) (f ∷ l) =
     let k = flat-shorter n l in
-    rw (length-append (encode f) (flat (take n l)), length-append (encode f) (flat l)) (omega arith)
+    rw (length-append (encodeFrame f) (flat (take n l)), length-append (encodeFrame f) (flat l)) (omega arith)
 
 -- the first n frames of a well-formed image are a well-formed image
 pub prefix-good : (image : List ℕ) (n : ℕ) → Bytes image → checkTree image ≡ Good → checkTree (flat (take n (framesOf image))) ≡ Good

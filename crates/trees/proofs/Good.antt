@@ -2,7 +2,7 @@
 use mathlib.Core.Path.{_≡_, refl}
 use Rattle.buffer.specs.Compare.{order}
 use Rattle.frame.specs.Text.{numberBytes, textOf}
-use Rattle.image.specs.Frames.{text, perhaps, encode}
+use Rattle.image.specs.Frames.{text, perhaps, encodeFrame}
 use Rattle.image.specs.Limits.{allShown, isName, isNote, isShort, definable, fair}
 use Rattle.image.specs.Reading.{span, perhapsIn, nodeLengths, definitionLengths, nodeFirst, optionFirst, flagFirst, headFirst, nodeIn, optionIn, flagIn, readFirst}
 use Rattle.tree.specs.Images.{itemsFrom, items, flat}
@@ -14,5 +14,5 @@ use Rattle.trees.specs.Commands.{command, marked, baseTree, fsTree}
 pub good :
     (checkTree (flat baseTree) ≡ WellFormed)
     × (checkTree (flat fsTree) ≡ WellFormed)
-unfolding ascii command marked baseTree fsTree order numberBytes textOf text perhaps encode allShown isName isNote isShort definable fair span perhapsIn nodeLengths definitionLengths nodeFirst optionFirst flagFirst headFirst nodeIn optionIn flagIn readFirst itemsFrom items flat rises follows obeys after judgeItems checkTree
+unfolding ascii command marked baseTree fsTree order numberBytes textOf text perhaps encodeFrame allShown isName isNote isShort definable fair span perhapsIn nodeLengths definitionLengths nodeFirst optionFirst flagFirst headFirst nodeIn optionIn flagIn readFirst itemsFrom items flat rises follows obeys after judgeItems checkTree
 good = (refl, refl)
