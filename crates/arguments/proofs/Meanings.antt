@@ -18,7 +18,7 @@ use Rattle.image.specs.declared.head.Lengths.{Lengths}
 use Rattle.image.specs.declared.head.Head.{Head}
 use Rattle.image.specs.declared.head.Head.the-variants.{Node as HeadNode, Option as HeadOption, Flag as HeadFlag, Bad, End}
 use Rattle.image.proofs.head.Head.{the-type}
-use Rattle.image.proofs.Views.{view, definition-small}
+use Rattle.image.proofs.HeadBytes.{view, definition-small}
 use Rattle.tree.specs.Images.{framesOf}
 use Rattle.tree.specs.Subtrees.{upTo}
 use Rattle.lookup.specs.Spots.{firstOf, spot}
@@ -28,7 +28,7 @@ use Rattle.lookup.specs.declared.seek.Spot.{Spot}
 use Rattle.lookup.specs.declared.seek.Spot.the-variants.{At, Nothing}
 use Rattle.lookup.specs.declared.look.Sought.the-variants.{OptionKeyed}
 use Rattle.lookup.specs.declared.definition.Defined.the-variants.{Flag, Option as Opt, Unknown}
-use Rattle.lookup.proofs.Finds.{FrameAt, spot-first, spot-none}
+use Rattle.lookup.proofs.FoundFrames.{FrameAt, spot-first, spot-none}
 use Rattle.arguments.specs.Meanings.{definitionsAt, nameOf, firstName, Means, aFlag, anOption, nothing, flagElse, meaning, isSome, isOption}
 
 -- the name of a frame, if there is one

@@ -1,4 +1,4 @@
--- Laws of buffers: a copy in progress, a part that is lent on and comes back, one write behind another.
+-- Laws of buffers: a copy in progress, a part that is lent on and comes back, one write after another.
 use Prim.Native.Nat.{ℕ, _+_, _-_, _<_, _≤_}
 use mathlib.Core.Path.{_≡_, refl, sym, ap, _∙_}
 use mathlib.Core.List.{List, [], _∷_, _++_, append-assoc, append-nil}
@@ -11,7 +11,7 @@ use borrow.Rule.Slice.PartMut.{putMid, post-is}
 use Rattle.buffer.specs.Write.{over, overAt}
 use Rattle.buffer.proofs.Lists.{drop-step}
 
--- a turn of a copy: the first i bytes of src stand in front of what out had behind them
+-- a turn of a copy: the first i bytes of src stand in front of what out had after them
 pub copy-step : (src out : List ℕ) (i : ℕ) → i < length src → i < length out
     → set (take i src ++ drop i out) i (getD src i 0) ≡ take (i + 1) src ++ drop (i + 1) out
 copy-step src out i hs ho =
@@ -56,7 +56,7 @@ unfolding over overAt
 overAt-byte d o b h =
     set-split d o b h ∙ ap (λ (r : List ℕ). take o d ++ b ∷ r) (sym (drop-drop 1 o d ∙ ap (λ (n : ℕ). drop n d) (add-one o)))
 
--- a write, then another right behind it, is the write of both
+-- a write, then another right after it, is the write of both
 pub overAt-both : (x y d : List ℕ) (o : ℕ) → o + length x ≤ length d → overAt y (overAt x d o) (o + length x) ≡ overAt (x ++ y) d o
 unfolding over overAt
 overAt-both x y d o h =

@@ -6,3 +6,4 @@ pub mod Writing
 pub mod Ordering
 pub mod Greatest
 pub mod Zeros
+pub mod Inking

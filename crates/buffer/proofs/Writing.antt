@@ -1,4 +1,4 @@
--- Laws of writes in a row: a write behind a write, and a write at the front.
+-- Laws of writes in a row: a write after a write, and a write at the front.
 use Prim.Native.Nat.{ℕ, _+_, _-_, _≤_}
 use mathlib.Core.Path.{sym, ap, _∙_}
 use mathlib.Core.List.{List, _++_}
@@ -8,7 +8,7 @@ use borrow.Rule.Slice.PartMut.{putMid}
 use Rattle.buffer.specs.Write.{Written, Pushed}
 use Rattle.buffer.proofs.Lending.{overAt-both, overAt-front, rest-lent, rest-written}
 
--- a write right behind a write is the write of both
+-- a write right after a write is the write of both
 pub pushed-both : (x y out mid left : List ℕ) (o p r : ℕ) → o + length x ≤ length out → Pushed x out o p mid → Pushed y mid p r left → Pushed (x ++ y) out o r left
 pushed-both x y out mid left o p r h a b =
     record {
@@ -28,6 +28,6 @@ pub rest-pushed : (x d e : List ℕ) (o n : ℕ) → o ≤ length d → Written 
 rest-pushed x d e o n h w =
     record { place = ap (λ (k : ℕ). o + k) (w .count); bytes = rest-written x d e o h (w .bytes) }
 
--- the rest that is lent has room for what fits behind the place
+-- the rest that is lent has room for what fits after the place
 pub rest-room : (x d : List ℕ) (o : ℕ) → o + length x ≤ length d → length x ≤ length (take (length d - o) (drop o d))
 rest-room x d o h = rw (rest-lent d o, length-drop o d) (omega arith)

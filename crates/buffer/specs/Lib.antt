@@ -1,5 +1,8 @@
--- Definitions of the crate `buffer`: what a write leaves in a lent buffer, the order of byte strings, the greatest byte.
+-- Definitions of the crate `buffer`: what a write leaves in a lent buffer, what a writer that also measures leaves, what showing a text answers, texts in ASCII, the order of byte strings, the greatest byte.
 pub mod Write
 pub mod Compare
 pub mod Greatest
 pub mod Lend
+pub mod Ascii
+pub mod Inks
+pub mod Showing

@@ -1,14 +1,20 @@
 -- What a write leaves in a lent buffer.
 use Prim.Native.Nat.{ℕ, _+_}
 use mathlib.Core.Path.{_≡_}
+use mathlib.Core.Bool.{cond}
 use mathlib.Core.List.{List, _++_}
+use lib.Dec.{ltb}
 use lib.ListN.{length, take, drop}
 
--- a buffer after `text` was written at its front: the bytes behind the text stay
+-- a buffer after `text` was written at its front: the bytes after the text stay
 unfoldable pub over : List ℕ → List ℕ → List ℕ
 over text out = text ++ drop (length text) out
 
--- a buffer after `text` was written at the place `at`: the bytes before and behind it stay
+-- the same where there may be no room: a buffer that is too short for the text stays as it is
+unfoldable pub overIfFits : List ℕ → List ℕ → List ℕ
+overIfFits text out = cond (ltb (length out) (length text)) out (over text out)
+
+-- a buffer after `text` was written at the place `at`: the bytes before and after it stay
 unfoldable pub overAt : List ℕ → List ℕ → ℕ → List ℕ
 overAt text out at = take at out ++ over text (drop at out)
 
@@ -17,7 +23,7 @@ pub record Written (text out : List ℕ) (r : ℕ) (left : List ℕ) : Type 0 wh
   pub count : r ≡ length text
   pub bytes : left ≡ over text out
 
--- a writer at a place returns the place behind the text
+-- a writer at a place returns the place after the text
 pub record Pushed (text out : List ℕ) (at r : ℕ) (left : List ℕ) : Type 0 where
   pub place : r ≡ at + length text
   pub bytes : left ≡ overAt text out at

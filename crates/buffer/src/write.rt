@@ -17,7 +17,7 @@ pub fn copy(src: &[u8], out: &mut [u8]) -> usize
     i
 }
 
-// Writes src at the place `at` of out and returns the place behind it.
+// Writes src at the place `at` of out and returns the place after it.
 pub fn push(src: &[u8], out: &mut [u8], at: usize) -> usize
     requires { ⌜ at + length (now src) ≤ length (now out) ⌝ }
     ensures { λ r. ⌜ Pushed (now (src .entry)) (now (out .entry)) at r (now (out .exit)) ⌝ }
@@ -25,7 +25,7 @@ pub fn push(src: &[u8], out: &mut [u8], at: usize) -> usize
     at + copy(src, &mut out[at..])
 }
 
-// Writes one byte at the place `at` of out and returns the place behind it.
+// Writes one byte at the place `at` of out and returns the place after it.
 pub fn push_byte(byte: u8, out: &mut [u8], at: usize) -> usize
     requires { ⌜ at < length (now out) ⌝ }
     ensures { λ r. ⌜ Pushed (byte ∷ []) (now (out .entry)) at r (now (out .exit)) ⌝ }

@@ -7,9 +7,9 @@ use lib.Dec.{ltb}
 use lib.ListN.{length}
 use borrow.Author.Tests.{lt-ltb, le-ltb, ltb-true, ltb-false}
 use Rattle.buffer.proofs.Choices.{then-is, else-is}
-use Rattle.buffer.specs.Write.{over}
+use Rattle.buffer.specs.Write.{over, overIfFits}
 use Rattle.history.specs.declared.stepping.History.{History}
-use Rattle.screen.specs.Redraw.{redraw, greatest, roomAnswer, leavesBy, Redraw}
+use Rattle.screen.specs.Redraw.{redraw, greatestNumber, roomAnswer, Redraw}
 use Rattle.screen.specs.declared.line.Redrawn.{Redrawn}
 use Rattle.screen.specs.declared.line.Redrawn.the-variants.{Shown as Drawn, NoRoom as NoSpace}
 use Rattle.screen.proofs.Drawing.{needed-exact}
@@ -45,16 +45,16 @@ module _ (prompt content : List ℕ) (cursor : ℕ) (out : List ℕ) where
 
   abbrev pub ShownBy : Redrawn → List ℕ → Type 0
   ShownBy (Drawn n) left = (n ≡ length (redraw prompt content cursor)) × (length (redraw prompt content cursor) ≤ length out) × (left ≡ over (redraw prompt content cursor) out)
-  ShownBy (NoSpace n) left = (n ≡ min (length (redraw prompt content cursor)) greatest) × (length out < length (redraw prompt content cursor)) × (left ≡ out)
+  ShownBy (NoSpace n) left = (n ≡ min (length (redraw prompt content cursor)) greatestNumber) × (length out < length (redraw prompt content cursor)) × (left ≡ out)
 
   by-room : (t : Bool) (left : List ℕ) → ltb (length out) (length bytes) ≡ t
-      → left ≡ leavesBy (cond t (NoSpace (min (length bytes) greatest)) (Drawn (length bytes))) bytes out → ShownBy (cond t (NoSpace (min (length bytes) greatest)) (Drawn (length bytes))) left
+      → left ≡ cond t out (over bytes out) → ShownBy (cond t (NoSpace (min (length bytes) greatestNumber)) (Drawn (length bytes))) left
   unfolding bytes
   by-room true left e q = (refl, ltb-true _ _ e, q)
   by-room false left e q = (refl, ltb-false _ _ e, q)
 
   told : (r : Redrawn) (left : List ℕ) → Redraw prompt content cursor out r left → ShownBy r left
-  unfolding bytes roomAnswer
+  unfolding bytes roomAnswer overIfFits
   told r left a = rw (a .answer) (by-room (ltb (length out) (length (redraw prompt content cursor))) left refl (a .bytes))
 
 pub told-as : (prompt x content : List ℕ) (cursor : ℕ) (out left : List ℕ) (r r′ : Redrawn) → x ≡ content → r ≡ r′ → Redraw prompt x cursor out r left

@@ -11,19 +11,19 @@ use Rattle.buffer.proofs.Lists.{drop-step, drop-end}
 use Rattle.buffer.proofs.Choices.{then-is, else-is}
 use Rattle.buffer.proofs.Lending.{copy-step}
 use Rattle.frame.specs.Text.{Bytes}
-use Rattle.frame.specs.Hex.{digitOf, hexOf, between, digitValue, isDigit, valueOf, pairOf, unhex, firstBad}
+use Rattle.frame.specs.Hex.{digitOf, hexOf, inRange, digitValue, isDigit, valueOf, pairOf, unhex, firstBad}
 use Rattle.frame.specs.declared.hex.Digit.{Digit}
 use Rattle.frame.specs.declared.hex.Digit.the-variants.{Value, Other}
 
 -- a test on a range
-between-in : (low high b : ℕ) → low ≤ b → b ≤ high → between low high b ≡ true
-between-in low high b h k = then-is _ _ _ (le-leb low b h) ∙ le-leb b high k
+range-in : (low high b : ℕ) → low ≤ b → b ≤ high → inRange low high b ≡ true
+range-in low high b h k = then-is _ _ _ (le-leb low b h) ∙ le-leb b high k
 
-between-under : (low high b : ℕ) → b < low → between low high b ≡ false
-between-under low high b h = else-is _ _ _ (lt-leb low b h)
+range-under : (low high b : ℕ) → b < low → inRange low high b ≡ false
+range-under low high b h = else-is _ _ _ (lt-leb low b h)
 
-between-over : (low high b : ℕ) → high < b → between low high b ≡ false
-between-over low high b h = by (leb low b)
+range-over : (low high b : ℕ) → high < b → inRange low high b ≡ false
+range-over low high b h = by (leb low b)
   where
     by : (t : Bool) → cond t (leb b high) false ≡ false
     by true = lt-leb b high h
@@ -33,23 +33,23 @@ between-over low high b h = by (leb low b)
 module _ (b : ℕ) where
   pub digit-under : b < 48 → digitValue b ≡ Other
   unfolding digitValue
-  digit-under h = else-is _ _ _ (between-under 48 57 b h) ∙ else-is _ _ _ (between-under 97 102 b (omega arith))
+  digit-under h = else-is _ _ _ (range-under 48 57 b h) ∙ else-is _ _ _ (range-under 97 102 b (omega arith))
 
   pub digit-number : 48 ≤ b → b ≤ 57 → digitValue b ≡ Value (b - 48)
   unfolding digitValue
-  digit-number h k = then-is _ _ _ (between-in 48 57 b h k)
+  digit-number h k = then-is _ _ _ (range-in 48 57 b h k)
 
   pub digit-gap : 57 < b → b < 97 → digitValue b ≡ Other
   unfolding digitValue
-  digit-gap h k = else-is _ _ _ (between-over 48 57 b h) ∙ else-is _ _ _ (between-under 97 102 b k)
+  digit-gap h k = else-is _ _ _ (range-over 48 57 b h) ∙ else-is _ _ _ (range-under 97 102 b k)
 
   pub digit-letter : 97 ≤ b → b ≤ 102 → digitValue b ≡ Value (b - 97 + 10)
   unfolding digitValue
-  digit-letter h k = else-is _ _ _ (between-over 48 57 b (omega arith)) ∙ then-is _ _ _ (between-in 97 102 b h k)
+  digit-letter h k = else-is _ _ _ (range-over 48 57 b (omega arith)) ∙ then-is _ _ _ (range-in 97 102 b h k)
 
   pub digit-over : 102 < b → digitValue b ≡ Other
   unfolding digitValue
-  digit-over h = else-is _ _ _ (between-over 48 57 b (omega arith)) ∙ else-is _ _ _ (between-over 97 102 b h)
+  digit-over h = else-is _ _ _ (range-over 48 57 b (omega arith)) ∙ else-is _ _ _ (range-over 97 102 b h)
 
 -- the five ranges of a byte
 data Range (b : ℕ) : Type 0 where
@@ -227,7 +227,7 @@ module _ (s : List ℕ) (i : ℕ) where
   unfolding firstBad
   bad-end h = rw (drop-end s i h) (omega arith)
 
--- a turn of the writing of digits: those of the first i bytes stand in front of what out had behind them
+-- a turn of the writing of digits: those of the first i bytes stand in front of what out had after them
 pub hex-step : (s out : List ℕ) (i high low : ℕ) → i < length s → length (hexOf s) ≤ length out
     → high ≡ digitOf (getD s i 0 / 16) → low ≡ digitOf (getD s i 0 % 16)
     → set (set (take (2 * i) (hexOf s) ++ drop (2 * i) out) (2 * i) high) (2 * i + 1) low ≡ take (2 * (i + 1)) (hexOf s) ++ drop (2 * (i + 1)) out

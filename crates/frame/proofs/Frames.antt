@@ -16,7 +16,7 @@ pub length-frameOf : (kind : ℕ) (t : List ℕ) → length (frameOf kind t) ≡
 unfolding frameOf
 length-frameOf kind t = let k = length-textOf 2 t in omega arith
 
--- what stands at a place: nothing at the end, else a kind with what is read behind it
+-- what stands at a place: nothing at the end, else a kind with what is read after it
 pub first-end : (s : List ℕ) (at : ℕ) → length s ≤ at → frameFirst (drop at s) ≡ End
 unfolding frameFirst
 first-end s at h = rw (drop-end s at)
@@ -25,7 +25,7 @@ pub first-at : (s : List ℕ) (at : ℕ) (x : Text) → at < length s → readTe
 unfolding frameFirst
 first-at s at x h e = rw (drop-step s at 0 h, e)
 
--- what is written is read, whatever stands behind it
+-- what is written is read, whatever stands after it
 module _ (kind : ℕ) (t rest : List ℕ) where
   pub frame-read : length t < 256 ^ 2 → frameFirst (frameOf kind t ++ rest) ≡ Frame kind (length t)
   unfolding frameOf frameFirst
@@ -35,7 +35,7 @@ module _ (kind : ℕ) (t rest : List ℕ) where
   unfolding frameOf
   frame-found = text-found 2 t rest
 
--- a frame that was read: its kind is the first byte, and its text is read behind that
+-- a frame that was read: its kind is the first byte, and its text is read after that
 first-told : (k : ℕ) (s : List ℕ) (kind n : ℕ) → frameFirst (k ∷ s) ≡ Frame kind n → (k ≡ kind) × (readText 2 s ≡ Whole n)
 unfolding frameFirst
 first-told k s kind n e = by (readText 2 s) refl e
@@ -50,7 +50,7 @@ unfolding frameFirst
 frame-within [] kind n e = absurd (let z : _≡_ {A = ℕ} 0 1 = cc in omega arith)
 frame-within (k ∷ s) kind n e = let h = read-told 2 s n (first-told k s kind n e .1) in omega arith
 
--- what is read as a frame is the writing of it, and what stands behind
+-- what is read as a frame is the writing of it, and what stands after
 pub frame-back : (s : List ℕ) (kind n : ℕ) → Bytes s → frameFirst s ≡ Frame kind n → s ≡ frameOf kind (take n (drop 3 s)) ++ drop (3 + n) s
 unfolding frameOf frameFirst Bytes
 frame-back [] kind n h e = cc

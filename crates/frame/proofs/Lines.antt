@@ -10,11 +10,11 @@ use lib.Seq.{take-suc, take-length, take-at, getD-at}
 use borrow.Author.Tests.{le-ltb, lt-ltb, eq-eqb, ne-eqb, eqb-true, eqb-false, ltb-false}
 use types.Run.{OneOf, miss}
 use denote.Enum.Declared.{tagOf}
-use Rattle.buffer.specs.Write.{over, Written, Pushed}
+use Rattle.buffer.specs.Write.{over, Written, Pushed, overIfFits}
 use Rattle.buffer.proofs.Choices.{then-is, else-is}
 use Rattle.frame.specs.Text.{Bytes}
 use Rattle.frame.specs.Hex.{hexOf, unhex, firstBad}
-use Rattle.frame.specs.House.{LF, houseLine, ended, digitsOf, readDigits, readHouse, leftBy, houseLeaves, HouseRead, writeHouse, lineLeaves, HouseWritten}
+use Rattle.frame.specs.House.{LF, houseLine, ended, digitsOf, readDigits, readHouse, leftBy, houseLeaves, HouseRead, writeHouse, HouseWritten}
 use Rattle.frame.specs.declared.house.House.{House}
 use Rattle.frame.specs.declared.house.House.the-variants.{Frame, Unended, Empty, TooLong, Odd, NoDigit, Short}
 use Rattle.frame.specs.declared.house.Lined.{Lined}
@@ -203,7 +203,7 @@ line-pushed bytes out mid left at r h w p =
 -- what writing answers and leaves, where there is room and where there is none
 module _ (bytes out : List ℕ) where
   pub write-short : (r : ℕ) (left : List ℕ) → length out < r → r ≡ length (houseLine bytes) → left ≡ out → HouseWritten bytes out (NoRoom r) left
-  unfolding writeHouse lineLeaves
+  unfolding writeHouse overIfFits
   write-short r left h e k =
       let none : length out < length (houseLine bytes) = omega arith in
       record {
@@ -212,7 +212,7 @@ module _ (bytes out : List ℕ) where
       }
 
   pub write-whole : (r : ℕ) (left : List ℕ) → r ≤ length out → r ≡ length (houseLine bytes) → left ≡ over (houseLine bytes) out → HouseWritten bytes out (Done r) left
-  unfolding writeHouse lineLeaves
+  unfolding writeHouse overIfFits
   write-whole r left h e k =
       let room : length (houseLine bytes) ≤ length out = omega arith in
       record {

@@ -25,7 +25,7 @@ texts-skip [] (suc j) = refl
 texts-skip (a ∷ s) zero = refl
 texts-skip (a ∷ s) (suc j) = texts-skip s j
 
--- the texts by what stands in front: nothing, or a text and the texts behind it
+-- the texts by what stands in front: nothing, or a text and the texts after it
 abbrev textsBy : List ℕ → Framed → List (List ℕ)
 textsBy s d = onFrame d (λ kind n. take n (drop 3 s) ∷ textsIn (drop (3 + n) s)) []
 
@@ -62,7 +62,7 @@ behind-written : (kind : ℕ) (t rest : List ℕ) → drop (3 + length t) (frame
 behind-written kind t rest =
     ap (λ (n : ℕ). drop n (frameOf kind t ++ rest)) (sym (length-frameOf kind t)) ∙ drop-append-seam (frameOf kind t) rest
 
--- the texts behind a frame that was written
+-- the texts after a frame that was written
 pub texts-written : (kind : ℕ) (t rest : List ℕ) → length t < 256 ^ 2 → textsIn (frameOf kind t ++ rest) ≡ t ∷ textsIn rest
 texts-written kind t rest h =
     texts-more (frameOf kind t ++ rest) kind (length t) (frame-read kind t rest h)

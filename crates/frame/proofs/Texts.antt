@@ -1,4 +1,4 @@
--- Laws of texts behind their length, over the width of the length: what is written is read, and what is read was so written.
+-- Laws of texts after their length, over the width of the length: what is written is read, and what is read was so written.
 use Prim.Native.Nat.{ℕ, zero, suc, _+_, _*_, _/_, _-_, _%_, _^_, _≤_, _<_}
 use mathlib.Core.Path.{_≡_, refl, sym, ap, _∙_}
 use mathlib.Core.Bool.{Bool, true, false, cond}
@@ -101,16 +101,12 @@ module _ (w : ℕ) (s : List ℕ) (at left : ℕ) (l : left ≡ length s - at) w
   pub read-at : (v : ℕ) → numberOf (take w (drop at s)) ≡ v → readText w (drop at s) ≡ cond (leb (w + v) left) (Whole v) Broken
   read-at v e = rw (l, ← length-drop at s) (read-by w (drop at s) v e)
 
--- the number in front of a place, in one and in two bytes
-pub value-one : (s : List ℕ) (at : ℕ) → at < length s → numberOf (take 1 (drop at s)) ≡ getD s at 0
-unfolding numberOf
-value-one s at h = rw (drop-step s at 0 h) (omega arith)
-
+-- the number in front of a place
 pub value-two : (s : List ℕ) (at : ℕ) → at + 1 < length s → numberOf (take 2 (drop at s)) ≡ getD s at 0 * 256 + getD s (at + 1) 0
 unfolding numberOf
 value-two s at h = rw (drop-step s at 0 (omega arith), drop-step s (at + 1) 0 h) (omega arith)
 
--- what is written is read, whatever stands behind it
+-- what is written is read, whatever stands after it
 module _ (w : ℕ) (t rest : List ℕ) where
   apart : textOf w t ++ rest ≡ numberBytes w (length t) ++ (t ++ rest)
   unfolding textOf
@@ -129,7 +125,7 @@ module _ (w : ℕ) (t rest : List ℕ) where
   text-found =
       rw (apart, drop-at (numberBytes w (length t)) (t ++ rest) w (length-number w (length t))) (take-at t rest (length t) refl)
 
--- what is read as a text is the writing of it, and what stands behind
+-- what is read as a text is the writing of it, and what stands after
 pub text-back : (w : ℕ) (s : List ℕ) (n : ℕ) → Bytes s → readText w s ≡ Whole n → s ≡ textOf w (take n (drop w s)) ++ drop (w + n) s
 unfolding textOf
 text-back w s n h e =

@@ -1,4 +1,4 @@
--- A frame of one text: a byte for its kind, then the text behind a length of two bytes.
+-- A frame of one text: a byte for its kind, then the text after a length of two bytes.
 use Prim.Native.Nat.{ℕ}
 use mathlib.Core.List.{List, [], _∷_}
 use Rattle.frame.specs.Text.{textOf, readText}
@@ -10,7 +10,7 @@ use Rattle.frame.specs.declared.framed.Framed.the-variants.{Frame, Broke
 unfoldable pub frameOf : ℕ → List ℕ → List ℕ
 frameOf kind t = kind ∷ textOf 2 t
 
--- a kind with what was read behind it
+-- a kind with what was read after it
 abbrev pub framed : ℕ → Text → Framed
 framed kind (Whole n) = Frame kind n
 framed kind NoText = Broken

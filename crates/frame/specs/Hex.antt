@@ -15,13 +15,13 @@ unfoldable pub hexOf : List ℕ → List ℕ
 hexOf [] = []
 hexOf (b ∷ s) = digitOf (b / 16) ∷ digitOf (b % 16) ∷ hexOf s
 
-abbrev pub between : ℕ → ℕ → ℕ → Bool
-between low high b = cond (leb low b) (leb b high) false
+abbrev pub inRange : ℕ → ℕ → ℕ → Bool
+inRange low high b = cond (leb low b) (leb b high) false
 
 -- what a byte is as a digit; upper case is none
 unfoldable pub digitValue : ℕ → Digit
 digitValue b =
-    cond (between 48 57 b) (Value (b - 48)) (cond (between 97 102 b) (Value (b - 97 + 10)) Other)
+    cond (inRange 48 57 b) (Value (b - 48)) (cond (inRange 97 102 b) (Value (b - 97 + 10)) Other)
 
 abbrev pub isDigit : Digit → Bool
 isDigit (Value v) = true

@@ -5,7 +5,7 @@ use mathlib.Core.Bool.{Bool, cond}
 use mathlib.Core.List.{List, [], _∷_, _++_}
 use lib.Dec.{ltb, eqb}
 use lib.ListN.{length, take, getD}
-use Rattle.buffer.specs.Write.{over}
+use Rattle.buffer.specs.Write.{over, overIfFits}
 use Rattle.frame.specs.Hex.{hexOf, unhex, firstBad}
 use Rattle.frame.specs.declared.house.House.{House}
 use Rattle.frame.specs.declared.house.House.the-variants.{Frame, Unended, Empty, TooLong, Odd, NoDigit, Short}
@@ -59,17 +59,14 @@ pub record HouseRead (line out : List ℕ) (r : House) (left : List ℕ) : Type 
   pub answer : r ≡ readHouse line (length out)
   pub bytes : left ≡ houseLeaves line out
 
--- what writing a line answers, with that much room, and leaves in the buffer
+-- what writing a line answers, with that much room
 unfoldable pub writeHouse : List ℕ → ℕ → Lined
 writeHouse bytes room =
     cond (ltb room (length (houseLine bytes))) (NoRoom (length (houseLine bytes))) (Written (length (houseLine bytes)))
 
-unfoldable pub lineLeaves : List ℕ → List ℕ → List ℕ
-lineLeaves bytes out = cond (ltb (length out) (length (houseLine bytes))) out (over (houseLine bytes) out)
-
 pub record HouseWritten (frame out : List ℕ) (r : Lined) (left : List ℕ) : Type 0 where
   pub answer : r ≡ writeHouse frame (length out)
-  pub bytes : left ≡ lineLeaves frame out
+  pub bytes : left ≡ overIfFits (houseLine frame) out
 
 -- The refusal's number in 01 (0: none), and the value that goes with it. A buffer that is too short is 9, with the length needed. The faults of a line have no number in the
 -- table of 01: a line of no such form is the console's to answer, by a frame 2F with the line's number, which only the console knows. So 2F stands for each.

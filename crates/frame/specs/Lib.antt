@@ -1,4 +1,5 @@
--- Definitions of the crate `frame`: texts behind their length, frames of one text and many of them, hexadecimal, and house lines.
+-- Definitions of the crate `frame`: texts after their length, frames of one text and many of them, hexadecimal, and house lines.
+pub mod Limits
 pub mod Text
 pub mod Framed
 pub mod Series

@@ -21,7 +21,7 @@ textsFrom (a ∷ s) zero = onFrame (frameFirst (a ∷ s)) (λ kind n. take n (dr
 unfoldable pub textsIn : List ℕ → List (List ℕ)
 textsIn s = textsFrom s 0
 
--- whole frames: what stands behind them is read as if alone
+-- whole frames: what stands after them is read as if alone
 unfoldable pub Whole : List ℕ → Type 0
 Whole s = (more : List ℕ) → textsIn (s ++ more) ≡ textsIn s ++ textsIn more
 

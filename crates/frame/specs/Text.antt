@@ -1,4 +1,4 @@
--- A text behind its length, over the width of the length in bytes.
+-- A text after its length, over the width of the length in bytes.
 use Prim.Native.Nat.{ℕ, zero, suc, _+_, _*_, _/_, _%_, _^_, _<_}
 use mathlib.Core.Bool.{cond}
 use mathlib.Core.List.{List, [], _∷_, _++_}
@@ -21,7 +21,7 @@ unfoldable pub numberOf : List ℕ → ℕ
 numberOf [] = 0
 numberOf (b ∷ s) = b * 256 ^ length s + numberOf s
 
--- a text behind its length
+-- a text after its length
 unfoldable pub textOf : ℕ → List ℕ → List ℕ
 textOf width t = numberBytes width (length t) ++ t
 

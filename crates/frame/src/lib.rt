@@ -1,4 +1,4 @@
-// What passes between the layers as bytes: texts behind their length, frames of one text, and house lines, each both ways.
+// What passes between the layers as bytes: texts after their length, frames of one text, and house lines, each both ways.
 mod framed;
 mod hex;
 mod house;
@@ -13,10 +13,5 @@ pub use house::House;
 pub use house::Lined;
 pub use house::read_line;
 pub use house::write_line;
-pub use prefixed::Text;
-pub use prefixed::long_text;
 pub use prefixed::long_text_size;
-pub use prefixed::short_text;
-pub use prefixed::short_text_size;
 pub use prefixed::write_long_text;
-pub use prefixed::write_short_text;

@@ -1,4 +1,4 @@
-// A text behind its length, which takes one byte (short) or two, the highest first (long): read, measured and written.
+// A text after its length, which takes two bytes, the highest first: read, measured and written.
 use buffer::push;
 use buffer::push_byte;
 ghost use mathlib.Core.Path.{_≡_};
@@ -15,14 +15,14 @@ pub enum Text {
     Broken,
 }
 
-// How many bytes of s stand at the place `at` and behind it.
+// How many bytes of s stand at the place `at` and after it.
 fn left_of(s: &[u8], at: usize) -> usize
     ensures { λ r. ⌜ r ≡ length (now (s .entry)) - at ⌝ }
 {
     if at < s.len() { s.len() - at } else { 0 }
 }
 
-// A text of n bytes behind a length of `width` bytes, if `left` bytes hold both.
+// A text of n bytes after a length of `width` bytes, if `left` bytes hold both.
 fn within(left: usize, width: usize, n: usize) -> Text
     requires { ⌜ width + n < 65538 ⌝ }
     ensures { λ r. ⌜ r ≡ cond (leb (width + n) left) (Text.Whole n) Text.Broken ⌝ }
@@ -34,18 +34,7 @@ fn within(left: usize, width: usize, n: usize) -> Text
     }
 }
 
-// The text at the place `at` of s, behind a length of one byte.
-pub fn short_text(s: &[u8], at: usize) -> Text
-    ensures { λ r. ⌜ r ≡ readText 1 (drop at (now (s .entry))) ⌝ }
-{
-    let left = left_of(s, at);
-    if left < 1 {
-        return Text::Broken;
-    }
-    within(left, 1, s[at] as usize)
-}
-
-// The text at the place `at` of s, behind a length of two bytes.
+// The text at the place `at` of s, after a length of two bytes.
 pub fn long_text(s: &[u8], at: usize) -> Text
     ensures { λ r. ⌜ r ≡ readText 2 (drop at (now (s .entry))) ⌝ }
 {
@@ -56,30 +45,14 @@ pub fn long_text(s: &[u8], at: usize) -> Text
     within(left, 2, s[at] as usize * 256 + s[at + 1] as usize)
 }
 
-// How many bytes t takes behind a length of one byte.
-pub fn short_text_size(t: &[u8]) -> usize
-    ensures { λ r. ⌜ r ≡ length (textOf 1 (now (t .entry))) ⌝ }
-{
-    1 + t.len()
-}
-
-// How many bytes t takes behind a length of two bytes.
+// How many bytes t takes after a length of two bytes.
 pub fn long_text_size(t: &[u8]) -> usize
     ensures { λ r. ⌜ r ≡ length (textOf 2 (now (t .entry))) ⌝ }
 {
     2 + t.len()
 }
 
-// Writes t behind a length of one byte at the front of out and returns how many bytes that is.
-pub fn write_short_text(t: &[u8], out: &mut [u8]) -> usize
-    requires { ⌜ (length (now t) < 256 ^ 1) × (length (textOf 1 (now t)) ≤ length (now out)) ⌝ }
-    ensures { λ r. ⌜ Written (textOf 1 (now (t .entry))) (now (out .entry)) r (now (out .exit)) ⌝ }
-{
-    let at = push_byte(t.len() as u8, out, 0);
-    push(t, out, at)
-}
-
-// Writes t behind a length of two bytes, the highest first, at the front of out and returns how many bytes that is.
+// Writes t after a length of two bytes, the highest first, at the front of out and returns how many bytes that is.
 pub fn write_long_text(t: &[u8], out: &mut [u8]) -> usize
     requires { ⌜ (length (now t) < 256 ^ 2) × (length (textOf 2 (now t)) ≤ length (now out)) ⌝ }
     ensures { λ r. ⌜ Written (textOf 2 (now (t .entry))) (now (out .entry)) r (now (out .exit)) ⌝ }

@@ -7,7 +7,7 @@ use native.Mathlib.Omega.{arith}
 use borrow.Author.Tests.{lt-ltb, le-ltb}
 use lib.Dec.{ltb}
 use lib.ListN.{length, drop, length-take, length-drop}
-use Rattle.buffer.specs.Write.{over, Written}
+use Rattle.buffer.specs.Write.{over, Written, overIfFits}
 use Rattle.buffer.proofs.Choices.{then-is, else-is}
 use Rattle.text.specs.Decoding.{wellFormedLength}
 use Rattle.text.specs.Apart.{wordsBetween}
@@ -16,13 +16,14 @@ use Rattle.frame.specs.Framed.{frameOf}
 use Rattle.tree.specs.Images.{framesOf}
 use Rattle.tree.specs.Rules.{checkTree}
 use Rattle.tree.specs.declared.check.Checked.the-variants.{Good, BadFrame}
-use Rattle.tree.proofs.Wholes.{good-well-formed}
-use Rattle.layout.specs.Texts.{helpText}
-use Rattle.ink.specs.Answer.{showAnswer, showLeaves, Showing}
-use Rattle.ink.specs.declared.show.Shown.{Shown}
-use Rattle.ink.specs.declared.show.Shown.the-variants.{Text as ShownText, NoRoom as ShownNoRoom}
+use Rattle.tree.proofs.WellFormedImages.{good-well-formed}
+use Rattle.help.specs.Texts.{helpText}
+use Rattle.buffer.specs.Showing.{showAnswer, Showing}
+use Rattle.buffer.specs.declared.show.Shown.{Shown}
+use Rattle.buffer.specs.declared.show.Shown.the-variants.{Text as ShownText, NoRoom as ShownNoRoom}
 use Rattle.help.specs.Paths.{Led, followed, FoundAt, LostAt, between}
-use Rattle.help.specs.Answer.{Reply, said, unknown, wordless, replyBy, helpIn, helpOf, helpLine, bytesOf, roomFor, answerBy, answerIn, answerFor, leavesBy, leavesFor, Helping, Replied}
+use Rattle.help.specs.Answer.{Reply, said, unknown, wordless, replyBy, helpIn, helpOf, helpLine, bytesOf, roomFor, answerBy, answerIn, answerFor, leavesBy, leavesFor, Helping}
+use Rattle.help.specs.Inner.{Replied}
 use Rattle.help.specs.declared.call.Helped.{Helped}
 use Rattle.help.specs.declared.call.Helped.the-variants.{Text, BadTree, LineTooLong, IllFormed, NoWords, UnknownCommand, NoRoom}
 
@@ -53,7 +54,7 @@ helpedBy (ShownText n) = Text n
 helpedBy (ShownNoRoom n) = NoRoom n
 
 pub said-shown : (text out : List ℕ) (answer : Shown) (left : List ℕ) → Showing text out answer left → Replied (said text) out (helpedBy answer) left
-unfolding showAnswer showLeaves roomFor
+unfolding showAnswer overIfFits roomFor
 said-shown text out answer left s = by (ltb (length out) (length text)) refl
   where
     by : (t : Bool) → ltb (length out) (length text) ≡ t → Replied (said text) out (helpedBy answer) left

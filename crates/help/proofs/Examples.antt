@@ -6,9 +6,9 @@ use Rattle.frame.specs.Text.{numberBytes, textOf}
 use Rattle.frame.specs.Framed.{frameOf}
 use Rattle.image.specs.Frames.{Frame, node, flag, absent, present}
 use Rattle.tree.specs.Subtrees.{upTo, onFrom, subtree}
-use Rattle.ink.specs.Ascii.{ascii}
+use Rattle.buffer.specs.Ascii.{ascii}
 use Rattle.rows.specs.Rows.{blanks, padded, shortThen, shownAs, entry, flagRow, nodeRow, rows, titled}
-use Rattle.layout.specs.Texts.{spaced, lists, about, helpText}
+use Rattle.help.specs.Texts.{spaced, lists, about, helpText}
 use Rattle.help.specs.Paths.{followed}
 use Rattle.help.specs.Answer.{said, unknown, wordless, helpIn, helpOf, bytesOf}
 

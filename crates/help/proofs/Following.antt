@@ -1,4 +1,4 @@
--- Laws of following words: one word, then the words behind it from the subtree that it names.
+-- Laws of following words: one word, then the words after it from the subtree that it names.
 use Prim.Native.Nat.{ℕ, zero, suc, _+_, _-_, _≤_}
 use mathlib.Core.Path.{_≡_, refl, sym, ap, _∙_}
 use mathlib.Core.Bool.{Bool, true, false, cond}
@@ -12,13 +12,13 @@ use Rattle.text.specs.Apart.{wordsBetween, nextWord}
 use Rattle.text.specs.declared.apart.Word.{Word}
 use Rattle.text.specs.declared.apart.Word.the-variants.{At, Nothing}
 use Rattle.frame.specs.Text.{Bytes}
-use Rattle.image.specs.Frames.{Frame, encode}
+use Rattle.image.specs.Frames.{Frame, encodeFrame}
 use Rattle.tree.specs.Images.{framesOf, flat}
 use Rattle.tree.specs.Rules.{start, checkTree}
 use Rattle.tree.specs.declared.check.Checked.the-variants.{Good}
-use Rattle.tree.proofs.Wholes.{AllFit, frames-flat, obey-fit, good-well-formed}
+use Rattle.tree.proofs.WellFormedImages.{AllFit, frames-flat, obey-fit, good-well-formed}
 use Rattle.tree.specs.Subtrees.{upTo, onFrom, rooted, subtree}
-use Rattle.lookup.specs.Spots.{later, placeOf, spot}
+use Rattle.lookup.specs.Spots.{shifted, placeOf, spot}
 use Rattle.lookup.specs.Searches.{wanted, endedBy}
 use Rattle.lookup.specs.Nodes.{findNode}
 use Rattle.lookup.specs.Subtrees.{PartHolds}
@@ -27,7 +27,7 @@ use Rattle.lookup.specs.declared.look.Sought.the-variants.{Node, Upper}
 use Rattle.lookup.specs.declared.node.Subtree.{Subtree}
 use Rattle.lookup.specs.declared.node.Subtree.the-variants.{Between, Nowhere}
 use Rattle.lookup.proofs.Subtrees.{find-holds}
-use Rattle.layout.proofs.Words.{NextTold, next-told, next-nothing, words-none}
+use Rattle.help.proofs.SpacedWords.{NextTold, next-told, next-nothing, words-none}
 use Rattle.help.specs.Paths.{found, lost, onSubtree, followed, between, FoundAt, LostAt}
 
 -- the frames of a subtree fit as all do
@@ -68,7 +68,7 @@ place-none test ends [] e = refl
 place-none test ends (f ∷ l) e = by (test f) (ends f) e (place-none test ends l)
   where
     by : (t u : Bool) → cond t (f ∷ l) (onFrom test l) ≡ [] → (onFrom test l ≡ [] → placeOf test ends l ≡ NoSpot)
-        → cond u NoSpot (cond t (SpotAt 0) (later (length (encode f)) (placeOf test ends l))) ≡ NoSpot
+        → cond u NoSpot (cond t (SpotAt 0) (shifted (length (encodeFrame f)) (placeOf test ends l))) ≡ NoSpot
     by true u q more = cc
     by false true q more = refl
     by false false q more = rw (more q)

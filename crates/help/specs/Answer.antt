@@ -5,6 +5,7 @@ use mathlib.Core.Bool.{cond}
 use mathlib.Core.List.{List, [], _∷_}
 use lib.Dec.{ltb}
 use lib.ListN.{length}
+use Rattle.frame.specs.Limits.{lineLimit, valueLimit}
 use Rattle.buffer.specs.Write.{over}
 use Rattle.text.specs.Decoding.{wellFormedLength}
 use Rattle.text.specs.Apart.{wordsBetween}
@@ -15,7 +16,7 @@ use Rattle.tree.specs.Rules.{checkTree}
 use Rattle.tree.specs.declared.check.Checked.{Checked}
 use Rattle.tree.specs.declared.check.Checked.the-variants.{Good, BadFrame}
 use Rattle.tree.specs.Subtrees.{subtree}
-use Rattle.layout.specs.Texts.{helpText}
+use Rattle.help.specs.Texts.{helpText}
 use Rattle.help.specs.Paths.{Led, found, lost, onSubtree, followed}
 use Rattle.help.specs.declared.call.Helped.{Helped}
 use Rattle.help.specs.declared.call.Helped.the-variants.{Text, BadTree, LineTooLong, IllFormed, NoWords, UnknownCommand, NoRoom}
@@ -59,7 +60,7 @@ answerBy wordless room = NoWords
 -- the answer for a line over a well-formed tree
 unfoldable pub answerIn : List ℕ → List ℕ → ℕ → Helped
 answerIn image line room =
-    cond (ltb 1024 (length line)) (LineTooLong (min (length line) 65535))
+    cond (ltb lineLimit (length line)) (LineTooLong (min (length line) valueLimit))
     (cond (ltb (wellFormedLength line) (length line)) (IllFormed (wellFormedLength line))
     (answerBy (helpLine image line) room))
 
@@ -87,11 +88,6 @@ leavesFor image line out = leavesBy (answerFor image line (length out)) (bytesOf
 pub record Helping (image line out : List ℕ) (r : Helped) (left : List ℕ) : Type 0 where
   pub answer : r ≡ answerFor image line (length out)
   pub bytes : left ≡ leavesFor image line out
-
--- what a reply answers and leaves by itself
-pub record Replied (reply : Reply) (out : List ℕ) (r : Helped) (left : List ℕ) : Type 0 where
-  pub answer : r ≡ answerBy reply (length out)
-  pub bytes : left ≡ leavesBy (answerBy reply (length out)) (bytesOf reply) out
 
 -- the refusal's number in 01 (0: none), and the value that goes with it
 abbrev pub number : Helped → ℕ

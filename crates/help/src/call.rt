@@ -1,11 +1,11 @@
 // The call: help for the words of a line, or the first refusal in the order of the standard.
 use super::path::Followed;
 use super::path::follow;
+use super::show::show_help;
+use buffer::Shown;
 use buffer::part;
 use frame::frame_size;
 use frame::write_frame;
-use ink::Shown;
-use layout::show_help;
 use text::Word;
 use text::next_word;
 use text::well_formed_prefix;
@@ -15,10 +15,12 @@ ghost use mathlib.Core.Path.{_≡_};
 ghost use mathlib.Core.List.{List};
 ghost use Prim.Native.Nat.{ℕ, _≤_, min};
 ghost use lib.ListN.{length};
-ghost use Rattle.ink.specs.Answer.{Showing};
+ghost use Rattle.buffer.specs.Showing.{Showing};
 ghost use Rattle.tree.specs.Rules.{checkTree};
 ghost use Rattle.tree.specs.declared.check.Checked.the-variants.{Good};
-ghost use Rattle.help.specs.Answer.{said, unknown, helpLine, Replied, Helping};
+ghost use Rattle.help.specs.Answer.{said, unknown, helpLine, Helping};
+ghost use Rattle.help.specs.Inner.{Replied};
+ghost use Rattle.frame.specs.Limits.{lineLimit, valueLimit};
 
 // What help answers.
 pub enum Helped {
@@ -40,14 +42,14 @@ pub enum Helped {
 
 // The length of a line that is too long, 65,535 if more.
 fn told_length(n: usize) -> usize
-    ensures { λ r. ⌜ r ≡ min n 65535 ⌝ }
+    ensures { λ r. ⌜ r ≡ min n valueLimit ⌝ }
 {
     if n < 65535 { n } else { 65535 }
 }
 
 // The frame 1E with a word that is unknown.
 fn put_unknown(word: &[u8], out: &mut [u8]) -> Helped
-    requires { ⌜ length (now word) ≤ 1024 ⌝ }
+    requires { ⌜ length (now word) ≤ lineLimit ⌝ }
     ensures { λ r. ⌜ Replied (unknown (now (word .entry))) (now (out .entry)) r (now (out .exit)) ⌝ }
 {
     let needed = frame_size(word);
@@ -69,7 +71,7 @@ fn shown(answer: Shown) -> Helped
 
 // The reply to the words of a line.
 fn reply(image: &[u8], line: &[u8], out: &mut [u8]) -> Helped
-    requires { ⌜ (checkTree (now image) ≡ Good) × (length (now line) ≤ 1024) ⌝ }
+    requires { ⌜ (checkTree (now image) ≡ Good) × (length (now line) ≤ lineLimit) ⌝ }
     ensures { λ r. ⌜ Replied (helpLine (now (image .entry)) (now (line .entry))) (now (out .entry)) r (now (out .exit)) ⌝ }
 {
     let Word::At { start: _, end: _ } = next_word(line, 0) else {

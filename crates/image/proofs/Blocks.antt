@@ -10,8 +10,8 @@ use lib.Seq.{drop-drop}
 use borrow.Author.Tests.{le-leb, lt-leb, ne-eqb}
 use Rattle.buffer.proofs.Lists.{drop-step, drop-end}
 use Rattle.buffer.proofs.Lending.{rest-lent}
-use Rattle.image.specs.Limits.{both, shown, allShown}
-use Rattle.image.specs.Blocks.{strange, strangest}
+use Rattle.image.specs.Limits.{both, isShown, allShown}
+use Rattle.image.specs.Inner.{strange, strangest}
 use Rattle.image.proofs.Fields.{both-second}
 
 module _ (low b : ℕ) where
@@ -40,7 +40,7 @@ module _ (low : ℕ) where
   strangest-shown : (s : List ℕ) → eqb (strangest low s) 0 ≡ allShown low s
   unfolding strangest strange allShown
   strangest-shown [] = refl
-  strangest-shown (b ∷ s) = by (shown low b) (strangest-shown s)
+  strangest-shown (b ∷ s) = by (isShown low b) (strangest-shown s)
     where
       zero-most : (n : ℕ) → max 0 n ≡ n
       zero-most n = omega arith
@@ -55,13 +55,13 @@ module _ (low : ℕ) where
   shown-append : (a b : List ℕ) → allShown low (a ++ b) ≡ both (allShown low a) (allShown low b)
   unfolding allShown
   shown-append [] b = refl
-  shown-append (x ∷ a) b = by (shown low x) (shown-append a b)
+  shown-append (x ∷ a) b = by (isShown low x) (shown-append a b)
     where
       by : (t : Bool) → allShown low (a ++ b) ≡ both (allShown low a) (allShown low b) → both t (allShown low (a ++ b)) ≡ both (both t (allShown low a)) (allShown low b)
       by true e = e
       by false e = refl
 
-  -- a text from a place on: a block of it, and what stands behind that
+  -- a text from a place on: a block of it, and what stands after that
   module _ (t : List ℕ) (at n m : ℕ) (size : n ≡ m - at) (order : at ≤ m) (r : Bool) (told : r ≡ allShown low (take n (drop at t))) where
     shown-split : allShown low (drop at t) ≡ both r (allShown low (drop m t))
     shown-split =

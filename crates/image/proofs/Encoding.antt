@@ -11,15 +11,15 @@ use borrow.Author.Tests.{eqb-true, eqb-false, ne-eqb, leb-true}
 use Rattle.buffer.proofs.Lists.{drop-step}
 use Rattle.frame.specs.Text.{Bytes}
 use Rattle.frame.proofs.Texts.{text-one}
-use Rattle.image.specs.Frames.{Perhaps, absent, present, Frame, node, option, flag, text, perhaps, encode}
+use Rattle.image.specs.Frames.{Perhaps, absent, present, Frame, node, option, flag, text, perhaps, encodeFrame}
 use Rattle.image.specs.Limits.{isName, isNote, isShort, optionally, definable, fair}
-use Rattle.image.specs.Reading.{strictly, frameFirst, span, perhapsIn, nodeLengths, definitionLengths, headFirst, nodeIn, nameIn, longIn, noteIn, optionIn, flagIn, Read, read, broken, ended, readBy, readFirst}
+use Rattle.image.specs.Reading.{strictly, strictFirst, span, perhapsIn, nodeLengths, definitionLengths, headFirst, nodeIn, nameIn, longIn, noteIn, optionIn, flagIn, Read, read, broken, ended, readBy, readFirst}
 use Rattle.image.specs.declared.head.Lengths.{Lengths}
 use Rattle.image.specs.declared.head.Head.{Head}
 use Rattle.image.specs.declared.head.Head.the-variants.{Node, Option, Flag, Bad, End}
 use Rattle.image.proofs.Heads.{span-none, span-some, node-lengths-are, definition-lengths-are, node-whole, option-whole, flag-whole, head-node, head-option, head-flag}
 use Rattle.image.proofs.Fields.{both-first, both-second}
-use Rattle.image.proofs.Views.{NodeSeen, OptionSeen, FlagSeen, view}
+use Rattle.image.proofs.HeadBytes.{NodeSeen, OptionSeen, FlagSeen, view}
 
 pub text-is : (t : List ℕ) → text t ≡ length t ∷ t
 unfolding text
@@ -28,7 +28,7 @@ text-is t = text-one t
 pub length-text : (t : List ℕ) → length (text t) ≡ 1 + length t
 length-text t = rw (text-is t) (omega arith)
 
--- a text at a place p of bytes, its first byte at r and the place behind it at q
+-- a text at a place p of bytes, its first byte at r and the place after it at q
 module _ (s : List ℕ) (p r n q : ℕ) (hr : r ≡ p + 1) (hn : n ≡ getD s p 0) where
   pub text-split : q ≡ p + 1 + n → q ≤ length s → drop p s ≡ text (take n (drop r s)) ++ drop q s
   text-split hq h =
@@ -63,7 +63,7 @@ split-three s h = split-two s (omega arith) ∙ ap (λ (l : List ℕ). getD s 0 
 pub split-four : (s : List ℕ) → 4 ≤ length s → s ≡ getD s 0 0 ∷ getD s 1 0 ∷ getD s 2 0 ∷ getD s 3 0 ∷ drop 4 s
 split-four s h = split-three s (omega arith) ∙ ap (λ (l : List ℕ). getD s 0 0 ∷ getD s 1 0 ∷ getD s 2 0 ∷ l) (drop-step s 3 0 (omega arith))
 
--- three pieces one behind the other
+-- three pieces one after the other
 pub three : (a b c d x y z : List ℕ) → a ≡ x ++ b → b ≡ y ++ c → c ≡ z ++ d → a ≡ x ++ y ++ z ++ d
 three a b c d x y z p q r = p ∙ rw (q, r) (simp append-assoc)
 
@@ -79,8 +79,8 @@ low h l k = omega arith
 
 -- what reads as a frame begins with its encoding
 module _ (s : List ℕ) (b : Bytes s) where
-  node-back : (d h : ℕ) (t : Lengths) → NodeSeen s d h t → s ≡ encode (nodeIn s d h t) ++ drop (t .size) s
-  unfolding encode nodeIn nodeLengths Bytes
+  node-back : (d h : ℕ) (t : Lengths) → NodeSeen s d h t → s ≡ encodeFrame (nodeIn s d h t) ++ drop (t .size) s
+  unfolding encodeFrame nodeIn nodeLengths Bytes
   node-back d h t v =
       let name : ℕ = getD s 4 0 in
       let note : ℕ = getD s (5 + name) 0 in
@@ -113,28 +113,28 @@ module _ (s : List ℕ) (b : Bytes s) where
       let last = text-split s (p + 2 + name + span long) (p + 2 + name + span long + 1) note (p + 3 + name + span long + note) (omega arith) refl (omega arith) size in
       three (drop p s) (drop (p + 1 + name) s) (drop (p + 2 + name + span long) s) (drop (p + 3 + name + span long + note) s) (text n) (perhaps l) (text ds) one two last
 
-  option-back : (r c : ℕ) (t : Lengths) → OptionSeen s r c t → s ≡ encode (optionIn s r c t) ++ drop (t .size) s
-  unfolding encode optionIn
+  option-back : (r c : ℕ) (t : Lengths) → OptionSeen s r c t → s ≡ encodeFrame (optionIn s r c t) ++ drop (t .size) s
+  unfolding encodeFrame optionIn
   option-back r c t v =
       let size : definitionLengths 3 s .size ≤ length s = rw (v .texts) at (v .fits) in
       let long : 3 ≤ length s = omega (arith, definition-least 3 s) in
       rw (v .texts, v .required, v .short)
       (split-three s long ∙ rw (v .kind) (ap (λ (l : List ℕ). 2 ∷ getD s 1 0 ∷ getD s 2 0 ∷ l) (definition-back 3 size)))
 
-  flag-back : (c : ℕ) (t : Lengths) → FlagSeen s c t → s ≡ encode (flagIn s c t) ++ drop (t .size) s
-  unfolding encode flagIn
+  flag-back : (c : ℕ) (t : Lengths) → FlagSeen s c t → s ≡ encodeFrame (flagIn s c t) ++ drop (t .size) s
+  unfolding encodeFrame flagIn
   flag-back c t v =
       let size : definitionLengths 2 s .size ≤ length s = rw (v .texts) at (v .fits) in
       let long : 2 ≤ length s = omega (arith, definition-least 2 s) in
       rw (v .texts, v .short)
       (split-two s long ∙ rw (v .kind) (ap (λ (l : List ℕ). 3 ∷ getD s 1 0 ∷ l) (definition-back 2 size)))
 
-  -- the bytes are the frame's and what stands behind it
-  pub read-back : (f : Frame) (n : ℕ) → readFirst s ≡ read f n → s ≡ encode f ++ drop n s
+  -- the bytes are the frame's and what stands after it
+  pub read-back : (f : Frame) (n : ℕ) → readFirst s ≡ read f n → s ≡ encodeFrame f ++ drop n s
   unfolding readFirst
   read-back f n e = by (headFirst s) refl e
     where
-      by : (h : Head) → headFirst s ≡ h → readBy s h ≡ read f n → s ≡ encode f ++ drop n s
+      by : (h : Head) → headFirst s ≡ h → readBy s h ≡ read f n → s ≡ encodeFrame f ++ drop n s
       by (Node d h t) q r = let v = node-back d h t (view s _ q) in let k : nodeIn s d h t ≡ f = cc in let l : t .size ≡ n = cc in rw (k, l) at v
       by (Option a c t) q r = let v = option-back a c t (view s _ q) in let k : optionIn s a c t ≡ f = cc in let l : t .size ≡ n = cc in rw (k, l) at v
       by (Flag c t) q r = let v = flag-back c t (view s _ q) in let k : flagIn s c t ≡ f = cc in let l : t .size ≡ n = cc in rw (k, l) at v
@@ -234,21 +234,21 @@ handler-whole h = omega arith
 
 -- every frame's encoding reads back as it, whatever follows
 module _ (s rest : List ℕ) where
-  node-read : (d h : ℕ) (n ds : List ℕ) (u : Perhaps) → Marked u → s ≡ encode (node d h n ds u) ++ rest → readFirst s ≡ read (node d h n ds u) (length (encode (node d h n ds u)))
-  unfolding encode nodeIn
+  node-read : (d h : ℕ) (n ds : List ℕ) (u : Perhaps) → Marked u → s ≡ encodeFrame (node d h n ds u) ++ rest → readFirst s ≡ read (node d h n ds u) (length (encodeFrame (node d h n ds u)))
+  unfolding encodeFrame nodeIn
   node-read d h n ds u m e =
       let four : drop 4 s ≡ text n ++ (text ds ++ (perhaps u ++ rest)) = ap (drop 4) e ∙ simp append-assoc in
       let one = text-read s 4 n _ four in
       let two = text-read s (5 + length n) ds _ (one .behind (5 + length n) (omega arith)) in
       let last = perhaps-read s (6 + length n + length ds) u rest m (two .behind (6 + length n + length ds) (omega arith)) in
-      let size : length (encode (node d h n ds u)) ≡ 7 + length n + length ds + span (mark u) =
+      let size : length (encodeFrame (node d h n ds u)) ≡ 7 + length n + length ds + span (mark u) =
       simp (length-append, length-text, length-perhaps u m) (omega arith)
       in
       let t : Lengths = record { name = length n; description = length ds; other = mark u; size = 7 + length n + length ds + span (mark u) } in
       let are : t ≡ nodeLengths s = node-lengths-are s (length n) (length ds) (mark u) (span (mark u)) (one .byte) (two .byte) (last .byte) refl in
-      let all : length s ≡ length (encode (node d h n ds u)) + length rest = ap length e ∙ length-append (encode (node d h n ds u)) rest in
+      let all : length s ≡ length (encodeFrame (node d h n ds u)) + length rest = ap length e ∙ length-append (encodeFrame (node d h n ds u)) rest in
       let some : length s ≡ 0 → ⊥ = λ k. omega arith in
-      let b : (i : ℕ) → getD s i 0 ≡ getD (encode (node d h n ds u) ++ rest) i 0 = λ i. ap (λ (l : List ℕ). getD l i 0) e in
+      let b : (i : ℕ) → getD s i 0 ≡ getD (encodeFrame (node d h n ds u) ++ rest) i 0 = λ i. ap (λ (l : List ℕ). getD l i 0) e in
       let head = node-whole s t are d (h / 256) (h % 256) (omega arith) (sym (b 1)) (sym (b 2)) (sym (b 3)) ∙ head-node s some (b 0) in
       let names : nodeIn s d (h / 256 * 256 + h % 256) t ≡ node d h n ds u =
       rw (handler-whole h, one .found 5 (omega arith), two .found (6 + length n) (omega arith), last .found (6 + length n + length ds + 1) refl)
@@ -269,33 +269,33 @@ module _ (s rest : List ℕ) where
         size = simp (length-append, length-text, length-perhaps l m) (omega arith);
       }
 
-  option-read : (r c : ℕ) (n : List ℕ) (l : Perhaps) (ds : List ℕ) → Marked l → s ≡ encode (option r c n l ds) ++ rest → readFirst s ≡ read (option r c n l ds) (length (encode (option r c n l ds)))
-  unfolding encode optionIn
+  option-read : (r c : ℕ) (n : List ℕ) (l : Perhaps) (ds : List ℕ) → Marked l → s ≡ encodeFrame (option r c n l ds) ++ rest → readFirst s ≡ read (option r c n l ds) (length (encodeFrame (option r c n l ds)))
+  unfolding encodeFrame optionIn
   option-read r c n l ds m e =
       let v = definition-read 3 n l ds m (ap (drop 3) e) in
       let t : Lengths = lengthsOf 3 n l ds in
-      let size : t .size ≡ length (encode (option r c n l ds)) = let k = v .size in omega arith in
-      let all : length s ≡ length (encode (option r c n l ds)) + length rest = ap length e ∙ length-append (encode (option r c n l ds)) rest in
+      let size : t .size ≡ length (encodeFrame (option r c n l ds)) = let k = v .size in omega arith in
+      let all : length s ≡ length (encodeFrame (option r c n l ds)) + length rest = ap length e ∙ length-append (encodeFrame (option r c n l ds)) rest in
       let some : length s ≡ 0 → ⊥ = λ k. omega arith in
-      let b : (i : ℕ) → getD s i 0 ≡ getD (encode (option r c n l ds) ++ rest) i 0 = λ i. ap (λ (x : List ℕ). getD x i 0) e in
+      let b : (i : ℕ) → getD s i 0 ≡ getD (encodeFrame (option r c n l ds) ++ rest) i 0 = λ i. ap (λ (x : List ℕ). getD x i 0) e in
       let head = option-whole s t (v .lengths) r c (omega arith) (sym (b 1)) (sym (b 2)) ∙ head-option s some (b 0) in
       let names : optionIn s r c t ≡ option r c n l ds = rw (v .name, v .long, v .note) in
       read-is s _ _ _ head (read-same _ _ _ _ names size)
 
-  flag-read : (c : ℕ) (n : List ℕ) (l : Perhaps) (ds : List ℕ) → Marked l → s ≡ encode (flag c n l ds) ++ rest → readFirst s ≡ read (flag c n l ds) (length (encode (flag c n l ds)))
-  unfolding encode flagIn
+  flag-read : (c : ℕ) (n : List ℕ) (l : Perhaps) (ds : List ℕ) → Marked l → s ≡ encodeFrame (flag c n l ds) ++ rest → readFirst s ≡ read (flag c n l ds) (length (encodeFrame (flag c n l ds)))
+  unfolding encodeFrame flagIn
   flag-read c n l ds m e =
       let v = definition-read 2 n l ds m (ap (drop 2) e) in
       let t : Lengths = lengthsOf 2 n l ds in
-      let size : t .size ≡ length (encode (flag c n l ds)) = let k = v .size in omega arith in
-      let all : length s ≡ length (encode (flag c n l ds)) + length rest = ap length e ∙ length-append (encode (flag c n l ds)) rest in
+      let size : t .size ≡ length (encodeFrame (flag c n l ds)) = let k = v .size in omega arith in
+      let all : length s ≡ length (encodeFrame (flag c n l ds)) + length rest = ap length e ∙ length-append (encodeFrame (flag c n l ds)) rest in
       let some : length s ≡ 0 → ⊥ = λ k. omega arith in
-      let b : (i : ℕ) → getD s i 0 ≡ getD (encode (flag c n l ds) ++ rest) i 0 = λ i. ap (λ (x : List ℕ). getD x i 0) e in
+      let b : (i : ℕ) → getD s i 0 ≡ getD (encodeFrame (flag c n l ds) ++ rest) i 0 = λ i. ap (λ (x : List ℕ). getD x i 0) e in
       let head = flag-whole s t (v .lengths) c (omega arith) (sym (b 1)) ∙ head-flag s some (b 0) in
       let names : flagIn s c t ≡ flag c n l ds = rw (v .name, v .long, v .note) in
       read-is s _ _ _ head (read-same _ _ _ _ names size)
 
-pub frame-read : (f : Frame) (rest : List ℕ) → Fits f → readFirst (encode f ++ rest) ≡ read f (length (encode f))
+pub frame-read : (f : Frame) (rest : List ℕ) → Fits f → readFirst (encodeFrame f ++ rest) ≡ read f (length (encodeFrame f))
 frame-read (node d h n ds u) rest k = node-read _ rest d h n ds u k refl
 frame-read (option r c n l ds) rest k = option-read _ rest r c n l ds k refl
 frame-read (flag c n l ds) rest k = flag-read _ rest c n l ds k refl
@@ -340,9 +340,9 @@ read-within s f n e = by (headFirst s) refl e
     by Bad q r = absurd (let z : _≡_ {A = ℕ} 0 1 = cc in omega arith)
     by End q r = absurd (let z : _≡_ {A = ℕ} 0 1 = cc in omega arith)
 
-pub read-size : (s : List ℕ) (f : Frame) (n : ℕ) → Bytes s → readFirst s ≡ read f n → n ≡ length (encode f)
+pub read-size : (s : List ℕ) (f : Frame) (n : ℕ) → Bytes s → readFirst s ≡ read f n → n ≡ length (encodeFrame f)
 read-size s f n b e =
-    let back = ap length (read-back s b f n e) ∙ length-append (encode f) (drop n s) ∙ ap (λ (k : ℕ). length (encode f) + k) (length-drop n s) in
+    let back = ap length (read-back s b f n e) ∙ length-append (encodeFrame f) (drop n s) ∙ ap (λ (k : ℕ). length (encodeFrame f) + k) (length-drop n s) in
     let k = read-within s f n e in
     omega arith
 
@@ -365,8 +365,8 @@ fairly (read f n) = cond (fair f) (read f n) broken
 fairly broken = broken
 fairly ended = ended
 
-pub read-fairly : (s : List ℕ) → readBy s (frameFirst s) ≡ fairly (readFirst s)
-unfolding frameFirst readFirst
+pub read-fairly : (s : List ℕ) → readBy s (strictFirst s) ≡ fairly (readFirst s)
+unfolding strictFirst readFirst
 read-fairly s = by (headFirst s)
   where
     pick : (t : Bool) (head : Head) (f : Frame) (n : ℕ) → readBy s head ≡ read f n → readBy s (cond t head Bad) ≡ cond t (read f n) broken
@@ -390,8 +390,5 @@ fairly-told (read g m) f n e = by (fair g) refl e
 fairly-told broken f n e = absurd (let z : _≡_ {A = ℕ} 0 1 = cc in omega arith)
 fairly-told ended f n e = absurd (let z : _≡_ {A = ℕ} 0 1 = cc in omega arith)
 
-pub strict-told : (s : List ℕ) (head : Head) (f : Frame) (n : ℕ) → head ≡ frameFirst s → readBy s head ≡ read f n → (readFirst s ≡ read f n) × (fair f ≡ true)
+pub strict-told : (s : List ℕ) (head : Head) (f : Frame) (n : ℕ) → head ≡ strictFirst s → readBy s head ≡ read f n → (readFirst s ≡ read f n) × (fair f ≡ true)
 strict-told s head f n e r = fairly-told (readFirst s) f n (sym (read-fairly s) ∙ rw (← e) r)
-
-pub strict-bad : (s : List ℕ) (head : Head) → head ≡ frameFirst s → readBy s head ≡ broken → fairly (readFirst s) ≡ broken
-strict-bad s head e r = sym (read-fairly s) ∙ rw (← e) r

@@ -5,9 +5,9 @@ use mathlib.Core.Bool.{true, false}
 use mathlib.Core.List.{List, [], _∷_, _++_}
 use lib.ListN.{replicate}
 use Rattle.frame.specs.Text.{numberBytes, textOf}
-use Rattle.image.specs.Frames.{Frame, node, flag, absent, present, text, perhaps, encode}
+use Rattle.image.specs.Frames.{Frame, node, flag, absent, present, text, perhaps, encodeFrame}
 use Rattle.image.specs.Limits.{allShown, isName, isNote, isShort, definable, fair}
-use Rattle.image.specs.Reading.{span, perhapsIn, nodeLengths, definitionLengths, nodeFirst, flagFirst, headFirst, nodeIn, flagIn, frameFirst, read, broken, readFirst}
+use Rattle.image.specs.Reading.{span, perhapsIn, nodeLengths, definitionLengths, nodeFirst, flagFirst, headFirst, nodeIn, flagIn, strictFirst, read, broken, readFirst}
 use Rattle.image.specs.declared.head.Head.the-variants.{Bad}
 
 log : List ℕ
@@ -19,13 +19,13 @@ session =
     node 0 2 log (0x43 ∷ 0x68 ∷ 0x61 ∷ 0x6e ∷ 0x67 ∷ 0x65 ∷ 0x20 ∷ 0x6c ∷ 0x6f ∷ 0x67 ∷ 0x20 ∷ 0x6c ∷ 0x65 ∷ 0x76 ∷ 0x65 ∷ 0x6c ∷ [])
     (present (0x6c ∷ 0x6f ∷ 0x67 ∷ 0x20 ∷ 0x5b ∷ 0x4c ∷ 0x45 ∷ 0x56 ∷ 0x45 ∷ 0x4c ∷ 0x5d ∷ []))
 
-session-bytes : encode session
+session-bytes : encodeFrame session
     ≡ 0x01 ∷ 0x00 ∷ 0x00 ∷ 0x02 ∷ 0x03 ∷ 0x6c ∷ 0x6f ∷ 0x67 ∷ 0x10 ∷ 0x43 ∷ 0x68 ∷ 0x61 ∷ 0x6e ∷ 0x67 ∷ 0x65 ∷ 0x20 ∷ 0x6c ∷ 0x6f ∷ 0x67 ∷ 0x20 ∷ 0x6c ∷ 0x65 ∷ 0x76 ∷ 0x65 ∷ 0x6c ∷ 0x0b ∷ 0x6c ∷ 0x6f ∷ 0x67 ∷ 0x20 ∷ 0x5b ∷ 0x4c ∷ 0x45 ∷ 0x56 ∷ 0x45 ∷ 0x4c ∷ 0x5d ∷ []
-unfolding session log encode perhaps text textOf numberBytes
+unfolding session log encodeFrame perhaps text textOf numberBytes
 session-bytes = refl
 
-session-read : readFirst (encode session ++ (0x01 ∷ [])) ≡ read session 37
-unfolding session log encode perhaps text textOf numberBytes readFirst headFirst nodeFirst nodeLengths span nodeIn perhapsIn
+session-read : readFirst (encodeFrame session ++ (0x01 ∷ [])) ≡ read session 37
+unfolding session log encodeFrame perhaps text textOf numberBytes readFirst headFirst nodeFirst nodeLengths span nodeIn perhapsIn
 session-read = refl
 
 session-fair : fair session ≡ true
@@ -45,8 +45,8 @@ flag-cut : readFirst (0x03 ∷ 0x6c ∷ 0x04 ∷ 0x6c ∷ 0x6f ∷ 0x6e ∷ 0x67
 unfolding readFirst headFirst flagFirst definitionLengths span
 flag-cut = refl
 
-flag-bad : frameFirst (0x03 ∷ 0x6c ∷ 0x04 ∷ 0x6c ∷ 0x6f ∷ 0x6e ∷ 0x67 ∷ 0xff ∷ 0x01 ∷ 0x7f ∷ []) ≡ Bad
-unfolding frameFirst headFirst flagFirst definitionLengths span flagIn perhapsIn fair definable isShort isName isNote allShown
+flag-bad : strictFirst (0x03 ∷ 0x6c ∷ 0x04 ∷ 0x6c ∷ 0x6f ∷ 0x6e ∷ 0x67 ∷ 0xff ∷ 0x01 ∷ 0x7f ∷ []) ≡ Bad
+unfolding strictFirst headFirst flagFirst definitionLengths span flagIn perhapsIn fair definable isShort isName isNote allShown
 flag-bad = refl
 
 -- a name of 32 bytes and one of 33, a description of 96 and one of 97

@@ -2,6 +2,6 @@
 pub mod Heads
 pub mod Fields
 pub mod Blocks
-pub mod Views
+pub mod HeadBytes
 pub mod Encoding
 pub mod Examples

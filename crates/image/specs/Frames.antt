@@ -24,10 +24,10 @@ perhaps absent = 0xff ∷ []
 perhaps (present t) = text t
 
 -- the bytes of a frame
-unfoldable pub encode : Frame → List ℕ
-encode (node depth handler name description usage) =
+unfoldable pub encodeFrame : Frame → List ℕ
+encodeFrame (node depth handler name description usage) =
     0x01 ∷ depth ∷ handler / 256 ∷ handler % 256 ∷ text name ++ text description ++ perhaps usage
-encode (option required short name long description) =
+encodeFrame (option required short name long description) =
     0x02 ∷ required ∷ short ∷ text name ++ perhaps long ++ text description
-encode (flag short name long description) =
+encodeFrame (flag short name long description) =
     0x03 ∷ short ∷ text name ++ perhaps long ++ text description

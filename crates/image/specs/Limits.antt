@@ -10,12 +10,12 @@ abbrev pub both : Bool → Bool → Bool
 both a b = cond a b false
 
 -- a byte from `low` to 7E
-abbrev pub shown : ℕ → ℕ → Bool
-shown low b = both (leb low b) (leb b 0x7e)
+abbrev pub isShown : ℕ → ℕ → Bool
+isShown low b = both (leb low b) (leb b 0x7e)
 
 unfoldable pub allShown : ℕ → List ℕ → Bool
 allShown low [] = true
-allShown low (b ∷ t) = both (shown low b) (allShown low t)
+allShown low (b ∷ t) = both (isShown low b) (allShown low t)
 
 -- names and longs: 1 to 32 bytes of 21-7E
 unfoldable pub isName : List ℕ → Bool
@@ -27,7 +27,7 @@ isNote t = both (leb (length t) 96) (allShown 0x20 t)
 
 -- a short: 0 for none, or a byte of 21-7E
 unfoldable pub isShort : ℕ → Bool
-isShort c = cond (eqb c 0) true (shown 0x21 c)
+isShort c = cond (eqb c 0) true (isShown 0x21 c)
 
 -- a text that may be missing obeys its rule if it is there
 abbrev pub optionally : (List ℕ → Bool) → Perhaps → Bool

@@ -1,21 +1,20 @@
 -- How the first frame of bytes is read: its numbers and the lengths of its texts, a byte past the end being 0.
 use Prim.Native.Nat.{ℕ, _+_, _*_, _<_}
-use mathlib.Core.Path.{_≡_}
-use mathlib.Core.Bool.{Bool, cond}
+use mathlib.Core.Bool.{cond}
 use mathlib.Core.List.{List}
 use lib.Dec.{leb, eqb}
 use lib.ListN.{length, take, drop, getD}
 use Rattle.image.specs.Frames.{Perhaps, absent, present, Frame, node, option, flag}
-use Rattle.image.specs.Limits.{definable, fair}
+use Rattle.image.specs.Limits.{fair}
 use Rattle.image.specs.declared.head.Lengths.{Lengths}
 use Rattle.image.specs.declared.head.Head.{Head}
 use Rattle.image.specs.declared.head.Head.the-variants.{Node, Option, Flag, Bad, End}
 
--- how many bytes a text that may be missing takes behind its length byte
+-- how many bytes a text that may be missing takes after its length byte
 unfoldable pub span : ℕ → ℕ
 span n = cond (eqb n 0xff) 0 n
 
--- three texts one behind the other from a place on: name, description, usage
+-- three texts one after the other from a place on: name, description, usage
 unfoldable pub nodeLengths : List ℕ → Lengths
 nodeLengths s =
     let name : ℕ = getD s 4 0 in
@@ -75,9 +74,6 @@ optionIn s required short texts = option required short (nameIn s 3 texts) (long
 unfoldable pub flagIn : List ℕ → ℕ → Lengths → Frame
 flagIn s short texts = flag short (nameIn s 2 texts) (longIn s 2 texts) (noteIn s 2 texts)
 
-unfoldable pub definedIn : List ℕ → ℕ → ℕ → Lengths → Bool
-definedIn s p short texts = definable short (nameIn s p texts) (longIn s p texts) (noteIn s p texts)
-
 -- a head whose frame is within the limits
 abbrev pub strictly : List ℕ → Head → Head
 strictly s (Node depth handler texts) = cond (fair (nodeIn s depth handler texts)) (Node depth handler texts) Bad
@@ -87,8 +83,8 @@ strictly s Bad = Bad
 strictly s End = End
 
 -- what the first bytes are, by all the rules for a frame by itself
-unfoldable pub frameFirst : List ℕ → Head
-frameFirst s = strictly s (headFirst s)
+unfoldable pub strictFirst : List ℕ → Head
+strictFirst s = strictly s (headFirst s)
 
 -- lengths that are bytes
 pub record Small (texts : Lengths) : Type 0 where

@@ -34,7 +34,7 @@ pub enum Head {
     End,
 }
 
-// How many bytes a text that may be missing takes behind its length byte.
+// How many bytes a text that may be missing takes after its length byte.
 pub fn span_of(n: usize) -> usize
     ensures { λ r. ⌜ r ≡ span n ⌝ }
 {

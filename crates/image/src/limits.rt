@@ -8,9 +8,9 @@ use buffer::rest;
 ghost use mathlib.Core.Path.{_≡_};
 ghost use Prim.Native.Nat.{ℕ, _≤_, _<_, max};
 ghost use lib.ListN.{length, drop};
-ghost use Rattle.image.specs.Blocks.{strange};
-ghost use Rattle.image.specs.Limits.{allShown, isName, isNote, isShort, optionally, definable, fair};
-ghost use Rattle.image.specs.Reading.{Small, perhapsIn, definedIn, nodeIn, frameFirst};
+ghost use Rattle.image.specs.Inner.{strange, definedIn};
+ghost use Rattle.image.specs.Limits.{allShown, isName, isNote, isShort, optionally, fair};
+ghost use Rattle.image.specs.Reading.{Small, perhapsIn, nodeIn, strictFirst};
 
 // The largest byte of a text, 7E.
 const LAST: u8 = 0x7E;
@@ -171,7 +171,7 @@ fn is_definable(s: &[u8], p: usize, short: usize, texts: Lengths) -> bool
 
 // The first frame of s, if it is within the limits.
 fn frame_of(s: &[u8]) -> Head
-    ensures { λ r. ⌜ r ≡ frameFirst (now (s .entry)) ⌝ }
+    ensures { λ r. ⌜ r ≡ strictFirst (now (s .entry)) ⌝ }
 {
     let head = head_of(s);
     match head {
@@ -213,7 +213,7 @@ fn frame_of(s: &[u8]) -> Head
 
 // The frame at the place `at` of an image, if it is within the limits.
 pub fn frame_at(image: &[u8], at: usize) -> Head
-    ensures { λ r. ⌜ r ≡ frameFirst (drop at (now (image .entry))) ⌝ }
+    ensures { λ r. ⌜ r ≡ strictFirst (drop at (now (image .entry))) ⌝ }
 {
     frame_of(rest(image, at))
 }

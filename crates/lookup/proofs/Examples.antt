@@ -4,7 +4,7 @@ use mathlib.Core.Path.{_≡_, refl}
 use mathlib.Core.List.{List, [], _∷_}
 use Rattle.buffer.specs.Compare.{sameBytes}
 use Rattle.frame.specs.Text.{numberBytes, textOf}
-use Rattle.image.specs.Frames.{node, option, flag, absent, present, text, perhaps, encode}
+use Rattle.image.specs.Frames.{node, option, flag, absent, present, text, perhaps, encodeFrame}
 use Rattle.image.specs.Reading.{span, perhapsIn, nodeLengths, definitionLengths, nodeFirst, optionFirst, flagFirst, headFirst, nodeIn, optionIn, flagIn, readFirst}
 use Rattle.tree.specs.Images.{itemsFrom, items, framesIn, framesOf, flat}
 use Rattle.lookup.specs.Spots.{placeOf, spot}
@@ -12,7 +12,7 @@ use Rattle.lookup.specs.Searches.{keyed, wanted, endedBy}
 use Rattle.lookup.specs.Nodes.{subtreeEnd, findNode}
 use Rattle.lookup.specs.Definitions.{hasKey, hasShort, defined}
 use Rattle.lookup.specs.declared.seek.Spot.the-variants.{At, Nothing}
-use Rattle.lookup.specs.declared.look.Sought.the-variants.{Option as AnyOption, Flag as AnyFlag, OptionKeyed}
+use Rattle.lookup.specs.declared.look.Sought.the-variants.{OptionKeyed}
 use Rattle.lookup.specs.declared.node.Subtree.the-variants.{Between, Nowhere}
 use Rattle.lookup.specs.declared.definition.Defined.the-variants.{Flag, Option, Unknown}
 
@@ -48,8 +48,7 @@ table :
     × (defined (hasShort 0x63) image 25 ≡ Option 31)
     × (defined (hasShort 0x79) image 25 ≡ Unknown)
     × (defined (hasShort 0) image 25 ≡ Unknown)
-    × (spot (wanted AnyOption []) (endedBy AnyOption) image 25 ≡ At 31)
-    × (spot (wanted AnyFlag []) (endedBy AnyFlag) image 31 ≡ Nothing)
+    × (spot (wanted OptionKeyed (0x63 ∷ [])) (endedBy OptionKeyed) image 25 ≡ At 31)
     × (spot (wanted OptionKeyed (0x6c ∷ [])) (endedBy OptionKeyed) image 25 ≡ Nothing)
-unfolding image set-name cfg sameBytes numberBytes textOf text perhaps encode span perhapsIn nodeLengths definitionLengths nodeFirst optionFirst flagFirst headFirst nodeIn optionIn flagIn readFirst itemsFrom items framesIn framesOf flat placeOf spot keyed subtreeEnd findNode defined
-table = (refl, refl, refl, refl, refl, refl, refl, refl, refl, refl, refl, refl)
+unfolding image set-name cfg sameBytes numberBytes textOf text perhaps encodeFrame span perhapsIn nodeLengths definitionLengths nodeFirst optionFirst flagFirst headFirst nodeIn optionIn flagIn readFirst itemsFrom items framesIn framesOf flat placeOf spot keyed subtreeEnd findNode defined
+table = (refl, refl, refl, refl, refl, refl, refl, refl, refl, refl, refl)

@@ -4,7 +4,7 @@ pub mod Seeks
 pub mod Matches
 pub mod Parts
 pub mod Subtrees
-pub mod Few
-pub mod Finds
+pub mod FrameCounts
+pub mod FoundFrames
 pub mod Lookups
 pub mod Examples

@@ -16,9 +16,10 @@ use Rattle.image.specs.Reading.{perhapsIn, headFirst, read, readBy, readFirst, 
 use Rattle.image.specs.declared.head.Lengths.{Lengths}
 use Rattle.image.specs.declared.head.Head.{Head}
 use Rattle.image.specs.declared.head.Head.the-variants.{Node as NodeHead, Option as OptionHead, Flag as FlagHead, Bad, End}
-use Rattle.lookup.specs.Searches.{keyed, hitOr, lookAt, lookBy}
+use Rattle.lookup.specs.Searches.{keyed}
+use Rattle.lookup.specs.Inner.{hitOr, lookAt, lookBy}
 use Rattle.lookup.specs.declared.look.Sought.{Sought}
-use Rattle.lookup.specs.declared.look.Sought.the-variants.{Node, Upper, Option, Flag, OptionKeyed}
+use Rattle.lookup.specs.declared.look.Sought.the-variants.{Node, Upper, OptionKeyed}
 use Rattle.lookup.specs.declared.look.Look.{Look}
 use Rattle.lookup.specs.declared.look.Look.the-variants.{Hit, Pass, Stop}
 
@@ -52,60 +53,38 @@ module _ (sought : Sought) (key : List ℕ) (size : ℕ) where
     pub node-upper : (d : ℕ) (r : Look) → sought ≡ Upper d → r ≡ hitOr (leb e d) size → r ≡ lookAt sought key (node e h n ds u) size
     node-upper d r q a = rw q a
 
-    node-ends : OneOf (2 ∷ 3 ∷ 4 ∷ []) (tagOf the-type sought) → Stop ≡ lookAt sought key (node e h n ds u) size
-    node-ends o = by sought o
-      where
-        by : (x : Sought) → OneOf (2 ∷ 3 ∷ 4 ∷ []) (tagOf the-type x) → Stop ≡ lookAt x key (node e h n ds u) size
-        by (Node d) k = absurd (miss (2 ∷ 3 ∷ 4 ∷ []) 0 tt k)
-        by (Upper d) k = absurd (miss (2 ∷ 3 ∷ 4 ∷ []) 1 tt k)
-        by Option k = refl
-        by Flag k = refl
-        by OptionKeyed k = refl
+    pub node-ends : sought ≡ OptionKeyed → Stop ≡ lookAt sought key (node e h n ds u) size
+    node-ends q = rw q
 
   -- an option
   module _ (q c : ℕ) (n : List ℕ) (l : Perhaps) (ds : List ℕ) where
-    pub option-any : sought ≡ Option → Hit ≡ lookAt sought key (option q c n l ds) size
-    option-any e = rw e
-
     pub option-keyed : (r : Look) (t : Bool) → sought ≡ OptionKeyed → r ≡ hitOr t size → t ≡ keyed key n l → r ≡ lookAt sought key (option q c n l ds) size
     option-keyed r t e a b = rw e (a ∙ rw b)
 
-    option-passed : OneOf (0 ∷ 1 ∷ 3 ∷ []) (tagOf the-type sought) → Pass size ≡ lookAt sought key (option q c n l ds) size
+    option-passed : OneOf (0 ∷ 1 ∷ []) (tagOf the-type sought) → Pass size ≡ lookAt sought key (option q c n l ds) size
     option-passed o = by sought o
       where
-        by : (x : Sought) → OneOf (0 ∷ 1 ∷ 3 ∷ []) (tagOf the-type x) → Pass size ≡ lookAt x key (option q c n l ds) size
+        by : (x : Sought) → OneOf (0 ∷ 1 ∷ []) (tagOf the-type x) → Pass size ≡ lookAt x key (option q c n l ds) size
         by (Node d) k = refl
         by (Upper d) k = refl
-        by Option k = absurd (miss (0 ∷ 1 ∷ 3 ∷ []) 2 tt k)
-        by Flag k = refl
-        by OptionKeyed k = absurd (miss (0 ∷ 1 ∷ 3 ∷ []) 4 tt k)
+        by OptionKeyed k = absurd (miss (0 ∷ 1 ∷ []) 2 tt k)
 
-  -- a flag
-  module _ (c : ℕ) (n : List ℕ) (l : Perhaps) (ds : List ℕ) where
-    pub flag-any : sought ≡ Flag → Hit ≡ lookAt sought key (flag c n l ds) size
-    flag-any e = rw e
-
-    flag-passed : OneOf (0 ∷ 1 ∷ 2 ∷ 4 ∷ []) (tagOf the-type sought) → Pass size ≡ lookAt sought key (flag c n l ds) size
-    flag-passed o = by sought o
-      where
-        by : (x : Sought) → OneOf (0 ∷ 1 ∷ 2 ∷ 4 ∷ []) (tagOf the-type x) → Pass size ≡ lookAt x key (flag c n l ds) size
-        by (Node d) k = refl
-        by (Upper d) k = refl
-        by Option k = refl
-        by Flag k = absurd (miss (0 ∷ 1 ∷ 2 ∷ 4 ∷ []) 3 tt k)
-        by OptionKeyed k = refl
+  -- a flag, which no search wants
+  flag-passed : (c : ℕ) (n : List ℕ) (l : Perhaps) (ds : List ℕ) → Pass size ≡ lookAt sought key (flag c n l ds) size
+  flag-passed c n l ds = by sought
+    where
+      by : (x : Sought) → Pass size ≡ lookAt x key (flag c n l ds) size
+      by (Node d) = refl
+      by (Upper d) = refl
+      by OptionKeyed = refl
 
   -- the same for frames that a head says
   module _ (s : List ℕ) (t : Lengths) where
-    pub node-ends-in : (e h : ℕ) → OneOf (2 ∷ 3 ∷ 4 ∷ []) (tagOf the-type sought) → Stop ≡ lookAt sought key (nodeIn s e h t) size
-    unfolding nodeIn
-    node-ends-in e h = node-ends e h _ _ _
-
-    pub option-passed-in : (q c : ℕ) → OneOf (0 ∷ 1 ∷ 3 ∷ []) (tagOf the-type sought) → Pass size ≡ lookAt sought key (optionIn s q c t) size
+    pub option-passed-in : (q c : ℕ) → OneOf (0 ∷ 1 ∷ []) (tagOf the-type sought) → Pass size ≡ lookAt sought key (optionIn s q c t) size
     unfolding optionIn
     option-passed-in q c = option-passed q c _ _ _
 
-    pub flag-passed-in : (c : ℕ) → OneOf (0 ∷ 1 ∷ 2 ∷ 4 ∷ []) (tagOf the-type sought) → Pass size ≡ lookAt sought key (flagIn s c t) size
+    pub flag-passed-in : (c : ℕ) → Pass size ≡ lookAt sought key (flagIn s c t) size
     unfolding flagIn
     flag-passed-in c = flag-passed c _ _ _
 

@@ -7,17 +7,17 @@ use native.Mathlib.Omega.{arith}
 use lib.ListN.{length}
 use borrow.Author.Tests.{eq-eqb, ne-eqb, le-leb, lt-leb}
 use Rattle.buffer.specs.Compare.{order, sameBytes}
-use Rattle.image.specs.Frames.{Perhaps, Frame, node, option, flag, encode}
+use Rattle.image.specs.Frames.{Perhaps, Frame, node, option, flag, encodeFrame}
 use Rattle.image.specs.Limits.{both, fair}
 use Rattle.image.proofs.Fields.{both-first, both-second, both-true}
 use Rattle.tree.specs.Images.{flat}
 use Rattle.tree.specs.Rules.{start, isLess}
 use Rattle.tree.specs.Forest.{Forest, bare, grown, flatten, definitionsOnly, modest, orderly}
-use Rattle.tree.proofs.Wholes.{AllFit, obey-fit}
-use Rattle.tree.proofs.Growing.{forest-obeys}
+use Rattle.tree.proofs.WellFormedImages.{AllFit, obey-fit}
+use Rattle.tree.proofs.Flattening.{forest-obeys}
 use Rattle.tree.proofs.Forests.{StandsFor}
 use Rattle.tree.specs.Subtrees.{upTo, onFrom, rooted, subtree}
-use Rattle.lookup.specs.Spots.{later, placeOf, spot}
+use Rattle.lookup.specs.Spots.{shifted, placeOf, spot}
 use Rattle.lookup.specs.Searches.{wanted, isNode}
 use Rattle.lookup.specs.Nodes.{findNode}
 use Rattle.lookup.specs.Subtrees.{treeNamed, PartHolds}
@@ -197,25 +197,25 @@ pub child-holds : (h : ℕ) (n ds : List ℕ) (u : Perhaps) (defs : List Frame) 
 child-holds h n ds u defs below before d name o fit =
     rw (← child-named h n ds u defs below before d name o) (find-holds (suc d) name (flatten d (grown h n ds u defs below bare)) fit)
 
-first-size : (f : Frame) → length (flat (f ∷ [])) ≡ length (encode f)
+first-size : (f : Frame) → length (flat (f ∷ [])) ≡ length (encodeFrame f)
 unfolding flat
-first-size f = ap length (append-nil (encode f))
+first-size f = ap length (append-nil (encodeFrame f))
 
--- a list of definitions ends at the next node of any depth, whatever stands behind
+-- a list of definitions ends at the next node of any depth, whatever stands after
 pub definitions-end : (test : Frame → Bool) (defs : List Frame) (d : ℕ) (f : Forest) → definitionsOnly defs ≡ true → placeOf test isNode (defs ++ flatten d f) ≡ placeOf test isNode defs
 unfolding placeOf definitionsOnly flatten
 definitions-end test [] d bare o = refl
 definitions-end test [] d (grown h n ds u defs below after) o = refl
 definitions-end test (node b h n ds u ∷ l) d f o = cc
 definitions-end test (option r c n x ds ∷ l) d f o =
-    ap (λ (s : Spot). cond (test (option r c n x ds)) (At 0) (later (length (encode (option r c n x ds))) s)) (definitions-end test l d f (both-second (fair (option r c n x ds)) _ o))
+    ap (λ (s : Spot). cond (test (option r c n x ds)) (At 0) (shifted (length (encodeFrame (option r c n x ds))) s)) (definitions-end test l d f (both-second (fair (option r c n x ds)) _ o))
 definitions-end test (flag c n x ds ∷ l) d f o =
-    ap (λ (s : Spot). cond (test (flag c n x ds)) (At 0) (later (length (encode (flag c n x ds))) s)) (definitions-end test l d f (both-second (fair (flag c n x ds)) _ o))
+    ap (λ (s : Spot). cond (test (flag c n x ds)) (At 0) (shifted (length (encodeFrame (flag c n x ds))) s)) (definitions-end test l d f (both-second (fair (flag c n x ds)) _ o))
 
--- the definitions of a node, sought in the part of its tree from behind the node, are those of the node alone
+-- the definitions of a node, sought in the part of its tree from after the node, are those of the node alone
 pub definitions-spot : (test : Frame → Bool) (h : ℕ) (n ds : List ℕ) (u : Perhaps) (defs : List Frame) (below : Forest) (d : ℕ) → definitionsOnly defs ≡ true
     → AllFit (flatten d (grown h n ds u defs below bare))
-    → spot test isNode (flat (flatten d (grown h n ds u defs below bare))) (length (encode (node d h n ds u))) ≡ later (length (encode (node d h n ds u))) (placeOf test isNode defs)
+    → spot test isNode (flat (flatten d (grown h n ds u defs below bare))) (length (encodeFrame (node d h n ds u))) ≡ shifted (length (encodeFrame (node d h n ds u))) (placeOf test isNode defs)
 unfolding flatten
 definitions-spot test h n ds u defs below d only fit =
     let size = first-size (node d h n ds u) in

@@ -1,4 +1,4 @@
--- Laws of the pass over a node's definitions, for any test of a definition: one frame, then the pass from the place behind it.
+-- Laws of the pass over a node's definitions, for any test of a definition: one frame, then the pass from the place after it.
 use Prim.Native.Nat.{ℕ, _+_, _<_, _≤_}
 use mathlib.Core.Path.{_≡_, refl, sym, _∙_}
 use mathlib.Core.Bool.{Bool, true, false, cond}
@@ -14,8 +14,9 @@ use Rattle.image.specs.declared.head.Lengths.{Lengths}
 use Rattle.image.specs.declared.head.Head.{Head}
 use Rattle.image.specs.declared.head.Head.the-variants.{Node as NodeHead, Option as OptionHead, Flag as FlagHead, Bad, End}
 use Rattle.lookup.specs.Spots.{spot}
-use Rattle.lookup.specs.Searches.{isNode, hitOr, lookBy}
-use Rattle.lookup.specs.Definitions.{flagWith, optionWith, flagOr, defined, orElse, matchBy}
+use Rattle.lookup.specs.Searches.{isNode}
+use Rattle.lookup.specs.Inner.{hitOr, lookBy, orElse, matchBy}
+use Rattle.lookup.specs.Definitions.{flagWith, optionWith, flagOr, defined}
 use Rattle.lookup.specs.declared.seek.Spot.{Spot}
 use Rattle.lookup.specs.declared.seek.Spot.the-variants.{At, Nothing}
 use Rattle.lookup.specs.declared.look.Look.{Look}

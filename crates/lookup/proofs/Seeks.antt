@@ -1,4 +1,4 @@
--- Laws of a search: one frame, then the search from the place behind it.
+-- Laws of a search: one frame, then the search from the place after it.
 use Prim.Native.Nat.{ℕ, _+_, _<_, _≤_}
 use mathlib.Core.Path.{_≡_, refl, sym, ap, _∙_}
 use mathlib.Core.Bool.{Bool, true, false, cond}
@@ -9,13 +9,13 @@ use lib.Seq.{drop-drop}
 use Rattle.buffer.proofs.Lists.{drop-end}
 use Rattle.frame.specs.Text.{Bytes}
 use Rattle.frame.proofs.Texts.{bytes-drop}
-use Rattle.image.specs.Frames.{Frame, encode}
+use Rattle.image.specs.Frames.{Frame, encodeFrame}
 use Rattle.image.specs.Reading.{Read, read, broken, ended, readFirst}
 use Rattle.image.proofs.Encoding.{read-within, read-size, read-ended}
 use Rattle.tree.specs.Images.{framesIn, framesOf}
 use Rattle.tree.proofs.Items.{items-broken, items-none, frames-read}
-use Rattle.lookup.specs.Spots.{later, placeOf, spot}
-use Rattle.lookup.specs.Searches.{hitOr, lookBy}
+use Rattle.lookup.specs.Spots.{shifted, placeOf, spot}
+use Rattle.lookup.specs.Inner.{hitOr, lookBy}
 use Rattle.lookup.specs.declared.seek.Spot.{Spot}
 use Rattle.lookup.specs.declared.seek.Spot.the-variants.{At, Nothing}
 use Rattle.lookup.specs.declared.look.Look.{Look}
@@ -33,7 +33,7 @@ pub frames-none : framesOf [] ≡ []
 unfolding framesOf framesIn
 frames-none = rw items-none
 
-later-later : (a b : ℕ) (x : Spot) → later a (later b x) ≡ later (a + b) x
+later-later : (a b : ℕ) (x : Spot) → shifted a (shifted b x) ≡ shifted (a + b) x
 later-later a b (At k) = ap At (omega arith)
 later-later a b Nothing = refl
 
@@ -49,12 +49,12 @@ module _ (want ends : Frame → Bool) (image : List ℕ) (at : ℕ) where
       z : at ≡ at + 0
       z = omega arith
 
-      choose : (t u : Bool) (n : ℕ) (x : Spot) → cond t Stop (hitOr u n) ≡ Hit → At at ≡ later at (cond t Nothing (cond u (At 0) x))
+      choose : (t u : Bool) (n : ℕ) (x : Spot) → cond t Stop (hitOr u n) ≡ Hit → At at ≡ shifted at (cond t Nothing (cond u (At 0) x))
       choose true u n x k = cc
       choose false true n x k = ap At z
       choose false false n x k = cc
 
-      by : (x : Read) → readFirst (drop at image) ≡ x → lookBy want ends x ≡ Hit → At at ≡ later at (placeOf want ends (framesOf (drop at image)))
+      by : (x : Read) → readFirst (drop at image) ≡ x → lookBy want ends x ≡ Hit → At at ≡ shifted at (placeOf want ends (framesOf (drop at image)))
       by (read f n) q k = rw (frames-read (drop at image) f n q) (choose (ends f) (want f) n _ k)
       by broken q k = cc
       by ended q k = cc
@@ -63,12 +63,12 @@ module _ (want ends : Frame → Bool) (image : List ℕ) (at : ℕ) where
   unfolding spot placeOf
   spot-stop e = by (readFirst (drop at image)) refl e
     where
-      choose : (t u : Bool) (n : ℕ) (x : Spot) → cond t Stop (hitOr u n) ≡ Stop → Nothing ≡ later at (cond t Nothing (cond u (At 0) x))
+      choose : (t u : Bool) (n : ℕ) (x : Spot) → cond t Stop (hitOr u n) ≡ Stop → Nothing ≡ shifted at (cond t Nothing (cond u (At 0) x))
       choose true u n x k = refl
       choose false true n x k = cc
       choose false false n x k = cc
 
-      by : (x : Read) → readFirst (drop at image) ≡ x → lookBy want ends x ≡ Stop → Nothing ≡ later at (placeOf want ends (framesOf (drop at image)))
+      by : (x : Read) → readFirst (drop at image) ≡ x → lookBy want ends x ≡ Stop → Nothing ≡ shifted at (placeOf want ends (framesOf (drop at image)))
       by (read f n) q k = rw (frames-read (drop at image) f n q) (choose (ends f) (want f) n _ k)
       by broken q k = rw (frames-broken (drop at image) q)
       by ended q k = rw (frames-ended (drop at image) q)
@@ -98,12 +98,12 @@ module _ (want ends : Frame → Bool) (image : List ℕ) (at : ℕ) where
           let is : m ≡ n = size (ends f) (want f) m k in
           let w = read-within (drop at image) f m q in
           let l = length-drop at image in
-          let long : m ≡ length (encode f) = read-size (drop at image) f m (bytes-drop at image b) q in
+          let long : m ≡ length (encodeFrame f) = read-size (drop at image) f m (bytes-drop at image b) q in
           record {
             some = omega arith;
             within = λ h. omega arith;
             same =
-                rw (frames-read (drop at image) f m q, choose (ends f) (want f) m _ k, later-later at (length (encode f)), ← long, is, drop-drop n at image);
+                rw (frames-read (drop at image) f m q, choose (ends f) (want f) m _ k, later-later at (length (encodeFrame f)), ← long, is, drop-drop n at image);
           }
       by broken q k = absurd (let z : _≡_ {A = ℕ} 0 1 = cc in omega arith)
       by ended q k = absurd (let z : _≡_ {A = ℕ} 0 1 = cc in omega arith)

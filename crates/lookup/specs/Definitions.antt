@@ -4,15 +4,12 @@ use mathlib.Core.Bool.{Bool, false, cond}
 use mathlib.Core.List.{List}
 use lib.Dec.{eqb}
 use Rattle.image.specs.Frames.{Frame, node, option, flag}
-use Rattle.image.specs.Reading.{Read, read, broken, ended}
 use Rattle.lookup.specs.Spots.{spot}
 use Rattle.lookup.specs.Searches.{keyed, isNode}
 use Rattle.lookup.specs.declared.seek.Spot.{Spot}
 use Rattle.lookup.specs.declared.seek.Spot.the-variants.{At, Nothing}
 use Rattle.lookup.specs.declared.definition.Defined.{Defined}
 use Rattle.lookup.specs.declared.definition.Defined.the-variants.{Flag, Option, Unknown}
-use Rattle.lookup.specs.declared.definition.Match.{Match}
-use Rattle.lookup.specs.declared.definition.Match.the-variants.{FlagHit, OptionHit, Pass, Stop}
 
 -- the definitions with that key, and those with that short, of which 0 is none
 abbrev pub hasKey : List ℕ → Frame → Bool
@@ -46,19 +43,3 @@ flagOr Nothing Nothing = Unknown
 
 unfoldable pub defined : (Frame → Bool) → List ℕ → ℕ → Defined
 defined has image at = flagOr (spot (flagWith has) isNode image at) (spot (optionWith has) isNode image at)
-
--- the first of two spots
-abbrev pub orElse : Spot → Spot → Spot
-orElse (At p) x = At p
-orElse Nothing x = x
-
--- one frame of the pass
-abbrev pub matchAt : (Frame → Bool) → Frame → ℕ → Match
-matchAt has (node d h name description usage) size = Stop
-matchAt has (option r c name long description) size = cond (has (option r c name long description)) (OptionHit size) (Pass size)
-matchAt has (flag c name long description) size = cond (has (flag c name long description)) FlagHit (Pass size)
-
-abbrev pub matchBy : (Frame → Bool) → Read → Match
-matchBy has (read f n) = matchAt has f n
-matchBy has broken = Stop
-matchBy has ended = Stop

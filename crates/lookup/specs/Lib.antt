@@ -4,3 +4,4 @@ pub mod Searches
 pub mod Nodes
 pub mod Definitions
 pub mod Subtrees
+pub mod Inner

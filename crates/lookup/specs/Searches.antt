@@ -4,12 +4,9 @@ use mathlib.Core.Bool.{Bool, true, false, cond}
 use mathlib.Core.List.{List}
 use Rattle.buffer.specs.Compare.{sameBytes}
 use Rattle.image.specs.Frames.{Perhaps, absent, present, Frame, node, option, flag}
-use Rattle.image.specs.Reading.{Read, read, broken, ended}
 use Rattle.tree.specs.Subtrees.{isNamed, isUpper}
 use Rattle.lookup.specs.declared.look.Sought.{Sought}
-use Rattle.lookup.specs.declared.look.Sought.the-variants.{Node, Upper, Option, Flag, OptionKeyed}
-use Rattle.lookup.specs.declared.look.Look.{Look}
-use Rattle.lookup.specs.declared.look.Look.the-variants.{Hit, Pass, Stop}
+use Rattle.lookup.specs.declared.look.Sought.the-variants.{Node, Upper, OptionKeyed}
 
 -- a key is a definition's name or its long
 abbrev pub longIs : List ℕ → Perhaps → Bool
@@ -23,12 +20,6 @@ keyed key name long = cond (sameBytes name key) true (longIs key long)
 abbrev pub wanted : Sought → List ℕ → Frame → Bool
 wanted (Node d) key f = isNamed d key f
 wanted (Upper d) key f = isUpper d f
-wanted Option key (node e h name description usage) = false
-wanted Option key (option r c name long description) = true
-wanted Option key (flag c name long description) = false
-wanted Flag key (node e h name description usage) = false
-wanted Flag key (option r c name long description) = false
-wanted Flag key (flag c name long description) = true
 wanted OptionKeyed key (node e h name description usage) = false
 wanted OptionKeyed key (option r c name long description) = keyed key name long
 wanted OptionKeyed key (flag c name long description) = false
@@ -42,18 +33,4 @@ isNode (flag c name long description) = false
 abbrev pub endedBy : Sought → Frame → Bool
 endedBy (Node d) f = false
 endedBy (Upper d) f = false
-endedBy Option f = isNode f
-endedBy Flag f = isNode f
 endedBy OptionKeyed f = isNode f
-
--- one frame of a search
-abbrev pub hitOr : Bool → ℕ → Look
-hitOr hit size = cond hit Hit (Pass size)
-
-abbrev pub lookAt : Sought → List ℕ → Frame → ℕ → Look
-lookAt sought key f size = cond (endedBy sought f) Stop (hitOr (wanted sought key f) size)
-
-abbrev pub lookBy : (Frame → Bool) → (Frame → Bool) → Read → Look
-lookBy want ends (read f n) = cond (ends f) Stop (hitOr (want f) n)
-lookBy want ends broken = Stop
-lookBy want ends ended = Stop

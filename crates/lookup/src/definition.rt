@@ -1,19 +1,18 @@
-// A node's definitions: the next option or flag, and one pass that finds a flag or an option by key or by short.
+// A node's definitions: an option by key, and one pass that finds a flag or an option by key or by short. The list ends at the next node of any depth.
 use super::look::Sought;
 use super::look::is_keyed;
 use super::seek::Spot;
 use super::seek::seek;
-use buffer::part;
 use buffer::rest;
 use image::Head;
 use image::head_of;
 ghost use mathlib.Core.Path.{_≡_};
-ghost use mathlib.Core.List.{[]};
 ghost use Rattle.image.specs.Reading.{readFirst};
 ghost use Rattle.lookup.specs.Spots.{spot};
 ghost use Rattle.lookup.specs.Searches.{wanted, endedBy};
-ghost use Rattle.lookup.specs.Definitions.{hasKey, hasShort, shortIs, flagOr, defined, orElse, matchBy};
-ghost use Rattle.lookup.specs.declared.look.Sought.the-variants.{Option as AnyOption, Flag as AnyFlag, OptionKeyed};
+ghost use Rattle.lookup.specs.Definitions.{hasKey, hasShort, shortIs, flagOr, defined};
+ghost use Rattle.lookup.specs.Inner.{orElse, matchBy};
+ghost use Rattle.lookup.specs.declared.look.Sought.the-variants.{OptionKeyed};
 ghost use Rattle.lookup.specs.declared.seek.Spot.the-variants.{At as SpotAt, Nothing as NoSpot};
 
 // Where the definition begins that was asked for, or that there is none.
@@ -29,20 +28,6 @@ enum Match {
     OptionHit(usize),
     Pass(usize),
     Stop,
-}
-
-// A node's next option from a place on; the list ends at the next node of any depth.
-pub fn next_option(image: &[u8], from: usize) -> Spot
-    ensures { λ r. ⌜ r ≡ spot (wanted AnyOption []) (endedBy AnyOption) (now (image .entry)) from ⌝ }
-{
-    seek(image, from, Sought::Option, part(image, 0, 0))
-}
-
-// A node's next flag from a place on.
-pub fn next_flag(image: &[u8], from: usize) -> Spot
-    ensures { λ r. ⌜ r ≡ spot (wanted AnyFlag []) (endedBy AnyFlag) (now (image .entry)) from ⌝ }
-{
-    seek(image, from, Sought::Flag, part(image, 0, 0))
 }
 
 // A node's first option from a place on whose name or long is the key.

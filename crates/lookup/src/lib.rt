@@ -7,8 +7,6 @@ mod seek;
 pub use definition::Defined;
 pub use definition::definition_by_short;
 pub use definition::definition_of;
-pub use definition::next_flag;
-pub use definition::next_option;
 pub use definition::option_of;
 pub use node::Subtree;
 pub use node::find_node;

@@ -6,9 +6,9 @@ use image::Lengths;
 use image::head_of;
 ghost use mathlib.Core.Path.{_≡_};
 ghost use Prim.Native.Nat.{ℕ, _≤_};
-ghost use mathlib.Core.List.{List};
-ghost use Rattle.image.specs.Reading.{Small, nameIn, longIn, nodeIn, optionIn, flagIn, readFirst};
-ghost use Rattle.lookup.specs.Searches.{keyed, wanted, endedBy, hitOr, lookAt, lookBy};
+ghost use Rattle.image.specs.Reading.{Small, nameIn, longIn, nodeIn, optionIn, readFirst};
+ghost use Rattle.lookup.specs.Searches.{keyed, wanted, endedBy};
+ghost use Rattle.lookup.specs.Inner.{hitOr, lookAt, lookBy};
 
 // What is sought.
 pub enum Sought {
@@ -16,10 +16,6 @@ pub enum Sought {
     Node { depth: usize },
     // A node of that depth or less: the end of a subtree.
     Upper { depth: usize },
-    // An option of the last node.
-    Option,
-    // A flag of the last node.
-    Flag,
     // The option of the last node whose name or long is the key.
     OptionKeyed,
 }
@@ -62,7 +58,7 @@ fn look_node(s: &[u8], depth: usize, texts: Lengths, sought: Sought, key: &[u8])
             hit_or_pass(same(part(s, 5, texts.name), key), texts.size)
         }
         Sought::Upper { depth: d } => hit_or_pass(depth <= d, texts.size),
-        Sought::Option | Sought::Flag | Sought::OptionKeyed => Look::Stop,
+        Sought::OptionKeyed => Look::Stop,
     }
 }
 
@@ -71,17 +67,7 @@ fn look_option(s: &[u8], texts: Lengths, sought: Sought, key: &[u8]) -> Look
     ensures { λ r. ⌜ ((required short : ℕ) → r ≡ lookAt sought (now (key .entry)) (optionIn (now (s .entry)) required short texts) (texts .size)) ⌝ }
 {
     match sought {
-        Sought::Option => Look::Hit,
         Sought::OptionKeyed => hit_or_pass(is_keyed(s, 3, texts, key), texts.size),
-        _ => Look::Pass(texts.size),
-    }
-}
-
-fn look_flag(texts: Lengths, sought: Sought) -> Look
-    ensures { λ r. ⌜ ((key s : List ℕ) (short : ℕ) → r ≡ lookAt sought key (flagIn s short texts) (texts .size)) ⌝ }
-{
-    match sought {
-        Sought::Flag => Look::Hit,
         _ => Look::Pass(texts.size),
     }
 }
@@ -101,7 +87,7 @@ pub fn look_first(s: &[u8], sought: Sought, key: &[u8]) -> Look
             short: _,
             texts,
         } => look_option(s, texts, sought, key),
-        Head::Flag { short: _, texts } => look_flag(texts, sought),
+        Head::Flag { short: _, texts } => Look::Pass(texts.size),
         _ => Look::Stop,
     }
 }

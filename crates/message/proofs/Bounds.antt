@@ -6,8 +6,8 @@ use native.Mathlib.Omega.{arith}
 use lib.Dec.{ltb, eqb}
 use lib.ListN.{length, length-append}
 use Rattle.frame.specs.Hex.{digitOf}
-use Rattle.ink.specs.Ascii.{ascii}
-use Rattle.ink.proofs.Inking.{cond-most}
+use Rattle.buffer.specs.Ascii.{ascii}
+use Rattle.buffer.proofs.Inking.{cond-most}
 use Rattle.message.specs.Messages.{before, behind, message, illFormed, goodbye, clearScreen}
 use Rattle.message.specs.Debug.{hexDigits, codeText, debugByte, debugBytes, unknownHelp}
 use Rattle.message.specs.declared.error.ParseError.{ParseError}

@@ -7,8 +7,8 @@ use borrow.Author.Tests.{lt-ltb, le-ltb, ne-eqb}
 use lib.ListN.{length, drop, getD}
 use Rattle.buffer.proofs.Lists.{drop-step, drop-end}
 use Rattle.frame.specs.Hex.{digitOf}
-use Rattle.ink.specs.Inks.{Inked, InkedFrom}
-use Rattle.ink.proofs.Inking.{inked-nothing, inked-both, inked-as}
+use Rattle.buffer.specs.Inks.{Inked, InkedFrom}
+use Rattle.buffer.proofs.Inking.{inked-nothing, inked-both, inked-as}
 use Rattle.message.specs.Debug.{hexDigits, codeText, debugByte, debugBytes}
 
 pub digit-low : (v : ℕ) → v < 10 → 48 + v ≡ digitOf v

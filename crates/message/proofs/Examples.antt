@@ -2,7 +2,7 @@
 use mathlib.Core.Path.{_≡_, refl}
 use mathlib.Core.List.{[], _∷_, _++_}
 use Rattle.frame.specs.Hex.{digitOf}
-use Rattle.ink.specs.Ascii.{ascii}
+use Rattle.buffer.specs.Ascii.{ascii}
 use Rattle.message.specs.Messages.{message}
 use Rattle.message.specs.Debug.{hexDigits, codeText, debugByte, debugBytes, unknownHelp}
 use Rattle.message.specs.declared.error.ParseError.the-variants.{UnknownCommand, MissingValue, NoHandler}

@@ -3,7 +3,7 @@ use Prim.Native.Nat.{_≤_}
 use mathlib.Core.Path.{_≡_}
 use native.Mathlib.Omega.{arith}
 use lib.ListN.{length}
-use Rattle.ink.specs.Ascii.{ascii}
+use Rattle.buffer.specs.Ascii.{ascii}
 use Rattle.message.specs.Messages.{before, behind}
 use Rattle.message.specs.declared.error.ParseError.{ParseError}
 use Rattle.message.specs.declared.error.ParseError.the-variants.{UnknownCommand, UnknownOption, MissingValue, MissingRequired, NoHandler}

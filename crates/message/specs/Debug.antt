@@ -4,7 +4,7 @@ use mathlib.Core.Bool.{cond}
 use mathlib.Core.List.{List, [], _∷_, _++_}
 use lib.Dec.{ltb, eqb}
 use Rattle.frame.specs.Hex.{digitOf}
-use Rattle.ink.specs.Ascii.{ascii}
+use Rattle.buffer.specs.Ascii.{ascii}
 
 -- a number below 256 in hexadecimal digits, without a leading 0
 unfoldable pub hexDigits : ℕ → List ℕ

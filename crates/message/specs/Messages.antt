@@ -1,7 +1,7 @@
 -- The messages of the Rust's `run_cmd_bytes` and `handle_builtin_commands`, each beside the `println!` that it stands for.
 use Prim.Native.Nat.{ℕ}
 use mathlib.Core.List.{List, _∷_, _++_}
-use Rattle.ink.specs.Ascii.{ascii}
+use Rattle.buffer.specs.Ascii.{ascii}
 use Rattle.message.specs.declared.error.ParseError.{ParseError}
 use Rattle.message.specs.declared.error.ParseError.the-variants.{UnknownCommand, UnknownOption, MissingValue, MissingRequired, NoHandler}
 

@@ -1,13 +1,13 @@
 // The message for an unknown word of a help line, which the Rust prints by `Debug`.
-use ink::Shown;
-use ink::put;
-use ink::put_byte;
+use buffer::Shown;
+use buffer::put;
+use buffer::put_byte;
 ghost use mathlib.Core.Path.{_≡_};
 ghost use Prim.Native.Nat.{_+_, _*_, _≤_, _<_};
 ghost use lib.ListN.{length};
 ghost use Rattle.frame.specs.Hex.{digitOf};
-ghost use Rattle.ink.specs.Answer.{Showing};
-ghost use Rattle.ink.specs.Inks.{Inked, InkedFrom};
+ghost use Rattle.buffer.specs.Showing.{Showing};
+ghost use Rattle.buffer.specs.Inks.{Inked, InkedFrom};
 ghost use Rattle.message.specs.Debug.{hexDigits, codeText, debugByte, debugBytes, unknownHelp};
 
 // The hexadecimal digit of a value.

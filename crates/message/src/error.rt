@@ -1,11 +1,11 @@
 // Messages that name a text: a word, an option or a path.
-use ink::Shown;
-use ink::put;
+use buffer::Shown;
+use buffer::put;
 ghost use mathlib.Core.Path.{_≡_};
 ghost use Prim.Native.Nat.{_≤_, _<_};
 ghost use lib.ListN.{length};
-ghost use Rattle.ink.specs.Answer.{Showing};
-ghost use Rattle.ink.specs.Inks.{Inked};
+ghost use Rattle.buffer.specs.Showing.{Showing};
+ghost use Rattle.buffer.specs.Inks.{Inked};
 ghost use Rattle.message.specs.Messages.{before, behind, message};
 
 // What is wrong with a line.

@@ -1,7 +1,7 @@
 // Messages that name nothing.
+use buffer::Shown;
 use buffer::copy;
-use ink::Shown;
-ghost use Rattle.ink.specs.Answer.{Showing};
+ghost use Rattle.buffer.specs.Showing.{Showing};
 ghost use Rattle.message.specs.Messages.{illFormed, goodbye, clearScreen};
 
 // Shows a text as it stands.

@@ -27,7 +27,7 @@ use Rattle.tree.specs.Subtrees.{subtree}
 use Rattle.tree.specs.Commands.{Reached, onSubtree, descend}
 use Rattle.lookup.specs.Searches.{isNode}
 use Rattle.lookup.specs.Definitions.{hasKey, hasShort, flagWith, optionWith}
-use Rattle.lookup.proofs.Few.{node-short, option-short, flag-short, Few, few-up, few-subtree}
+use Rattle.lookup.proofs.FrameCounts.{node-short, option-short, flag-short, Few, few-up, few-subtree}
 use Rattle.arguments.specs.Meanings.{definitionsOf, firstName, Means, aFlag, anOption, nothing, flagElse, meaning, onMeans, isOption}
 use Rattle.arguments.specs.Forms.{Form, valued, long, shorts, positional, beforeEquals, longForm, formOf, dash}
 use Rattle.arguments.specs.Arguments.{Found, noneFound, Stand, go, wait, unknownOption, missingValue, withOption, withFlag, withPositional, shortStep, shortSteps, formStep, wordStep, args}

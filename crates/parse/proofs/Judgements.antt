@@ -22,10 +22,10 @@ use Rattle.image.proofs.Fields.{both-first, both-second}
 use Rattle.tree.specs.Images.{framesOf}
 use Rattle.tree.specs.Rules.{isLess, after, checkTree}
 use Rattle.tree.specs.Commands.{Reached, onSubtree, descend, reachedBy}
-use Rattle.tree.specs.Trails.{partAt, Within, Descended, Leads}
+use Rattle.tree.specs.Trails.{imagePart, Within, Descended, Leads}
 use Rattle.tree.specs.Forest.{Forest, bare, grown, flatten, optionsIn, flagsIn, definitionsOnly, modest, orderly}
 use Rattle.tree.specs.declared.check.Checked.the-variants.{Good}
-use Rattle.tree.proofs.Wholes.{WellFormed, good-well-formed}
+use Rattle.tree.proofs.WellFormedImages.{WellFormed, good-well-formed}
 use Rattle.tree.proofs.Planting.{obeys-forest}
 use Rattle.tree.specs.Subtrees.{upTo, subtree}
 use Rattle.tree.specs.declared.command.Place.{Place}
@@ -62,25 +62,25 @@ module _ (words part : List ℕ) (s : Scan) (defs : List Frame) (path : List (Li
 
 -- THE ARGUMENTS of a command
 pub arguments-judged : (words image rest left : List ℕ) (place : Place) (to : Reached) (j : Judged) («from» : ℕ)
-    → Descended words image place to → j .place ≡ place → definitionsAt (partAt image place) «from» ≡ definitionsOf (framesOf (partAt image place))
-    → Scanned words (partAt image place) rest left (j .scan) (args stored (definitionsAt (partAt image place) «from») (go noneFound) (textsIn (drop (place .at) words)))
-    → ((path : List (List ℕ)) (rest : List ℕ) → outcomeBy words (partAt image place) path (foundOf words (partAt image place) rest (j .scan)) (j .verdict) ≡ outcomeOf path (definitionsAt (partAt image place) «from») (standOf words (partAt image place) rest (j .scan)))
+    → Descended words image place to → j .place ≡ place → definitionsAt (imagePart image place) «from» ≡ definitionsOf (framesOf (imagePart image place))
+    → Scanned words (imagePart image place) rest left (j .scan) (args stored (definitionsAt (imagePart image place) «from») (go noneFound) (textsIn (drop (place .at) words)))
+    → ((path : List (List ℕ)) (rest : List ℕ) → outcomeBy words (imagePart image place) path (foundOf words (imagePart image place) rest (j .scan)) (j .verdict) ≡ outcomeOf path (definitionsAt (imagePart image place) «from») (standOf words (imagePart image place) rest (j .scan)))
     → length words ≤ length rest
     → Judging words image rest left j (concluded stored to) (to .frames)
 unfolding outcomeIn concluded
 arguments-judged words image rest left place to j «from» d at defs s v h =
     record {
       outcome =
-          ap (λ (p : Place). outcomeBy words (partAt image p) (textsIn (take (p .at) words)) (foundOf words (partAt image p) left (j .scan)) (j .verdict)) at
+          ap (λ (p : Place). outcomeBy words (imagePart image p) (textsIn (take (p .at) words)) (foundOf words (imagePart image p) left (j .scan)) (j .verdict)) at
           ∙ v (textsIn (take (place .at) words)) left
-          ∙ ap (λ (a : Stand). outcomeOf (textsIn (take (place .at) words)) (definitionsAt (partAt image place) «from») a) (s .stand)
+          ∙ ap (λ (a : Stand). outcomeOf (textsIn (take (place .at) words)) (definitionsAt (imagePart image place) «from») a) (s .stand)
           ∙ ap (λ (l : List Frame). outcomeOf (textsIn (take (place .at) words)) l (args stored l (go noneFound) (textsIn (drop (place .at) words)))) (defs ∙ ap definitionsOf (d .frames))
           ∙ ap (λ (p : List (List ℕ)). outcomeOf p (definitionsOf (to .frames)) (args stored (definitionsOf (to .frames)) (go noneFound) (textsIn (drop (place .at) words)))) (d .path)
           ∙ ap (λ (l : List (List ℕ)). outcomeOf (to .path) (definitionsOf (to .frames)) (args stored (definitionsOf (to .frames)) (go noneFound) l)) (d .left);
       within = rw at (d .within);
       kept = let k = s .kept in let l = s .room in omega arith;
       room = s .room;
-      command = λ k. ap (λ (p : Place). framesOf (partAt image p)) at ∙ d .frames;
+      command = λ k. ap (λ (p : Place). framesOf (imagePart image p)) at ∙ d .frames;
     }
 
 -- THE LIMITS of a node
@@ -286,7 +286,7 @@ pub judged-without : (words image rest : List ℕ) (j : Judged) (v : Verdict) (o
 unfolding outcomeIn
 judged-without words image rest j v o frames e k w q n =
     record {
-      outcome = ap (outcomeBy words (partAt image (j .place)) (textsIn (take (j .place .at) words)) (foundOf words (partAt image (j .place)) rest (j .scan))) e ∙ q _ _ _;
+      outcome = ap (outcomeBy words (imagePart image (j .place)) (textsIn (take (j .place .at) words)) (foundOf words (imagePart image (j .place)) rest (j .scan))) e ∙ q _ _ _;
       within = w words image;
       kept = omega arith;
       room = refl;

@@ -8,7 +8,7 @@ use Rattle.frame.specs.Series.{textsIn}
 use Rattle.table.specs.Held.{partOf}
 use Rattle.image.specs.Frames.{Frame}
 use Rattle.tree.specs.Images.{framesOf}
-use Rattle.tree.specs.Trails.{partAt, Within}
+use Rattle.tree.specs.Trails.{imagePart, Within}
 use Rattle.arguments.specs.Arguments.{Found}
 use Rattle.arguments.specs.Held.{toldOf, foundOf}
 use Rattle.parse.specs.Commands.{Outcome, parsed, fault, emptyCommand}
@@ -38,7 +38,7 @@ outcomeBy words part path found (MissingRequired name) = fault 7 (partOf part (n
 
 unfoldable pub outcomeIn : List ℕ → List ℕ → List ℕ → Judged → Outcome
 outcomeIn words image rest j =
-    outcomeBy words (partAt image (j .place)) (textsIn (take (j .place .at) words)) (foundOf words (partAt image (j .place)) rest (j .scan)) (j .verdict)
+    outcomeBy words (imagePart image (j .place)) (textsIn (take (j .place .at) words)) (foundOf words (imagePart image (j .place)) rest (j .scan)) (j .verdict)
 
 -- the number and the text of a verdict's fault, the text in its dashes and the part behind them
 abbrev pub numberOf : Verdict → ℕ
@@ -71,4 +71,4 @@ pub record Judging (words image rest left : List ℕ) (j : Judged) (o : Outcome)
   pub within : Within words image (j .place)
   pub kept : j .scan .kept ≤ length left
   pub room : length left ≡ length rest
-  pub command : numberOf (j .verdict) ≡ 0 → framesOf (partAt image (j .place)) ≡ frames
+  pub command : numberOf (j .verdict) ≡ 0 → framesOf (imagePart image (j .place)) ≡ frames

@@ -21,7 +21,7 @@ ghost use Rattle.tree.specs.Images.{framesOf};
 ghost use Rattle.tree.specs.Rules.{checkTree};
 ghost use Rattle.tree.specs.declared.check.Checked.the-variants.{Good};
 ghost use Rattle.tree.specs.Commands.{Reached, reachedBy, NodeFirst};
-ghost use Rattle.tree.specs.Trails.{partAt, Within, Descended, Leads};
+ghost use Rattle.tree.specs.Trails.{imagePart, Within, Descended, Leads};
 ghost use Rattle.arguments.specs.Meanings.{definitionsAt};
 ghost use Rattle.arguments.specs.Held.{stored, foundOf, standOf};
 ghost use Rattle.parse.specs.Commands.{outcomeOf, concluded, parseWords};
@@ -89,7 +89,7 @@ fn judge_arguments<'a>(
     first: Span,
     rest: &mut [u8],
 ) -> Judged
-    requires { ⌜ (length (now words) ≤ 4096) × (length (now image) ≤ 32768) × (length (now words) ≤ length (now rest)) × Within (now words) (now image) place × NodeFirst (framesOf (partAt (now image) place)) ⌝ }
+    requires { ⌜ (length (now words) ≤ 4096) × (length (now image) ≤ 32768) × (length (now words) ≤ length (now rest)) × Within (now words) (now image) place × NodeFirst (framesOf (imagePart (now image) place)) ⌝ }
     ensures { λ r. ⌜ ((to : Reached) → Descended (now (words .entry)) (now (image .entry)) place to → Judging (now (words .entry)) (now (image .entry)) (now (rest .entry)) (now (rest .exit)) r (concluded stored to) (to .frames)) ⌝ }
 {
     let start = place.start;

@@ -10,17 +10,17 @@ use Rattle.text.specs.Decoding.{wellFormedLength}
 use Rattle.text.specs.Apart.{wordsBetween}
 use Rattle.words.specs.Answer.{written, answerFor, leavesBy, leavesFor, Tokenized, number as tokensNumber, value as tokensValue}
 use Rattle.words.specs.declared.tokenizer.Tokens.{Tokens}
-use Rattle.quote.specs.Given.{listed, Judged, bad, fine, judge}
+use Rattle.quote.specs.Given.{listed, Judged, bad, fine, judgeWords}
 use Rattle.quote.specs.Answer.{quoteLine, lineAnswer, quoteAnswer, lineOf, quoteLeaves, Quotation, leavesBy as quotedLeaves, number as quotedNumber, value as quotedValue}
 use Rattle.quote.specs.declared.quoter.Quoted.{Quoted}
 use Rattle.image.specs.Frames.{Frame}
 use Rattle.tree.specs.Images.{items, framesOf}
-use Rattle.tree.specs.Rules.{start, checkTree, judge as judgeTree}
+use Rattle.tree.specs.Rules.{start, checkTree, judgeItems as judgeTree}
 use Rattle.tree.specs.Forest.{Forest}
 use Rattle.tree.specs.Answer.{number as treeNumber, value as treeValue}
 use Rattle.tree.specs.declared.check.Checked.{Checked}
 use Rattle.tree.specs.declared.check.Checked.the-variants.{Good, BadFrame}
-use Rattle.tree.proofs.Firsts.{FirstBad, first-bad}
+use Rattle.tree.proofs.FirstBad.{FirstBad, first-bad}
 use Rattle.tree.proofs.Forests.{StandsFor, good-forest, forest-good}
 use Rattle.tree.specs.Subtrees.{subtree}
 use Rattle.parse.specs.Commands.{Outcome, parsed, fault, parseLine}
@@ -30,7 +30,7 @@ use Rattle.parse.specs.declared.answer.Parsed.the-variants.{BadTree, NoRoom}
 use Rattle.parse.proofs.Answers.{Numbered, report, four, five, six, seven, numbered}
 use Rattle.frame.specs.Text.{Bytes}
 use Rattle.frame.specs.Framed.{frameOf}
-use Rattle.layout.specs.Texts.{helpText}
+use Rattle.help.specs.Texts.{helpText}
 use Rattle.message.specs.Messages.{goodbye}
 use Rattle.editor.proofs.States.{over-nothing}
 use Rattle.help.specs.Paths.{Led, found, lost, onSubtree, followed}
@@ -81,7 +81,7 @@ badWord (fine words) = 0
 unfoldable pub quoteTable : List ℕ → List ℕ → Answered (List ℕ)
 quoteTable words out =
     first
-    (row 10 (isBad (judge (listed words))) (badWord (judge (listed words))) out
+    (row 10 (isBad (judgeWords (listed words))) (badWord (judgeWords (listed words))) out
     ∷ row 2 (tooLong (lineOf words)) (min (length (lineOf words)) 65535) out
     ∷ row 9 (lacks (lineOf words) out) (length (lineOf words)) out
     ∷ [])
@@ -89,12 +89,12 @@ quoteTable words out =
 
 pub quote-tells : (words out : List ℕ) (r : Quoted) (left : List ℕ) → Quotation words out r left → told (quotedNumber r) (quotedValue r) left ≡ quoteTable words out
 unfolding quoteTable first quoteAnswer quoteLeaves lineOf lineAnswer
-quote-tells words out r left t = telling quotedNumber quotedValue _ _ _ _ (t .answer) (t .bytes) ∙ by (judge (listed words)) refl
+quote-tells words out r left t = telling quotedNumber quotedValue _ _ _ _ (t .answer) (t .bytes) ∙ by (judgeWords (listed words)) refl
   where
     tells : List ℕ → Quoted → Answered (List ℕ)
     tells line x = told (quotedNumber x) (quotedValue x) (quotedLeaves x line out)
 
-    by : (j : Judged) → judge (listed words) ≡ j → tells (lineOf words) (quoteAnswer words (length out)) ≡ quoteTable words out
+    by : (j : Judged) → judgeWords (listed words) ≡ j → tells (lineOf words) (quoteAnswer words (length out)) ≡ quoteTable words out
     by (bad n) e = rw e
     by (fine ws) e = rw e (either (tells (quoteLine ws)) (tooLong (quoteLine ws)) _ _ _ _ refl (either (tells (quoteLine ws)) (lacks (quoteLine ws) out) _ _ _ _ refl refl))
 

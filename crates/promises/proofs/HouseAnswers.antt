@@ -6,9 +6,9 @@ use mathlib.Core.Bool.{Bool, true, false, cond, not}
 use mathlib.Core.List.{List, [], _∷_}
 use lib.Dec.{ltb, eqb}
 use lib.ListN.{length}
-use Rattle.buffer.specs.Write.{over}
+use Rattle.buffer.specs.Write.{over, overIfFits}
 use Rattle.frame.specs.Hex.{unhex, firstBad}
-use Rattle.frame.specs.House.{houseLine, ended, digitsOf, readDigits, readHouse, leftBy, houseLeaves, HouseRead, writeHouse, lineLeaves, HouseWritten, number, value, lineNumber, lineValue}
+use Rattle.frame.specs.House.{houseLine, ended, digitsOf, readDigits, readHouse, leftBy, houseLeaves, HouseRead, writeHouse, HouseWritten, number, value, lineNumber, lineValue}
 use Rattle.frame.specs.declared.house.House.{House}
 use Rattle.frame.specs.declared.house.House.the-variants.{Unended}
 use Rattle.frame.specs.declared.house.Lined.{Lined}
@@ -53,7 +53,7 @@ unfoldable pub writeTable : List ℕ → List ℕ → Answered (List ℕ)
 writeTable frame out = first (row 9 (lacks (houseLine frame) out) (length (houseLine frame)) out ∷ []) (told 0 (length (houseLine frame)) (over (houseLine frame) out))
 
 pub write-line-tells : (frame out : List ℕ) (r : Lined) (left : List ℕ) → HouseWritten frame out r left → told (lineNumber r) (lineValue r) left ≡ writeTable frame out
-unfolding writeTable first writeHouse lineLeaves
+unfolding writeTable first writeHouse overIfFits
 write-line-tells frame out r left t =
     telling lineNumber lineValue _ _ _ _ (t .answer) (t .bytes)
     ∙ split (λ (x : Lined) (l : List ℕ). told (lineNumber x) (lineValue x) l) (lacks (houseLine frame) out) (Short (length (houseLine frame))) (Written (length (houseLine frame))) out _ _ _ refl refl

@@ -5,7 +5,7 @@ use mathlib.Core.Bool.{Bool, true, false, cond, not}
 use mathlib.Core.List.{List, [], _∷_}
 use lib.Dec.{ltb}
 use lib.ListN.{length}
-use Rattle.buffer.specs.Write.{over}
+use Rattle.buffer.specs.Write.{over, overIfFits}
 use Rattle.text.specs.Decoding.{wellFormedLength}
 use Rattle.text.specs.Decoding.{wellFormed}
 use Rattle.history.specs.Journal.{Journal, noEntries, offered, recordOf, journalOf, good, slotsOf as journalSlots}
@@ -13,7 +13,7 @@ use Rattle.history.specs.Answer.{addAnswer, recordBy, slotsBy, Addition, number
 use Rattle.history.specs.declared.stepping.History.{History}
 use Rattle.history.specs.declared.adding.Added.{Added}
 use Rattle.history.specs.declared.adding.Added.the-variants.{Done, BadState as BadHistory, TooLong, IllFormed}
-use Rattle.screen.specs.Redraw.{redraw, greatest, roomAnswer, Redraw, leavesBy as drawnLeaves, number as drawnNumber, value as drawnValue}
+use Rattle.screen.specs.Redraw.{redraw, greatestNumber, roomAnswer, Redraw, number as drawnNumber, value as drawnValue}
 use Rattle.screen.specs.declared.line.Redrawn.{Redrawn}
 use Rattle.history.specs.Saved.{savedSize as historySize}
 use Rattle.editor.specs.Saved.{savedSize as editorSize}
@@ -28,7 +28,7 @@ use Rattle.editor.proofs.Called.{counted}
 use Rattle.state.specs.State.{stateSize, savedOf, isState, editorIn, historyIn, goodSaved}
 use Rattle.state.specs.Calls.{beginAnswer, isReady, Beginning, turnIn, pressAnswer, savedAfter, SavedKey, savedAnswer, stateBy, SavedAdd, number as begunNumber, value as begunValue}
 use Rattle.state.specs.declared.calls.Begun.{Begun}
-use Rattle.promises.proofs.Tables.{Answered, told, Row, row, first, lacks, either, telling, pair}
+use Rattle.promises.proofs.Tables.{Answered, told, Row, row, first, lacks, either, split, telling, pair}
 
 -- ADD_COMMAND: 12, 13, 3. A refusal keeps the record and the slots.
 unfoldable pub addTable : History → List ℕ → List ℕ → Answered (History × List ℕ)
@@ -59,16 +59,14 @@ add-tells h slots text r a left t =
 
 -- CLEAR_LINE_AND_REDRAW: 9. A length needed that is above the greatest number of 64 bits is given as that one.
 unfoldable pub redrawTable : List ℕ → List ℕ → Answered (List ℕ)
-redrawTable bytes out = first (row 9 (lacks bytes out) (min (length bytes) greatest) out ∷ []) (told 0 (length bytes) (over bytes out))
+redrawTable bytes out = first (row 9 (lacks bytes out) (min (length bytes) greatestNumber) out ∷ []) (told 0 (length bytes) (over bytes out))
 
 pub redraw-tells : (prompt content : List ℕ) (cursor : ℕ) (out : List ℕ) (r : Redrawn) (left : List ℕ) → Redraw prompt content cursor out r left
     → told (drawnNumber r) (drawnValue r) left ≡ redrawTable (redraw prompt content cursor) out
-unfolding redrawTable first roomAnswer
+unfolding redrawTable first roomAnswer overIfFits
 redraw-tells prompt content cursor out r left t =
-    telling drawnNumber drawnValue _ _ _ _ (t .answer) (t .bytes) ∙ either tells (lacks (redraw prompt content cursor) out) _ _ _ _ refl refl
-  where
-    tells : Redrawn → Answered (List ℕ)
-    tells x = told (drawnNumber x) (drawnValue x) (drawnLeaves x (redraw prompt content cursor) out)
+    telling drawnNumber drawnValue _ _ _ _ (t .answer) (t .bytes)
+    ∙ split (λ (x : Redrawn) (l : List ℕ). told (drawnNumber x) (drawnValue x) l) (lacks (redraw prompt content cursor) out) _ _ out _ _ _ refl refl
 
 -- KEY: 12, 11, 9, a line buffer under 255 first, at every key. What a key holds and is lent:
 pub record Seat : Type 0 where

@@ -8,7 +8,7 @@ use lib.ListN.{length}
 use borrow.Author.Tests.{ltb-true, ltb-false}
 use Rattle.tree.specs.declared.check.Checked.{Checked}
 use Rattle.tree.specs.declared.check.Checked.the-variants.{Good, BadFrame}
-use Rattle.growth.specs.Growth.{admits}
+use Rattle.tree.specs.Growth.{admits}
 use Rattle.history.specs.Journal.{noEntries, recordOf, good, slotsOf as journalSlots}
 use Rattle.history.specs.declared.stepping.History.{History}
 use Rattle.keys.specs.declared.meaning.Mode.the-variants.{Typing}

@@ -14,11 +14,11 @@ use Rattle.frame.specs.Text.{numberBytes, textOf}
 use Rattle.words.specs.Tokens.{roleOf, tokensFrom, tokens, wordsOf, wordFrames}
 use Rattle.words.specs.Answer.{written, Tokenized, number as tokensNumber, value as tokensValue}
 use Rattle.words.specs.declared.tokenizer.Tokens.{Tokens}
-use Rattle.image.specs.Frames.{absent, present, Frame, node, option, flag, text, perhaps, encode as encodeFrame}
+use Rattle.image.specs.Frames.{absent, present, Frame, node, option, flag, text, perhaps, encodeFrame}
 use Rattle.image.specs.Limits.{allShown, isName, isNote, isShort, definable, fair}
 use Rattle.image.specs.Reading.{span, perhapsIn, nodeLengths, definitionLengths, nodeFirst, optionFirst, flagFirst, headFirst, nodeIn, optionIn, flagIn, readFirst}
 use Rattle.tree.specs.Images.{itemsFrom, items, framesIn, framesOf, flat}
-use Rattle.tree.specs.Rules.{rises, follows, obeys, after, judge, checkTree}
+use Rattle.tree.specs.Rules.{rises, follows, obeys, after, judgeItems, checkTree}
 use Rattle.tree.specs.declared.check.Checked.the-variants.{Good}
 use Rattle.lookup.specs.Searches.{keyed}
 use Rattle.tree.specs.Subtrees.{upTo, onFrom, subtree}
@@ -30,7 +30,7 @@ use Rattle.parse.specs.Commands.{isMissing, missingRequired, Outcome, parsed, f
 use Rattle.tree.specs.Commands.{descend}
 use Rattle.parse.specs.Answer.{Parsing, number as parsedNumber, value as parsedValue}
 use Rattle.parse.specs.declared.answer.Parsed.{Parsed}
-use Rattle.ink.specs.Ascii.{ascii}
+use Rattle.buffer.specs.Ascii.{ascii}
 use Rattle.promises.proofs.Tables.{told, row, first, lacks}
 use Rattle.promises.proofs.Answers.{tooLong, illFormed, isBadTree, tokenizeTable, tokenize-tells, outcomeTable, parseTable, parse-tells}
 
@@ -101,7 +101,7 @@ all-fair = ((refl, refl), ((refl, refl), ((refl, refl), ((refl, refl), ((refl, r
 
 -- the image of the node `set`
 set-good : checkTree (flat setTree) ≡ Good
-unfolding setTree ascii order numberBytes textOf text perhaps encodeFrame allShown isName isNote isShort definable fair span perhapsIn nodeLengths definitionLengths nodeFirst optionFirst flagFirst headFirst nodeIn optionIn flagIn readFirst itemsFrom items flat rises follows obeys after judge checkTree
+unfolding setTree ascii order numberBytes textOf text perhaps encodeFrame allShown isName isNote isShort definable fair span perhapsIn nodeLengths definitionLengths nodeFirst optionFirst flagFirst headFirst nodeIn optionIn flagIn readFirst itemsFrom items flat rises follows obeys after judgeItems checkTree
 set-good = refl
 
 set-frames : framesOf (flat setTree) ≡ setTree

@@ -41,14 +41,14 @@ use Rattle.help.proofs.Answers.{one-answer as one-help}
 use Rattle.shell.specs.Answer.{Running}
 use Rattle.shell.specs.declared.answer.Ran.{Ran}
 use Rattle.shell.proofs.Answers.{one-answer as one-run}
-use Rattle.ink.specs.Answer.{Showing}
-use Rattle.ink.specs.declared.show.Shown.{Shown}
-use Rattle.ink.proofs.Inking.{one-answer as one-show}
+use Rattle.buffer.specs.Showing.{Showing}
+use Rattle.buffer.specs.declared.show.Shown.{Shown}
+use Rattle.buffer.proofs.Inking.{one-answer as one-show}
 use Rattle.rissemat.specs.Calls.{WordsCall, QuoteCall, FreshCall, KeyCall, AddCall, TreeCall, ParseCall, HelpCall, RunCall}
 use Rattle.tree.specs.declared.walk.Walk.{Walk}
 use Rattle.tree.specs.declared.walk.Step.{Step}
-use Rattle.growth.specs.Growth.{Grows}
-use Rattle.growth.proofs.Adding.{one-answer as one-frame}
+use Rattle.tree.specs.Growth.{Grows}
+use Rattle.tree.proofs.OneFrameMore.{one-answer as one-frame}
 use Rattle.session.specs.Calls.{TakingLine, PressingKey, RefusingLine}
 use Rattle.session.specs.declared.running.Printing.{Printing}
 use Rattle.session.specs.declared.standing.Session.{Session}

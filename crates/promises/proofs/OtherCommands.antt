@@ -22,7 +22,7 @@ use Rattle.parse.specs.declared.answer.Parsed.{Parsed}
 use Rattle.parse.proofs.Answers.{AgreeOn, other-commands as parse-alike}
 use Rattle.help.specs.Answer.{helpIn, helpOf, helpLine, Helping}
 use Rattle.help.specs.declared.call.Helped.{Helped}
-use Rattle.help.proofs.Commands.{Alike, same-command}
+use Rattle.help.proofs.OtherCommands.{Alike, same-command}
 use Rattle.shell.specs.Lines.{builtinOf, executeIn, execute}
 use Rattle.shell.specs.Answer.{Running}
 use Rattle.shell.specs.declared.answer.Ran.{Ran}

@@ -25,9 +25,9 @@ use Rattle.words.specs.Tokens.{wordsOf}
 use Rattle.words.specs.Answer.{Tokenized}
 use Rattle.words.specs.declared.tokenizer.Tokens.{Tokens}
 use Rattle.words.specs.declared.tokenizer.Tokens.the-variants.{Words}
-use Rattle.quote.specs.Given.{listed, fine, judge}
+use Rattle.quote.specs.Given.{listed, fine, judgeWords}
 use Rattle.quote.specs.Answer.{quoteLine}
-use Rattle.quote.proofs.Return.{given-back, call-back}
+use Rattle.quote.proofs.GivenBack.{given-back, call-back}
 use Rattle.tree.specs.Images.{flat, framesOf}
 use Rattle.tree.specs.Forest.{Forest}
 use Rattle.tree.specs.Rules.{checkTree}
@@ -59,7 +59,7 @@ use Rattle.history.specs.Answer.{Addition}
 use Rattle.history.specs.Steps.{back, onward}
 use Rattle.history.specs.declared.stepping.History.{History}
 use Rattle.history.specs.declared.adding.Added.the-variants.{Done}
-use Rattle.screen.specs.Decimal.{decimal, valueOf}
+use Rattle.screen.specs.Decimal.{decimal, digitsValue}
 use Rattle.screen.specs.Redraw.{redraw}
 use Rattle.screen.proofs.Numerals.{Digits, decimal-one, decimal-value, decimal-digits, decimal-lead}
 use Rattle.editor.specs.declared.line.Editor.{Editor}
@@ -178,7 +178,7 @@ pub split-whitespace : (s : List ℕ) → Splitting s
 split-whitespace = splitting
 
 -- `Display` of a usize (decimal): the ASCII digits of the number, one for 0 and no leading 0 for any other; and in `\u{..}` a digit of 16 (digitOf) has its value
-pub display : (n : ℕ) → (valueOf (decimal n) ≡ n) × Digits (decimal n) × (0 < n → 0x30 < getD (decimal n) 0 0)
+pub display : (n : ℕ) → (digitsValue (decimal n) ≡ n) × Digits (decimal n) × (0 < n → 0x30 < getD (decimal n) 0 0)
 display n = (decimal-value n, decimal-digits n, decimal-lead n)
 
 pub display-zero : decimal 0 ≡ 0x30 ∷ []
@@ -195,9 +195,9 @@ pub ordered : (a b c : List ℕ) → (order a b ≡ Equal → a ≡ b) × (order
 ordered a b c = (order-is a b, order-turned a b, order-trans a b c)
 
 -- QUOTING: the line of a list of words that quoting accepts splits into that list; and as calls, `tokenize` of what `quote` writes gives back the very frames
-pub splits-back : (words : List ℕ) (ws : List (List ℕ)) → judge (listed words) ≡ fine ws → wordsOf (quoteLine ws) ≡ ws
+pub splits-back : (words : List ℕ) (ws : List (List ℕ)) → judgeWords (listed words) ≡ fine ws → wordsOf (quoteLine ws) ≡ ws
 splits-back = given-back
 
-pub frames-back : (words out : List ℕ) (ws : List (List ℕ)) → Bytes words → judge (listed words) ≡ fine ws → length (quoteLine ws) ≤ 1024 → length words ≤ length out
+pub frames-back : (words out : List ℕ) (ws : List (List ℕ)) → Bytes words → judgeWords (listed words) ≡ fine ws → length (quoteLine ws) ≤ 1024 → length words ≤ length out
     → Tokenized (quoteLine ws) out (Words (length words)) (over words out)
 frames-back = call-back

@@ -18,10 +18,10 @@ use Rattle.image.specs.Frames.{Perhaps, Frame, node, option, flag}
 use Rattle.image.specs.Limits.{fair}
 use Rattle.image.proofs.Fields.{both-first, both-second}
 use Rattle.tree.specs.Images.{items, framesOf}
-use Rattle.tree.specs.Rules.{Seen, start, isLess, rises, follows, obeys, after, judge, obeyAll, checkTree}
+use Rattle.tree.specs.Rules.{Seen, start, isLess, rises, follows, obeys, after, judgeItems, obeyAll, checkTree}
 use Rattle.tree.specs.Subtrees.{isNamed, isUpper, upTo, onFrom, rooted, subtree}
 use Rattle.tree.specs.declared.check.Checked.the-variants.{Good, BadFrame}
-use Rattle.tree.proofs.Wholes.{good-judged}
+use Rattle.tree.proofs.WellFormedImages.{good-judged}
 use Rattle.lookup.proofs.Lookups.{NoneOf, on-skip, up-skip}
 use Rattle.lookup.proofs.Subtrees.{up-on}
 
@@ -110,7 +110,7 @@ good-obeys : (image : List ℕ) → checkTree image ≡ Good → obeyAll start (
 unfolding checkTree framesOf
 good-obeys image e = by (ltb 32768 (length image)) e
   where
-    by : (t : Bool) → cond t (BadFrame 0) (judge start 0 (items image)) ≡ Good → obeyAll start (framesOf image) ≡ true
+    by : (t : Bool) → cond t (BadFrame 0) (judgeItems start 0 (items image)) ≡ Good → obeyAll start (framesOf image) ≡ true
     by true q = absurd (let z : _≡_ {A = ℕ} 0 1 = cc in omega arith)
     by false q = good-judged (items image) start 0 q .obey
 

@@ -6,9 +6,9 @@ use borrow.Author.Tests.{lt-ltb, le-ltb}
 use lib.ListN.{length}
 use Rattle.buffer.specs.Write.{over}
 use Rattle.buffer.proofs.Choices.{then-is, else-is}
-use Rattle.quote.specs.Given.{listed, Judged, bad, fine, onJudged, judge}
+use Rattle.quote.specs.Given.{listed, Judged, bad, fine, onJudged, judgeWords}
 use Rattle.quote.specs.Answer.{quoteLine, lineAnswer, quoteAnswer, lineOf, leavesBy, quoteLeaves, Quotation}
-use Rattle.quote.specs.Steps.{measured, IsFine}
+use Rattle.quote.specs.Inner.{measured, IsFine}
 use Rattle.quote.specs.declared.quoter.Quoted.{Quoted}
 use Rattle.quote.specs.declared.quoter.Quoted.the-variants.{Line, BadWord, LineTooLong, NoRoom}
 use Rattle.quote.specs.declared.quoter.Measured.{Measured}
@@ -16,7 +16,7 @@ use Rattle.quote.specs.declared.quoter.Measured.the-variants.{Needs, Bad
 
 -- what measuring tells
 pub record TellsLine (words : List ℕ) (n : ℕ) : Type 0 where
-  pub all-good : IsFine (judge (listed words))
+  pub all-good : IsFine (judgeWords (listed words))
   pub size : n ≡ length (lineOf words)
   pub answers : (room : ℕ) → quoteAnswer words room ≡ lineAnswer n room
 
@@ -26,9 +26,9 @@ Tells words (Needs n) = TellsLine words n
 
 tells : (words : List ℕ) → Tells words (measured words)
 unfolding measured quoteAnswer lineOf
-tells words = by (judge (listed words)) refl
+tells words = by (judgeWords (listed words)) refl
   where
-    by : (j : Judged) → judge (listed words) ≡ j → Tells words (onJudged j (λ n. Bad n) (λ ws. Needs (length (quoteLine ws))))
+    by : (j : Judged) → judgeWords (listed words) ≡ j → Tells words (onJudged j (λ n. Bad n) (λ ws. Needs (length (quoteLine ws))))
     by (bad k) e = λ room. ap (λ (j : Judged). onJudged j (λ n. BadWord n) (λ ws. lineAnswer (length (quoteLine ws)) room)) e
     by (fine ws) e =
         record {

@@ -10,10 +10,10 @@ use Rattle.buffer.proofs.Writing.{pushed-both}
 use Rattle.text.specs.Unicode.{encodeAll}
 use Rattle.text.specs.Decoding.{decodeFirst, codesIn}
 use Rattle.text.specs.declared.utf8.Decoded.the-variants.{Character}
-use Rattle.quote.specs.Given.{listed, judge}
+use Rattle.quote.specs.Given.{listed, judgeWords}
 use Rattle.quote.specs.Shown.{special, escaped, shown}
-use Rattle.quote.specs.Joined.{gap}
-use Rattle.quote.specs.Steps.{escapedBytes, IsFine}
+use Rattle.quote.specs.Joined.{gapBefore}
+use Rattle.quote.specs.Inner.{escapedBytes, IsFine}
 use Rattle.quote.proofs.Listing.{WordTold}
 use Rattle.quote.proofs.Showing.{escaped-turn}
 use Rattle.quote.proofs.Counting.{restLine, rest-turn}
@@ -65,15 +65,15 @@ module _ (w out₀ : List ℕ) (start o at code n : ℕ) (out : List ℕ) (h : L
       (encodeAll (escaped (codesIn (drop (at + n) w)))) out₀ start o out h (escaped-turn w at code n d) room r left p
 
 -- a word more of a line
-module _ (line words out₀ : List ℕ) (o n at len : ℕ) (out : List ℕ) (h : Laying line (restLine n (judge (listed (drop at words)))) out₀ 0 o out)
-    (f : IsFine (judge (listed (drop at words)))) (t : WordTold (drop at words) len) (room : length line ≤ length out₀) where
-  pub word-room : o + length (gap n ++ shown (take (at + 3 + len - (at + 3)) (drop (at + 3) words))) ≤ length out₀
+module _ (line words out₀ : List ℕ) (o n at len : ℕ) (out : List ℕ) (h : Laying line (restLine n (judgeWords (listed (drop at words)))) out₀ 0 o out)
+    (f : IsFine (judgeWords (listed (drop at words)))) (t : WordTold (drop at words) len) (room : length line ≤ length out₀) where
+  pub word-room : o + length (gapBefore n ++ shown (take (at + 3 + len - (at + 3)) (drop (at + 3) words))) ≤ length out₀
   word-room =
-      laying-room line (restLine n (judge (listed (drop at words)))) (gap n ++ shown (take (at + 3 + len - (at + 3)) (drop (at + 3) words)))
-      (restLine (n + 1) (judge (listed (drop (at + 3 + len) words)))) out₀ 0 o out h (rest-turn words n at f len t) (omega arith)
+      laying-room line (restLine n (judgeWords (listed (drop at words)))) (gapBefore n ++ shown (take (at + 3 + len - (at + 3)) (drop (at + 3) words)))
+      (restLine (n + 1) (judgeWords (listed (drop (at + 3 + len) words)))) out₀ 0 o out h (rest-turn words n at f len t) (omega arith)
 
-  pub word-turn : (r : ℕ) (left : List ℕ) → Pushed (gap n ++ shown (take (at + 3 + len - (at + 3)) (drop (at + 3) words))) out o r left
-      → Laying line (restLine (n + 1) (judge (listed (drop (at + 3 + len) words)))) out₀ 0 r left
+  pub word-turn : (r : ℕ) (left : List ℕ) → Pushed (gapBefore n ++ shown (take (at + 3 + len - (at + 3)) (drop (at + 3) words))) out o r left
+      → Laying line (restLine (n + 1) (judgeWords (listed (drop (at + 3 + len) words)))) out₀ 0 r left
   word-turn r left p =
-      laying-turn line (restLine n (judge (listed (drop at words)))) (gap n ++ shown (take (at + 3 + len - (at + 3)) (drop (at + 3) words)))
-      (restLine (n + 1) (judge (listed (drop (at + 3 + len) words)))) out₀ 0 o out h (rest-turn words n at f len t) (omega arith) r left p
+      laying-turn line (restLine n (judgeWords (listed (drop at words)))) (gapBefore n ++ shown (take (at + 3 + len - (at + 3)) (drop (at + 3) words)))
+      (restLine (n + 1) (judgeWords (listed (drop (at + 3 + len) words)))) out₀ 0 o out h (rest-turn words n at f len t) (omega arith) r left p

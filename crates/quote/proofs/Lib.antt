@@ -4,4 +4,4 @@ pub mod Listing
 pub mod Counting
 pub mod Laying
 pub mod Answers
-pub mod Return
+pub mod GivenBack

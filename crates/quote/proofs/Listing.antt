@@ -19,9 +19,9 @@ use Rattle.frame.specs.declared.framed.Framed.{Framed}
 use Rattle.frame.specs.declared.framed.Framed.the-variants.{Frame, Broken, End}
 use Rattle.frame.proofs.framed.Framed.{the-type}
 use Rattle.frame.proofs.Frames.{frame-within}
-use Rattle.quote.specs.Given.{Listed, broken, word, listedFrom, listed, goodWord, bad, fine, before, judge}
+use Rattle.quote.specs.Given.{Listed, broken, word, listedFrom, listed, goodWord, bad, fine, wordBefore, judgeWords}
 use Rattle.quote.specs.Shown.{shown}
-use Rattle.quote.specs.Steps.{itemOf, itemFirst, plainWord}
+use Rattle.quote.specs.Inner.{itemOf, itemFirst, plainWord}
 use Rattle.text.proofs.Prefix.{prefix-fits}
 use Rattle.quote.proofs.Showing.{plain-formed, shown-plain}
 use Rattle.quote.specs.declared.given.Item.{Item}
@@ -164,40 +164,40 @@ listed-word (a ∷ s) n e =
     ap (listedBy a s) e
     ∙ ap (λ (l : Listed). word (take n (drop 3 (a ∷ s))) l) (listed-skip s (2 + n) ∙ ap (λ (k : ℕ). listed (drop k (a ∷ s))) (sym more))
 
-pub listed-end : (s : List ℕ) (at : ℕ) → length s ≤ at → judge (listed (drop at s)) ≡ fine []
-unfolding listedFrom listed judge
+pub listed-end : (s : List ℕ) (at : ℕ) → length s ≤ at → judgeWords (listed (drop at s)) ≡ fine []
+unfolding listedFrom listed judgeWords
 listed-end s at h = rw (drop-end s at h)
 
 -- and its judgement
-pub judge-first : (s : List ℕ) (n : ℕ) → WordTold s n → judge (listed s) ≡ before (take n (drop 3 s)) (judge (listed (drop (3 + n) s)))
-unfolding judge
+pub judge-first : (s : List ℕ) (n : ℕ) → WordTold s n → judgeWords (listed s) ≡ wordBefore (take n (drop 3 s)) (judgeWords (listed (drop (3 + n) s)))
+unfolding judgeWords
 judge-first s n t =
-    ap judge (listed-word s n (t .head)) ∙ then-is _ _ _ (t .good)
+    ap judgeWords (listed-word s n (t .head)) ∙ then-is _ _ _ (t .good)
 
 pub judge-word : (words : List ℕ) (at n : ℕ) → WordTold (drop at words) n
-    → judge (listed (drop at words)) ≡ before (take n (drop 3 (drop at words))) (judge (listed (drop (at + 3 + n) words)))
+    → judgeWords (listed (drop at words)) ≡ wordBefore (take n (drop 3 (drop at words))) (judgeWords (listed (drop (at + 3 + n) words)))
 judge-word words at n t =
     let w : List ℕ = take n (drop 3 (drop at words)) in
     let place : at + (3 + n) ≡ at + 3 + n = omega arith in
     judge-first (drop at words) n t
-    ∙ ap (λ (l : List ℕ). before w (judge (listed l))) (drop-drop (3 + n) at words ∙ ap (λ (k : ℕ). drop k words) place)
+    ∙ ap (λ (l : List ℕ). wordBefore w (judgeWords (listed l))) (drop-drop (3 + n) at words ∙ ap (λ (k : ℕ). drop k words) place)
 
 word-or-bad : (n size : ℕ) → Word n size ≡ Bad → ⊥
 word-or-bad n size e = let z : _≡_ {A = ℕ} 0 1 = cc in omega arith
 
 bad-kind : (a : ℕ) (s : List ℕ) (kind m : ℕ) (t g : Bool) → eqb kind 0x14 ≡ t → goodWord (take m (drop 3 (a ∷ s))) ≡ g
-    → cond t (cond g (Word m (length (shown (take m (drop 3 (a ∷ s)))))) Bad) Bad ≡ Bad → judge (cond t (word (take m (drop 3 (a ∷ s))) (listedFrom s (2 + m))) broken) ≡ bad 0
-unfolding judge
+    → cond t (cond g (Word m (length (shown (take m (drop 3 (a ∷ s)))))) Bad) Bad ≡ Bad → judgeWords (cond t (word (take m (drop 3 (a ∷ s))) (listedFrom s (2 + m))) broken) ≡ bad 0
+unfolding judgeWords
 bad-kind a s kind m true true e g r = absurd (word-or-bad m _ r)
 bad-kind a s kind m true false e g r = else-is _ _ _ g
 bad-kind a s kind m false g e h r = refl
 
-pub judge-bad : (s : List ℕ) → 0 < length s → itemFirst s ≡ Bad → judge (listed s) ≡ bad 0
-unfolding listedFrom listed itemFirst judge
+pub judge-bad : (s : List ℕ) → 0 < length s → itemFirst s ≡ Bad → judgeWords (listed s) ≡ bad 0
+unfolding listedFrom listed itemFirst judgeWords
 judge-bad [] h e = absurd (omega arith)
 judge-bad (a ∷ s) h e = by (frameFirst (a ∷ s)) e
   where
-    by : (d : Framed) → itemBy (a ∷ s) d ≡ Bad → judge (listedBy a s d) ≡ bad 0
+    by : (d : Framed) → itemBy (a ∷ s) d ≡ Bad → judgeWords (listedBy a s d) ≡ bad 0
     by (Frame kind m) r = bad-kind a s kind m (eqb kind 0x14) (goodWord (take m (drop 3 (a ∷ s)))) refl refl r
     by Broken r = refl
     by End r = refl

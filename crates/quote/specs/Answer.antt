@@ -5,8 +5,9 @@ use mathlib.Core.Bool.{cond}
 use mathlib.Core.List.{List, [], map}
 use lib.Dec.{ltb}
 use lib.ListN.{length}
+use Rattle.frame.specs.Limits.{lineLimit, valueLimit}
 use Rattle.buffer.specs.Write.{over}
-use Rattle.quote.specs.Given.{listed, judge, onJudged}
+use Rattle.quote.specs.Given.{listed, judgeWords, onJudged}
 use Rattle.quote.specs.Shown.{shown}
 use Rattle.quote.specs.Joined.{joined}
 use Rattle.quote.specs.declared.quoter.Quoted.{Quoted}
@@ -19,17 +20,17 @@ quoteLine words = joined (map shown words)
 -- the answer for a line of n bytes and a buffer of `room` bytes
 unfoldable pub lineAnswer : ℕ → ℕ → Quoted
 lineAnswer n room =
-    cond (ltb 1024 n) (LineTooLong (min n 65535))
+    cond (ltb lineLimit n) (LineTooLong (min n valueLimit))
     (cond (ltb room n) (NoRoom n)
     (Line n))
 
 -- the answer for words that come as frames
 unfoldable pub quoteAnswer : List ℕ → ℕ → Quoted
-quoteAnswer words room = onJudged (judge (listed words)) (λ n. BadWord n) (λ ws. lineAnswer (length (quoteLine ws)) room)
+quoteAnswer words room = onJudged (judgeWords (listed words)) (λ n. BadWord n) (λ ws. lineAnswer (length (quoteLine ws)) room)
 
 -- the line of words that come as frames; where one is bad there is none
 unfoldable pub lineOf : List ℕ → List ℕ
-lineOf words = onJudged (judge (listed words)) (λ n. []) quoteLine
+lineOf words = onJudged (judgeWords (listed words)) (λ n. []) quoteLine
 
 -- a refusal writes nothing; the line stands in the first bytes, and the rest stays
 abbrev pub leavesBy : Quoted → List ℕ → List ℕ → List ℕ

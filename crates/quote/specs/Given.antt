@@ -38,11 +38,11 @@ onJudged (bad n) f g = f n
 onJudged (fine words) f g = g words
 
 -- a good word before what is judged already
-abbrev pub before : List ℕ → Judged → Judged
-before w (bad n) = bad (suc n)
-before w (fine words) = fine (w ∷ words)
+abbrev pub wordBefore : List ℕ → Judged → Judged
+wordBefore w (bad n) = bad (suc n)
+wordBefore w (fine words) = fine (w ∷ words)
 
-unfoldable pub judge : Listed → Judged
-judge done = fine []
-judge broken = bad 0
-judge (word w l) = cond (goodWord w) (before w (judge l)) (bad 0)
+unfoldable pub judgeWords : Listed → Judged
+judgeWords done = fine []
+judgeWords broken = bad 0
+judgeWords (word w l) = cond (goodWord w) (wordBefore w (judgeWords l)) (bad 0)

@@ -3,14 +3,14 @@ use Prim.Native.Nat.{ℕ, zero, suc}
 use mathlib.Core.List.{List, [], _∷_, _++_}
 
 -- what stands before a text that n texts precede
-unfoldable pub gap : ℕ → List ℕ
-gap zero = []
-gap (suc n) = 0x20 ∷ []
+unfoldable pub gapBefore : ℕ → List ℕ
+gapBefore zero = []
+gapBefore (suc n) = 0x20 ∷ []
 
 -- texts that n texts precede
 unfoldable pub joinedFrom : ℕ → List (List ℕ) → List ℕ
 joinedFrom n [] = []
-joinedFrom n (t ∷ texts) = gap n ++ (t ++ joinedFrom (suc n) texts)
+joinedFrom n (t ∷ texts) = gapBefore n ++ (t ++ joinedFrom (suc n) texts)
 
 unfoldable pub joined : List (List ℕ) → List ℕ
 joined texts = joinedFrom 0 texts

@@ -4,4 +4,4 @@ pub mod Given
 pub mod Shown
 pub mod Joined
 pub mod Answer
-pub mod Steps
+pub mod Inner

@@ -2,14 +2,14 @@
 ghost use Prim.Native.Nat.{_+_, _≤_};
 ghost use mathlib.Core.Path.{_≡_};
 ghost use lib.ListN.{length, drop};
-ghost use Rattle.quote.specs.Steps.{itemOf, itemFirst};
+ghost use Rattle.quote.specs.Inner.{itemOf, itemFirst};
 use super::word::is_plain;
 use super::word::quoted_size;
 use frame::Framed;
 use frame::read_frame;
 use text::well_formed_prefix;
 
-// What stands at a place: a good word of that many bytes, behind the three bytes of its frame's head, which takes `size` bytes
+// What stands at a place: a good word of that many bytes, after the three bytes of its frame's head, which takes `size` bytes
 // when it is shown; or none.
 pub enum Item {
     Word { length: usize, size: usize },

@@ -5,11 +5,11 @@ ghost use mathlib.Core.List.{_++_};
 ghost use lib.ListN.{length};
 ghost use Rattle.buffer.specs.Write.{over, Pushed};
 ghost use Rattle.text.specs.Decoding.{wellFormedLength};
-ghost use Rattle.quote.specs.Given.{listed, judge};
+ghost use Rattle.quote.specs.Given.{listed, judgeWords};
 ghost use Rattle.quote.specs.Shown.{shown};
-ghost use Rattle.quote.specs.Joined.{gap};
+ghost use Rattle.quote.specs.Joined.{gapBefore};
 ghost use Rattle.quote.specs.Answer.{lineOf, Quotation};
-ghost use Rattle.quote.specs.Steps.{measured, IsFine};
+ghost use Rattle.quote.specs.Inner.{measured, IsFine};
 use super::given::Item;
 use super::given::word_at;
 use super::word::push_shown;
@@ -37,7 +37,7 @@ enum Measured {
 
 // How many bytes stand before a word that n words precede.
 fn gap_size(n: usize) -> usize
-    ensures { λ r. ⌜ r ≡ length (gap n) ⌝ }
+    ensures { λ r. ⌜ r ≡ length (gapBefore n) ⌝ }
 {
     if n == 0 { 0 } else { 1 }
 }
@@ -63,11 +63,11 @@ fn measure(words: &[u8]) -> Measured
     Measured::Needs(size)
 }
 
-// Writes a word that n words precede at the place `at` and returns the place behind.
+// Writes a word that n words precede at the place `at` and returns the place after.
 fn push_word(n: usize, word: &[u8], out: &mut [u8], at: usize) -> usize
     requires { ⌜ wellFormedLength (now word) ≡ length (now word) ⌝ }
-    requires { ⌜ at + length (gap n ++ shown (now word)) ≤ length (now out) ⌝ }
-    ensures { λ r. ⌜ Pushed (gap n ++ shown (now (word .entry))) (now (out .entry)) at r (now (out .exit)) ⌝ }
+    requires { ⌜ at + length (gapBefore n ++ shown (now word)) ≤ length (now out) ⌝ }
+    ensures { λ r. ⌜ Pushed (gapBefore n ++ shown (now (word .entry))) (now (out .entry)) at r (now (out .exit)) ⌝ }
 {
     if n == 0 {
         return push_shown(word, out, at);
@@ -78,7 +78,7 @@ fn push_word(n: usize, word: &[u8], out: &mut [u8], at: usize) -> usize
 
 // Writes the line of words that are all good.
 fn write(words: &[u8], out: &mut [u8])
-    requires { ⌜ IsFine (judge (listed (now words))) ⌝ }
+    requires { ⌜ IsFine (judgeWords (listed (now words))) ⌝ }
     requires { ⌜ length (lineOf (now words)) ≤ length (now out) ⌝ }
     ensures { λ _. ⌜ now (out .exit) ≡ over (lineOf (now (words .entry))) (now (out .entry)) ⌝ }
 {

@@ -7,7 +7,7 @@ ghost use Rattle.buffer.specs.Write.{Pushed};
 ghost use Rattle.text.specs.Unicode.{encodeAll};
 ghost use Rattle.text.specs.Decoding.{codesIn, wellFormedLength};
 ghost use Rattle.quote.specs.Shown.{special, quoting, escaped, shown};
-ghost use Rattle.quote.specs.Steps.{quietFirst, plainWord, specials, escapedBytes};
+ghost use Rattle.quote.specs.Inner.{quietFirst, plainWord, specials, escapedBytes};
 use buffer::push;
 use buffer::push_byte;
 use text::Decoded;
@@ -96,7 +96,7 @@ pub fn quoted_size(word: &[u8]) -> usize
     word.len() + escapes(word) + 2
 }
 
-// Writes a character's bytes at the place `at`, with `\` before them where it needs one, and returns the place behind.
+// Writes a character's bytes at the place `at`, with `\` before them where it needs one, and returns the place after.
 fn push_character(code: u32, bytes: &[u8], out: &mut [u8], at: usize) -> usize
     requires { ⌜ at + length (escapedBytes (special code) (now bytes)) ≤ length (now out) ⌝ }
     ensures { λ r. ⌜ Pushed (escapedBytes (special code) (now (bytes .entry))) (now (out .entry)) at r (now (out .exit)) ⌝ }
@@ -108,7 +108,7 @@ fn push_character(code: u32, bytes: &[u8], out: &mut [u8], at: usize) -> usize
     push(bytes, out, at)
 }
 
-// Writes a well-formed word's characters at the place `start`, with `\` before `"` and `\`, and returns the place behind.
+// Writes a well-formed word's characters at the place `start`, with `\` before `"` and `\`, and returns the place after.
 fn push_escaped(word: &[u8], out: &mut [u8], start: usize) -> usize
     requires { ⌜ wellFormedLength (now word) ≡ length (now word) ⌝ }
     requires { ⌜ start + length (encodeAll (escaped (codesIn (now word)))) ≤ length (now out) ⌝ }
@@ -127,7 +127,7 @@ fn push_escaped(word: &[u8], out: &mut [u8], start: usize) -> usize
     o
 }
 
-// Writes a well-formed word as it is shown at the place `at` and returns the place behind.
+// Writes a well-formed word as it is shown at the place `at` and returns the place after.
 pub fn push_shown(word: &[u8], out: &mut [u8], at: usize) -> usize
     requires { ⌜ wellFormedLength (now word) ≡ length (now word) ⌝ }
     requires { ⌜ at + length (shown (now word)) ≤ length (now out) ⌝ }

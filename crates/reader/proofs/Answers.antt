@@ -6,7 +6,7 @@ use lib.ListN.{length}
 use denote.Ref.{RefT}
 use Rattle.image.specs.Frames.{Frame}
 use Rattle.tree.specs.Images.{framesOf, flat}
-use Rattle.tree.proofs.Wholes.{AllFit, frames-flat}
+use Rattle.tree.proofs.WellFormedImages.{AllFit, frames-flat}
 use Rattle.reader.specs.declared.Reader.{Reader}
 
 -- a reader is its image and its place

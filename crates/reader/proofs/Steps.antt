@@ -12,7 +12,7 @@ use Rattle.image.specs.declared.head.Head.the-variants.{Node, Option, Flag, Bad
 use Rattle.image.proofs.Encoding.{read-within, read-ended}
 use Rattle.tree.specs.Images.{framesIn, framesOf}
 use Rattle.tree.proofs.Items.{items-read, items-broken, items-end}
-use Rattle.reader.specs.Places.{sizeBy, nextPlace}
+use Rattle.reader.specs.Places.{sizeFirst, nextPlace}
 
 -- a frame's size, seen from the frame in words
 abbrev sizeRead : Read → ℕ
@@ -20,14 +20,14 @@ sizeRead (read f n) = n
 sizeRead broken = 0
 sizeRead ended = 0
 
-size-read : (s : List ℕ) (h : Head) → sizeBy h ≡ sizeRead (readBy s h)
+size-read : (s : List ℕ) (h : Head) → sizeFirst h ≡ sizeRead (readBy s h)
 size-read s (Node d c t) = refl
 size-read s (Option r c t) = refl
 size-read s (Flag c t) = refl
 size-read s Bad = refl
 size-read s End = refl
 
--- what the first bytes tell: a frame and the frames behind it, or none
+-- what the first bytes tell: a frame and the frames after it, or none
 pub record StepTold (s : List ℕ) (size : ℕ) : Type 0 where
   pub within : size ≤ length s
   pub some : 0 < size → length (framesOf s) ≡ 1 + length (framesOf (drop size s))
@@ -44,7 +44,7 @@ read-told s = by (readFirst s) refl
     by broken e = record { within = omega arith; some = λ h. absurd (omega arith); none = λ h k. rw (items-broken s e) refl }
     by ended e = record { within = omega arith; some = λ h. absurd (omega arith); none = λ h k. absurd (let z = rw (read-ended s e) at k in omega arith) }
 
-step-told : (s : List ℕ) → StepTold s (sizeBy (headFirst s))
+step-told : (s : List ℕ) → StepTold s (sizeFirst (headFirst s))
 unfolding readFirst
 step-told s = rw (size-read s (headFirst s)) (read-told s)
 
@@ -52,7 +52,7 @@ step-told s = rw (size-read s (headFirst s)) (read-told s)
 module _ (s : List ℕ) (at : ℕ) where
   pub next-within : nextPlace s at ≤ max at (length s)
   unfolding nextPlace
-  next-within = let t : sizeBy (headFirst (drop at s)) ≤ length s - at = rw (sym (length-drop at s)) (step-told (drop at s) .within) in omega arith
+  next-within = let t : sizeFirst (headFirst (drop at s)) ≤ length s - at = rw (sym (length-drop at s)) (step-told (drop at s) .within) in omega arith
 
   pub next-on : at ≤ nextPlace s at
   unfolding nextPlace
@@ -61,7 +61,7 @@ module _ (s : List ℕ) (at : ℕ) where
   pub frames-on : (nextPlace s at ≡ at → ⊥) → length (framesOf (drop at s)) ≡ 1 + length (framesOf (drop (nextPlace s at) s))
   unfolding nextPlace
   frames-on h =
-      step-told (drop at s) .some (omega (arith, h)) ∙ ap (λ (l : List ℕ). 1 + length (framesOf l)) (drop-drop (sizeBy (headFirst (drop at s))) at s)
+      step-told (drop at s) .some (omega (arith, h)) ∙ ap (λ (l : List ℕ). 1 + length (framesOf l)) (drop-drop (sizeFirst (headFirst (drop at s))) at s)
 
   pub frames-none : nextPlace s at ≡ at → at < length s → length (framesOf (drop at s)) ≡ 0
   unfolding nextPlace

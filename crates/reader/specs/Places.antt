@@ -7,13 +7,13 @@ use Rattle.image.specs.declared.head.Head.{Head}
 use Rattle.image.specs.declared.head.Head.the-variants.{Node, Option, Flag, Bad, End}
 
 -- how many bytes a frame takes, 0 where there is none
-abbrev pub sizeBy : Head → ℕ
-sizeBy (Node depth handler texts) = texts .size
-sizeBy (Option required short texts) = texts .size
-sizeBy (Flag short texts) = texts .size
-sizeBy Bad = 0
-sizeBy End = 0
+abbrev pub sizeFirst : Head → ℕ
+sizeFirst (Node depth handler texts) = texts .size
+sizeFirst (Option required short texts) = texts .size
+sizeFirst (Flag short texts) = texts .size
+sizeFirst Bad = 0
+sizeFirst End = 0
 
--- the place behind the frame at a place; the same place where there is none
+-- the place after the frame at a place; the same place where there is none
 unfoldable pub nextPlace : List ℕ → ℕ → ℕ
-nextPlace image at = at + sizeBy (headFirst (drop at image))
+nextPlace image at = at + sizeFirst (headFirst (drop at image))

@@ -39,7 +39,7 @@ pub fn head<'a>(r: Reader<'a>) -> Head
     head_at(r.image, r.at)
 }
 
-// The reader behind that frame; where there is none it stays.
+// The reader after that frame; where there is none it stays.
 pub fn next<'a>(r: Reader<'a>) -> Reader<'a>
     ensures { λ q. ⌜ (q .image ≡ r .entry .image) × (q .at ≡ nextPlace (now (r .entry .image)) (r .entry .at)) ⌝ }
 {

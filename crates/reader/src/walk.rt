@@ -4,11 +4,11 @@ use image::head_at;
 ghost use mathlib.Core.Path.{_≡_};
 ghost use lib.ListN.{length, drop};
 ghost use Rattle.tree.specs.Images.{framesOf};
-ghost use Rattle.reader.specs.Places.{sizeBy, nextPlace};
+ghost use Rattle.reader.specs.Places.{sizeFirst, nextPlace};
 
 // How many bytes a frame takes, 0 where there is none.
 fn size_of(head: Head) -> usize
-    ensures { λ r. ⌜ r ≡ sizeBy head ⌝ }
+    ensures { λ r. ⌜ r ≡ sizeFirst head ⌝ }
 {
     match head {
         Head::Node {
@@ -27,7 +27,7 @@ fn size_of(head: Head) -> usize
     }
 }
 
-// The place behind the frame at a place; the same place where there is none.
+// The place after the frame at a place; the same place where there is none.
 pub fn next_at(image: &[u8], at: usize) -> usize
     ensures { λ r. ⌜ r ≡ nextPlace (now (image .entry)) at ⌝ }
 {

@@ -24,7 +24,7 @@ fn put_kept(out: &[u8], place: usize, line: &mut [u8], at: usize) -> usize {
     line::put_all(b" touched", line, at)
 }
 
-// Puts the first bytes of a buffer, so many, and whether the byte behind them stayed.
+// Puts the first bytes of a buffer, so many, and whether the byte after them stayed.
 pub fn put_written(out: &[u8], n: usize, line: &mut [u8], at: usize) -> usize {
     if out.len() < n {
         return line::put_all(b" more than the buffer holds", line, at);

@@ -1,7 +1,7 @@
 // A line of output, gathered in a lent buffer and written at its end. A line that doesn't fit is told.
 use libc::STDOUT_FILENO;
 
-// Puts a byte at a place of a line and returns the place behind it. A full line takes no more.
+// Puts a byte at a place of a line and returns the place after it. A full line takes no more.
 pub fn put(byte: u8, line: &mut [u8], at: usize) -> usize {
     if at < line.len() {
         line[at] = byte;

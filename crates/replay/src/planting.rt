@@ -1,4 +1,4 @@
-// Trees among the lines of an input: a line that begins with `=` is an image, under which the lines behind it are answered.
+// Trees among the lines of an input: a line that begins with `=` is an image, under which the lines after it are answered.
 use super::hex::read_hex;
 use super::line;
 ghost use Rattle.io.specs.Counts.{Counts};
@@ -11,7 +11,7 @@ pub fn is_tree(digits: &[u8]) -> bool {
     digits[0] == b'='
 }
 
-// Reads the tree behind the first byte of a line, writes its length, and returns it.
+// Reads the tree after the first byte of a line, writes its length, and returns it.
 pub fn read_tree(digits: &[u8], image: &mut [u8]) -> usize {
     if digits.len() == 0 {
         return 0;

@@ -1,4 +1,4 @@
-// One stream of keys from the fresh state: what each key shows, in hexadecimal with commas between, then the entries of history behind a semicolon.
+// One stream of keys from the fresh state: what each key shows, in hexadecimal with commas between, then the entries of history after a semicolon.
 use editor::Editor;
 use editor::Pressed;
 use history::History;
@@ -40,7 +40,7 @@ fn write_first(out: &[u8], n: usize) {
     }
 }
 
-// Writes bytes in hexadecimal, behind a comma if they are not the first.
+// Writes bytes in hexadecimal, after a comma if they are not the first.
 fn write_part(bytes: &[u8], number: usize) {
     let mut out = [0u8; 1024];
     let first = put_comma(number, &mut out, 0);

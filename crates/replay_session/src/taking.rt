@@ -81,7 +81,7 @@ fn take_piece(
     here
 }
 
-// The input's end: what it prints is put behind what was. It prints nothing where a key still waits.
+// The input's end: what it prints is put after what was. It prints nothing where a key still waits.
 fn end(stream: Stream, out: &mut [u8], answer: &mut [u8], printed: usize) -> usize
     requires { ⌜ (busyWith stream ≡ false → stream .session .lines < 65535) × (7 ≤ length (now out)) ⌝ }
 {

@@ -1,4 +1,4 @@
-// The stored sample: a line of the input is a tree behind `=`, or a line to run under the last tree, and is answered by a line.
+// The stored sample: a line of the input is a tree after `=`, or a line to run under the last tree, and is answered by a line.
 use crate::answer::put_answer;
 use buffer::part;
 use replay::hex::read_hex;

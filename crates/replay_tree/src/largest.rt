@@ -2,7 +2,7 @@
 use crate::answer::answer;
 use replay::line;
 
-// A node of depth 0 up to its name of two bytes, and what stands behind the name: a description of 96 bytes and a usage of 23.
+// A node of depth 0 up to its name of two bytes, and what stands after the name: a description of 96 bytes and a usage of 23.
 const BEFORE: [u8; 5] = *b"\x01\x00\x00\x00\x02";
 
 const BEHIND: [u8; 121] =

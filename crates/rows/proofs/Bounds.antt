@@ -8,9 +8,9 @@ use lib.Dec.{eqb}
 use lib.ListN.{length, length-append}
 use Rattle.image.specs.Frames.{Perhaps, absent, present, Frame, node, option, flag}
 use Rattle.image.specs.Limits.{isName, optionally, fair}
-use Rattle.lookup.proofs.Few.{name-short, node-short, option-short, flag-short, Few}
-use Rattle.ink.specs.Ascii.{ascii}
-use Rattle.ink.proofs.Inking.{cond-most}
+use Rattle.lookup.proofs.FrameCounts.{name-short, node-short, option-short, flag-short, Few}
+use Rattle.buffer.specs.Ascii.{ascii}
+use Rattle.buffer.proofs.Inking.{cond-most}
 use Rattle.rows.specs.Rows.{shownAs, requiredMark, entry, optionRow, flagRow, nodeRow, rowOf, rows, titled}
 use Rattle.rows.specs.declared.row.Listing.{Listing}
 use Rattle.rows.specs.declared.row.Listing.the-variants.{Options, Flags, Subcommands, Commands}
@@ -48,7 +48,7 @@ most Flags n o g = 201 * g
 most (Subcommands depth) n o g = 154 * n
 most Commands n o g = 154 * n
 
--- a row, and the rows behind it
+-- a row, and the rows after it
 joined : (row rest : List ℕ) (a b m : ℕ) → length row ≤ a → length rest ≤ b → a + b ≤ m → length (row ++ rest) ≤ m
 joined row rest a b m h k l = let s = length-append row rest in omega arith
 
@@ -79,7 +79,7 @@ rows-bounded Commands (node d h name ds u ∷ l) n o g k =
 rows-bounded Commands (option r c name x ds ∷ l) n o g k = rows-bounded Commands l n (o - 1) g (k .2)
 rows-bounded Commands (flag c name x ds ∷ l) n o g k = rows-bounded Commands l n o (g - 1) (k .2)
 
--- a list behind its title
+-- a list after its title
 pub titled-most : (title list : List ℕ) (n : ℕ) → length list ≤ n → length (titled title list) ≤ length title + n
 unfolding titled
 titled-most title list n h = let s = length-append title list in cond-most (eqb (length list) 0) _ _ _ (omega arith) (omega arith)

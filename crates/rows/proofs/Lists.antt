@@ -1,4 +1,4 @@
--- Laws of a list of rows: one frame's row, then the rows of the frames behind it; a row is at most 64 times as long as its frame.
+-- Laws of a list of rows: one frame's row, then the rows of the frames after it; a row is at most 64 times as long as its frame.
 use Prim.Native.Nat.{ℕ, _+_, _*_, _<_, _≤_}
 use mathlib.Core.Path.{_≡_, refl, sym, ap, _∙_}
 use mathlib.Core.Bool.{Bool, true, false, cond}
@@ -11,20 +11,20 @@ use lib.Seq.{drop-drop}
 use Rattle.buffer.proofs.Lists.{drop-end}
 use Rattle.frame.specs.Text.{Bytes}
 use Rattle.frame.proofs.Texts.{bytes-drop}
-use Rattle.image.specs.Frames.{Perhaps, absent, present, Frame, node, option, flag, text, perhaps, encode}
+use Rattle.image.specs.Frames.{Perhaps, absent, present, Frame, node, option, flag, text, perhaps, encodeFrame}
 use Rattle.image.specs.Reading.{Read, read, broken, ended, readFirst}
 use Rattle.image.proofs.Encoding.{length-text, read-within, read-size}
 use Rattle.tree.specs.Images.{framesOf}
 use Rattle.tree.proofs.Items.{frames-read}
 use Rattle.lookup.proofs.Seeks.{frames-broken, frames-ended, frames-none}
-use Rattle.ink.specs.Ascii.{ascii}
-use Rattle.ink.specs.Inks.{Inked, InkedFrom, Countable}
-use Rattle.ink.proofs.Inking.{inked-nothing, inked-both, inked-as, cond-most}
+use Rattle.buffer.specs.Ascii.{ascii}
+use Rattle.buffer.specs.Inks.{Inked, InkedFrom, Countable}
+use Rattle.buffer.proofs.Inking.{inked-nothing, inked-both, inked-as, cond-most}
 use Rattle.rows.specs.Rows.{blanks, padded, shortThen, shownAs, requiredMark, entry, optionRow, flagRow, nodeRow, rowOf, endsList, rows, titled}
-use Rattle.rows.specs.Steps.{rowBy, sizeBy}
+use Rattle.rows.specs.Inner.{rowBy, sizeBy}
 use Rattle.rows.specs.declared.row.Listing.{Listing}
 use Rattle.rows.specs.declared.row.Listing.the-variants.{Options, Flags, Subcommands, Commands}
-use Rattle.rows.proofs.Rowing.{blanks-length}
+use Rattle.rows.proofs.OneRow.{blanks-length}
 
 -- how long each part of a row is at most
 unfoldable pub perhapsLength : Perhaps → ℕ
@@ -63,8 +63,8 @@ pub node-most : (indent : List ℕ) (w : ℕ) (n ds : List ℕ) → w ≤ 20 →
 unfolding nodeRow ascii
 node-most indent w n ds h = let a = length-append (entry indent w n ds) (ascii "\n") in let e = entry-most indent w n ds h in omega arith
 
-node-long : (d h : ℕ) (n ds : List ℕ) (u : Perhaps) → 6 + length n + length ds ≤ length (encode (node d h n ds u))
-unfolding encode
+node-long : (d h : ℕ) (n ds : List ℕ) (u : Perhaps) → 6 + length n + length ds ≤ length (encodeFrame (node d h n ds u))
+unfolding encodeFrame
 node-long d h n ds u =
     let a = length-append (text n ++ text ds) (perhaps u) in
     let b = length-append (text n) (text ds) in
@@ -85,8 +85,8 @@ pub definition-most : (c : ℕ) (n : List ℕ) (x : Perhaps) (ds : List ℕ) →
 unfolding ascii
 definition-most c n x ds = let e = entry-most (ascii "  ") 20 (shownAs c n x) ds (omega arith) in let s = shown-most c n x in omega arith
 
-option-most : (r c : ℕ) (n : List ℕ) (x : Perhaps) (ds : List ℕ) → length (optionRow r c n x ds) ≤ 64 * length (encode (option r c n x ds))
-unfolding optionRow requiredMark ascii encode
+option-most : (r c : ℕ) (n : List ℕ) (x : Perhaps) (ds : List ℕ) → length (optionRow r c n x ds) ≤ 64 * length (encodeFrame (option r c n x ds))
+unfolding optionRow requiredMark ascii encodeFrame
 option-most r c n x ds =
     let e : List ℕ = entry (ascii "  ") 20 (shownAs c n x) ds in
     let a = length-append (e ++ cond (eqb r 1) (ascii " (required)") []) (ascii "\n") in
@@ -96,15 +96,15 @@ option-most r c n x ds =
     let l = definition-long n x ds in
     omega arith
 
-flag-most : (c : ℕ) (n : List ℕ) (x : Perhaps) (ds : List ℕ) → length (flagRow c n x ds) ≤ 64 * length (encode (flag c n x ds))
-unfolding flagRow ascii encode
+flag-most : (c : ℕ) (n : List ℕ) (x : Perhaps) (ds : List ℕ) → length (flagRow c n x ds) ≤ 64 * length (encodeFrame (flag c n x ds))
+unfolding flagRow ascii encodeFrame
 flag-most c n x ds =
     let a = length-append (entry (ascii "  ") 20 (shownAs c n x) ds) (ascii "\n") in
     let k = definition-most c n x ds in
     let l = definition-long n x ds in
     omega arith
 
-row-most : (k : Listing) (f : Frame) → length (rowOf k f) ≤ 64 * length (encode f)
+row-most : (k : Listing) (f : Frame) → length (rowOf k f) ≤ 64 * length (encodeFrame f)
 unfolding ascii
 row-most Options (node d h n ds u) = omega arith
 row-most Options (option r c n x ds) = option-most r c n x ds
@@ -141,7 +141,7 @@ module _ (listing : Listing) (s : List ℕ) where
       by broken q e = rw (frames-broken s q)
       by ended q e = rw (frames-ended s q)
 
-  -- a frame, and those behind it
+  -- a frame, and those after it
   pub record RowAt (size : ℕ) : Type 0 where
     pub some : 0 < size
     pub fits : size ≤ length s
@@ -233,7 +233,7 @@ module _ (listing : Listing) (frames out₀ : List ℕ) (at : ℕ) where
               },
             )
 
--- a list behind its title
+-- a list after its title
 pub titled-none : (title list : List ℕ) → length list ≡ 0 → [] ≡ titled title list
 unfolding titled
 titled-none title list e = rw (eq-eqb (length list) 0 e)

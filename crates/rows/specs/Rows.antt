@@ -1,22 +1,24 @@
 -- The rows of the Rust's lists: options, flags and subcommands of a node, and the commands of a tree.
-use Prim.Native.Nat.{ℕ, _-_}
+use Prim.Native.Nat.{ℕ, _+_, _-_, _*_, _≤_}
 use mathlib.Core.Bool.{Bool, true, false, cond}
 use mathlib.Core.List.{List, [], _∷_, _++_}
 use lib.Dec.{eqb}
 use lib.ListN.{length, replicate}
 use Rattle.image.specs.Frames.{Perhaps, absent, present, Frame, node, option, flag}
-use Rattle.ink.specs.Ascii.{ascii}
+use Rattle.buffer.specs.Ascii.{ascii}
+use Rattle.buffer.specs.Inks.{Inked}
+use Rattle.tree.specs.Images.{framesOf}
 use Rattle.rows.specs.declared.row.Listing.{Listing}
 use Rattle.rows.specs.declared.row.Listing.the-variants.{Options, Flags, Subcommands, Commands}
 
--- `{:<n}`: spaces behind a text up to n characters, each of which is a byte in a tree
+-- `{:<n}`: spaces after a text up to n characters, each of which is a byte in a tree
 unfoldable pub blanks : ℕ → ℕ → List ℕ
 blanks n used = replicate (n - used) 0x20
 
 unfoldable pub padded : ℕ → List ℕ → List ℕ
 padded n t = t ++ blanks n (length t)
 
--- `-s` and what stands behind it; nothing if there is no short
+-- `-s` and what stands after it; nothing if there is no short
 unfoldable pub shortThen : ℕ → List ℕ → List ℕ
 shortThen short tail = cond (eqb short 0) [] (ascii "-" ++ short ∷ tail)
 
@@ -76,6 +78,11 @@ unfoldable pub rows : Listing → List Frame → List ℕ
 rows listing [] = []
 rows listing (f ∷ l) = cond (endsList listing f) [] (rowOf listing f ++ rows listing l)
 
--- a list stands behind its title; an empty one has none
+-- a list stands after its title; an empty one has none
 unfoldable pub titled : List ℕ → List ℕ → List ℕ
 titled title list = cond (eqb (length list) 0) [] (title ++ list)
+
+-- what a writer of such a list leaves: its text, which ends at most 64 times as far on as the frames are long
+abbrev pub TitledRows : List ℕ → List ℕ → Listing → List ℕ → ℕ → ℕ → List ℕ → Type 0
+TitledRows title frames listing out at r left =
+    Inked (titled title (rows listing (framesOf frames))) out at r left × (r ≤ at + length title + 64 * length frames)

@@ -1,19 +1,19 @@
-// Lists of rows over frames, and a list behind its title.
+// Lists of rows over frames, and a list after its title.
 use super::row::Listing;
 use super::row::listed_size;
 use super::row::put_row;
+use buffer::put;
 use buffer::rest;
-use ink::put;
 ghost use mathlib.Core.Path.{_≡_};
-ghost use Prim.Native.Nat.{_+_, _*_, _<_, _≤_};
+ghost use Prim.Native.Nat.{_+_, _*_, _<_};
 ghost use lib.ListN.{length};
 ghost use Rattle.tree.specs.Images.{framesOf};
-ghost use Rattle.ink.specs.Inks.{Inked, InkedFrom};
-ghost use Rattle.rows.specs.Rows.{rows, titled};
+ghost use Rattle.buffer.specs.Inks.{InkedFrom, countLimit};
+ghost use Rattle.rows.specs.Rows.{rows, TitledRows};
 
 // The rows that frames give in a list.
 pub fn put_rows(frames: &[u8], listing: Listing, out: &mut [u8], at: usize) -> usize
-    requires { ⌜ at + 64 * length (now frames) < 4294967296 ⌝ }
+    requires { ⌜ at + 64 * length (now frames) < countLimit ⌝ }
     ensures { λ r. ⌜ InkedFrom (now (frames .entry)) (rows listing (framesOf (now (frames .entry)))) (now (out .entry)) at r (now (out .exit)) ⌝ }
 {
     let mut place = 0;
@@ -32,17 +32,17 @@ pub fn put_rows(frames: &[u8], listing: Listing, out: &mut [u8], at: usize) -> u
 
 // How long those rows are: the same walk, with no room to write.
 fn rows_size(frames: &[u8], listing: Listing) -> usize
-    requires { ⌜ 64 * length (now frames) < 4294967296 ⌝ }
+    requires { ⌜ 64 * length (now frames) < countLimit ⌝ }
     ensures { λ r. ⌜ r ≡ length (rows listing (framesOf (now (frames .entry)))) ⌝ }
 {
     let mut none = [0; 1];
     put_rows(frames, listing, &mut none[..0], 0)
 }
 
-// A list behind its title; an empty one has none.
+// A list after its title; an empty one has none.
 pub fn put_titled(title: &[u8], frames: &[u8], listing: Listing, out: &mut [u8], at: usize) -> usize
-    requires { ⌜ at + length (now title) + 64 * length (now frames) < 4294967296 ⌝ }
-    ensures { λ r. ⌜ Inked (titled (now (title .entry)) (rows listing (framesOf (now (frames .entry))))) (now (out .entry)) at r (now (out .exit)) × (r ≤ at + length (now (title .entry)) + 64 * length (now (frames .entry))) ⌝ }
+    requires { ⌜ at + length (now title) + 64 * length (now frames) < countLimit ⌝ }
+    ensures { λ r. ⌜ TitledRows (now (title .entry)) (now (frames .entry)) listing (now (out .entry)) at r (now (out .exit)) ⌝ }
 {
     if rows_size(frames, listing) == 0 {
         return at;

@@ -1,19 +1,19 @@
 // One row of a list: what a frame gives in it, and where the list ends.
 use buffer::part;
+use buffer::put;
+use buffer::put_byte;
 use image::Head;
 use image::Lengths;
 use image::head_of;
-use ink::put;
-use ink::put_byte;
 ghost use mathlib.Core.Path.{_≡_};
 ghost use mathlib.Core.List.{List, _++_};
 ghost use Prim.Native.Nat.{ℕ, _≤_, _<_};
 ghost use Rattle.image.specs.Frames.{Perhaps, node};
 ghost use Rattle.image.specs.Reading.{Small, noteIn, nodeIn, optionIn, flagIn, readFirst};
-ghost use Rattle.ink.specs.Ascii.{ascii};
-ghost use Rattle.ink.specs.Inks.{Inked, Countable};
+ghost use Rattle.buffer.specs.Ascii.{ascii};
+ghost use Rattle.buffer.specs.Inks.{Inked, Countable};
 ghost use Rattle.rows.specs.Rows.{blanks, shortThen, entry, nodeRow, rowOf, endsList};
-ghost use Rattle.rows.specs.Steps.{labelIn, Measured, rowBy, sizeBy};
+ghost use Rattle.rows.specs.Inner.{labelIn, Measured, rowBy, sizeBy};
 
 // What is listed.
 pub enum Listing {
@@ -27,7 +27,7 @@ pub enum Listing {
     Commands,
 }
 
-// The spaces behind a text of `used` bytes, up to the width.
+// The spaces after a text of `used` bytes, up to the width.
 fn pad(used: usize, width: usize, out: &mut [u8], at: usize) -> usize
     requires { ⌜ (width ≤ 20) × Countable (blanks width used) at ⌝ }
     ensures { λ r. ⌜ Inked (blanks width used) (now (out .entry)) at r (now (out .exit)) ⌝ }
@@ -40,7 +40,7 @@ fn pad(used: usize, width: usize, out: &mut [u8], at: usize) -> usize
     put(&spaces[..n], out, at)
 }
 
-// The rest of an entry behind a label of `used` bytes: its column, and the description.
+// The rest of an entry after a label of `used` bytes: its column, and the description.
 fn put_note(used: usize, width: usize, note: &[u8], out: &mut [u8], at: usize) -> usize
     requires { ⌜ (width ≤ 20) × Countable (blanks width used ++ ascii " " ++ now note) at ⌝ }
     ensures { λ r. ⌜ Inked (blanks width used ++ ascii " " ++ now (note .entry)) (now (out .entry)) at r (now (out .exit)) ⌝ }
@@ -50,7 +50,7 @@ fn put_note(used: usize, width: usize, note: &[u8], out: &mut [u8], at: usize) -
     put(note, out, start)
 }
 
-// `-s` and what stands behind it; nothing if there is no short.
+// `-s` and what stands after it; nothing if there is no short.
 fn put_short(short: usize, tail: &[u8], out: &mut [u8], at: usize) -> usize
     requires { ⌜ (short < 256) × Countable (shortThen short (now tail)) at ⌝ }
     ensures { λ r. ⌜ Inked (shortThen short (now (tail .entry))) (now (out .entry)) at r (now (out .exit)) ⌝ }

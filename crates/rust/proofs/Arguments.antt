@@ -15,7 +15,7 @@ use Rattle.text.specs.Unicode.{encode}
 use Rattle.text.specs.Decoding.{codesIn}
 use Rattle.image.specs.Frames.{Frame}
 use Rattle.lookup.specs.Definitions.{hasKey, hasShort}
-use Rattle.ink.specs.Ascii.{ascii}
+use Rattle.buffer.specs.Ascii.{ascii}
 use Rattle.table.specs.Map.{Map, put}
 use Rattle.arguments.specs.Meanings.{onMeans, isSome, isOption as isOptionKey}
 use Rattle.arguments.specs.Forms.{dash, valued, beforeEquals, longForm, formOf, positional, shorts}

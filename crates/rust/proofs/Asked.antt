@@ -13,7 +13,7 @@ use Rattle.text.specs.Apart.{white, ended, wordsAfter, wordsBetween}
 use Rattle.text.proofs.Encoding.{decode-complete}
 use Rattle.text.proofs.Pieces.{pieces-character, pieces-none}
 use Rattle.text.proofs.Prefix.{codes-are, codes-scalars, codes-whole}
-use Rattle.ink.specs.Ascii.{ascii}
+use Rattle.buffer.specs.Ascii.{ascii}
 use Rattle.message.specs.Debug.{debugBytes}
 use Rattle.shell.specs.Lines.{beginsHelp, helpWords}
 use Rattle.rust.specs.Shell.{debugChars}

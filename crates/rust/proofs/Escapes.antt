@@ -8,7 +8,7 @@ use lib.Dec.{eqb, ltb}
 use borrow.Author.Tests.{lt-ltb, le-ltb, ltb-true, ltb-false, eqb-true, eqb-false, ne-eqb}
 use Rattle.text.specs.Unicode.{encode, encodeAll}
 use Rattle.image.proofs.Fields.{both-first, both-second}
-use Rattle.ink.specs.Ascii.{ascii}
+use Rattle.buffer.specs.Ascii.{ascii}
 use Rattle.message.specs.Debug.{hexDigits, codeText, debugByte, debugBytes}
 use Rattle.message.proofs.Debugging.{debug-control, debug-plain}
 use Rattle.rust.specs.Shell.{hexIn, escapeUnicode, isPrintable, escapeDebug, debugChars}

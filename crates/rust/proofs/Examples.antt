@@ -7,14 +7,14 @@ use Rattle.buffer.specs.Compare.{order, sameBytes}
 use Rattle.text.specs.Unicode.{encode, encodeAll}
 use Rattle.text.specs.Decoding.{leastSecond, greatestSecond, within, decodeTwo, decodeThree, decodeFour, table, decodeFirst, piecesFrom, piecesOf, codesOf, codesIn, bytesAll, wellFormedLength}
 use Rattle.text.specs.Space.{whiteSpace, among, isWhiteSpace}
-use Rattle.text.specs.Apart.{behindRun, trimEnd, trimmed, wordsAfter, wordsBetween}
+use Rattle.text.specs.Apart.{afterRun, trimEnd, trimmed, wordsAfter, wordsBetween}
 use Rattle.frame.specs.Hex.{digitOf}
 use Rattle.frame.specs.Text.{numberBytes, textOf}
 use Rattle.frame.specs.Framed.{frameOf}
 use Rattle.frame.specs.Series.{runs as frameRuns}
 use Rattle.image.specs.Frames.{absent, present, option, flag}
 use Rattle.tree.specs.Forest.{Forest, bare, grown}
-use Rattle.ink.specs.Ascii.{ascii}
+use Rattle.buffer.specs.Ascii.{ascii}
 use Rattle.screen.specs.Decimal.{digitsIn, decimal}
 use Rattle.report.specs.Report.{optionFrame, flagFrame, reportOf}
 use Rattle.history.specs.Journal.{noEntries}
@@ -62,7 +62,7 @@ parses :
     × (parse tree (ascii "vm start -c x --") ≡ err (UnknownOption (ascii "--")))
     × (parse tree (ascii "vm start -c x -" ++ 0xC3 ∷ 0xA9 ∷ []) ≡ err (UnknownOption (ascii "-" ++ 0xC3 ∷ 0xA9 ∷ [])))
     × (parse tree (ascii "log a\\ ") ≡ ok (record { path = ascii "log" ∷ []; options = []; flags = []; positional = ascii "a " ∷ [] }))
-unfolding forest tree ascii sameBytes order insertNode get someOf optionDefs flagDefs commandsOf decodeFirst table decodeTwo decodeThree decodeFour leastSecond greatestSecond within piecesFrom piecesOf codesOf codesIn bytesAll encode encodeAll among whiteSpace isWhiteSpace behindRun trimEnd trimmed wordsAfter wordsBetween wellFormedLength closed tokenizeFrom tokenize insert containsKey deepest findCommand any find isOption isFlag isShortOption isShortFlag optionNameByShort flagNameByShort stripPrefix startsWith findEquals optionValue longName shortNames shortOrPositional long turn parseArgsFrom parseArgs validateRequired parseCommand parseTokens parse
+unfolding forest tree ascii sameBytes order insertNode get someOf optionDefs flagDefs commandsOf decodeFirst table decodeTwo decodeThree decodeFour leastSecond greatestSecond within piecesFrom piecesOf codesOf codesIn bytesAll encode encodeAll among whiteSpace isWhiteSpace afterRun trimEnd trimmed wordsAfter wordsBetween wellFormedLength closed tokenizeFrom tokenize insert containsKey deepest findCommand any find isOption isFlag isShortOption isShortFlag optionNameByShort flagNameByShort stripPrefix startsWith findEquals optionValue longName shortNames shortOrPositional long turn parseArgsFrom parseArgs validateRequired parseCommand parseTokens parse
 parses = (refl, refl, refl, refl, refl, refl, refl, refl)
 
 runs :
@@ -75,7 +75,7 @@ runs :
     × (enter all tree (ascii "help " ++ 0x01 ∷ 0x7f ∷ ascii "x") ≡ fails (UnknownCommand (0x01 ∷ 0x7f ∷ ascii "x")) (ascii "Error: UnknownCommand(\"\\u{1}\\u{7f}x\")\n"))
     × (enter (λ c. false) tree (ascii "help " ++ 0xC2 ∷ 0x80 ∷ []) ≡ fails (UnknownCommand (0xC2 ∷ 0x80 ∷ [])) (ascii "Error: UnknownCommand(\"\\u{80}\")\n"))
     × (enter all tree (0xFF ∷ []) ≡ garbled (ascii "Error: Input contains invalid UTF-8 characters\n"))
-unfolding forest tree ascii sameBytes order insertNode get someOf optionDefs flagDefs commandsOf all decodeFirst table decodeTwo decodeThree decodeFour leastSecond greatestSecond within piecesFrom piecesOf codesOf codesIn bytesAll encode encodeAll among whiteSpace isWhiteSpace behindRun trimEnd trimmed wordsAfter wordsBetween wellFormedLength closed tokenizeFrom tokenize insert containsKey deepest findCommand any find isOption isFlag isShortOption isShortFlag optionNameByShort flagNameByShort stripPrefix startsWith findEquals optionValue longName shortNames shortOrPositional long turn parseArgsFrom parseArgs validateRequired parseCommand parseTokens parse println leftIn join forEach forEachNode labelStr optionLine flagLine nodeLine helpLines nodeUnder showHelp availableLine showAvailableCommands isUtf8 utf8OrEmpty along nodeAt report handle executeCommand runCmdBytes digitOf hexIn escapeUnicode isPrintable escapeDebug debugChars debugError handleBuiltinCommands runLine enter
+unfolding forest tree ascii sameBytes order insertNode get someOf optionDefs flagDefs commandsOf all decodeFirst table decodeTwo decodeThree decodeFour leastSecond greatestSecond within piecesFrom piecesOf codesOf codesIn bytesAll encode encodeAll among whiteSpace isWhiteSpace afterRun trimEnd trimmed wordsAfter wordsBetween wellFormedLength closed tokenizeFrom tokenize insert containsKey deepest findCommand any find isOption isFlag isShortOption isShortFlag optionNameByShort flagNameByShort stripPrefix startsWith findEquals optionValue longName shortNames shortOrPositional long turn parseArgsFrom parseArgs validateRequired parseCommand parseTokens parse println leftIn join forEach forEachNode labelStr optionLine flagLine nodeLine helpLines nodeUnder showHelp availableLine showAvailableCommands isUtf8 utf8OrEmpty along nodeAt report handle executeCommand runCmdBytes digitOf hexIn escapeUnicode isPrintable escapeDebug debugChars debugError handleBuiltinCommands runLine enter
 runs = (refl, refl, refl, refl, refl, refl, refl, refl, refl)
 
 helps :
@@ -86,7 +86,7 @@ helps :
     × (enter all tree (ascii "\thelp ")
     ≡ prints
     (ascii "ArceOS Shell - Available Commands:\n\n  log             Change log level\n  vm              Machines\n    start         Start one\n\nBuilt-in Commands:\n  help            Show help information\n  help <command>  Show help for a specific command\n  clear           Clear the screen\n  exit/quit       Exit the shell\n\nTip: Use 'help <command>' to see detailed usage of a command\n"))
-unfolding forest tree ascii sameBytes order insertNode get someOf optionDefs flagDefs commandsOf all decodeFirst table decodeTwo decodeThree decodeFour leastSecond greatestSecond within piecesFrom piecesOf codesOf codesIn bytesAll encode encodeAll among whiteSpace isWhiteSpace behindRun trimEnd trimmed wordsAfter wordsBetween wellFormedLength closed tokenizeFrom tokenize insert containsKey deepest findCommand any find isOption isFlag isShortOption isShortFlag optionNameByShort flagNameByShort stripPrefix startsWith findEquals optionValue longName shortNames shortOrPositional long turn parseArgsFrom parseArgs validateRequired parseCommand parseTokens parse println leftIn join forEach forEachNode labelStr optionLine flagLine nodeLine helpLines nodeUnder showHelp availableLine showAvailableCommands isUtf8 utf8OrEmpty along nodeAt report handle executeCommand runCmdBytes digitOf hexIn escapeUnicode isPrintable escapeDebug debugChars debugError handleBuiltinCommands runLine enter
+unfolding forest tree ascii sameBytes order insertNode get someOf optionDefs flagDefs commandsOf all decodeFirst table decodeTwo decodeThree decodeFour leastSecond greatestSecond within piecesFrom piecesOf codesOf codesIn bytesAll encode encodeAll among whiteSpace isWhiteSpace afterRun trimEnd trimmed wordsAfter wordsBetween wellFormedLength closed tokenizeFrom tokenize insert containsKey deepest findCommand any find isOption isFlag isShortOption isShortFlag optionNameByShort flagNameByShort stripPrefix startsWith findEquals optionValue longName shortNames shortOrPositional long turn parseArgsFrom parseArgs validateRequired parseCommand parseTokens parse println leftIn join forEach forEachNode labelStr optionLine flagLine nodeLine helpLines nodeUnder showHelp availableLine showAvailableCommands isUtf8 utf8OrEmpty along nodeAt report handle executeCommand runCmdBytes digitOf hexIn escapeUnicode isPrintable escapeDebug debugChars debugError handleBuiltinCommands runLine enter
 helps = (refl, refl, refl)
 
 -- `help log` with U+3000 after it: no word is quoted, so that nothing is asked of the tables, and what is printed is the help of `log`. Of an unknown word only its own characters are asked.
@@ -95,7 +95,7 @@ quotes :
     × QuotedAsIs (λ c. false) tree (ascii "help log" ++ 0xE3 ∷ 0x80 ∷ 0x80 ∷ [])
     × (debugged tree (utf8OrEmpty (ascii "help vm" ++ 0xE3 ∷ 0x80 ∷ 0x80 ∷ ascii "stop")) ≡ ascii "stop")
     × (debugged tree (utf8OrEmpty (ascii "help " ++ 0xFF ∷ [])) ≡ [])
-unfolding forest tree ascii sameBytes order insertNode get someOf optionDefs flagDefs commandsOf all decodeFirst table decodeTwo decodeThree decodeFour leastSecond greatestSecond within piecesFrom piecesOf codesOf codesIn bytesAll encode encodeAll among whiteSpace isWhiteSpace behindRun trimEnd trimmed wordsAfter wordsBetween wellFormedLength closed tokenizeFrom tokenize insert containsKey deepest findCommand any find isOption isFlag isShortOption isShortFlag optionNameByShort flagNameByShort stripPrefix startsWith findEquals optionValue longName shortNames shortOrPositional long turn parseArgsFrom parseArgs validateRequired parseCommand parseTokens parse println leftIn join forEach forEachNode labelStr optionLine flagLine nodeLine helpLines nodeUnder showHelp availableLine showAvailableCommands isUtf8 utf8OrEmpty along nodeAt report handle executeCommand runCmdBytes digitOf hexIn escapeUnicode isPrintable escapeDebug debugChars debugError handleBuiltinCommands runLine enter allPrinted debugged
+unfolding forest tree ascii sameBytes order insertNode get someOf optionDefs flagDefs commandsOf all decodeFirst table decodeTwo decodeThree decodeFour leastSecond greatestSecond within piecesFrom piecesOf codesOf codesIn bytesAll encode encodeAll among whiteSpace isWhiteSpace afterRun trimEnd trimmed wordsAfter wordsBetween wellFormedLength closed tokenizeFrom tokenize insert containsKey deepest findCommand any find isOption isFlag isShortOption isShortFlag optionNameByShort flagNameByShort stripPrefix startsWith findEquals optionValue longName shortNames shortOrPositional long turn parseArgsFrom parseArgs validateRequired parseCommand parseTokens parse println leftIn join forEach forEachNode labelStr optionLine flagLine nodeLine helpLines nodeUnder showHelp availableLine showAvailableCommands isUtf8 utf8OrEmpty along nodeAt report handle executeCommand runCmdBytes digitOf hexIn escapeUnicode isPrintable escapeDebug debugChars debugError handleBuiltinCommands runLine enter allPrinted debugged
 quotes = (refl, refl, refl, refl)
 
 -- 01's session from the loop itself: three keys, then Enter with its line feed, the handler's call and the prompt. An Enter on an empty line runs nothing; of an ill-formed
@@ -114,5 +114,5 @@ sessions :
     ≡ screen (0x0A ∷ []) ∷ screen (ascii "Error: Input contains invalid UTF-8 characters\n") ∷ screen (ascii "axvisor:$ ") ∷ [])
     × (printedBy all tree (turnFrom (record { line = ascii "exit"; cursor = 4; mode = Typing; history = noEntries }) 0x0D .events) ≡ screen (0x0A ∷ []) ∷ screen (ascii "Goodbye!\n") ∷ exit ∷ [])
     × (endedBy all tree (turnFrom (record { line = ascii "exit"; cursor = 4; mode = Typing; history = noEntries }) 0x0D .events) ≡ true)
-unfolding forest tree ascii sameBytes order insertNode get someOf optionDefs flagDefs commandsOf all decodeFirst table decodeTwo decodeThree decodeFour leastSecond greatestSecond within piecesFrom piecesOf codesOf codesIn bytesAll encode encodeAll among whiteSpace isWhiteSpace behindRun trimEnd trimmed wordsAfter wordsBetween wellFormedLength closed tokenizeFrom tokenize insert containsKey deepest findCommand any find isOption isFlag isShortOption isShortFlag optionNameByShort flagNameByShort stripPrefix startsWith findEquals optionValue longName shortNames shortOrPositional long turn parseArgsFrom parseArgs validateRequired parseCommand parseTokens parse println leftIn join forEach forEachNode labelStr optionLine flagLine nodeLine helpLines nodeUnder showHelp availableLine showAvailableCommands isUtf8 utf8OrEmpty along nodeAt report handle executeCommand runCmdBytes digitOf hexIn escapeUnicode isPrintable escapeDebug debugChars debugError handleBuiltinCommands runLine enter textOf numberBytes frameOf frameRuns optionFrame flagFrame reportOf keysOf reportFor digitsIn decimal last pushed kept addCommand clearLineAndRedraw promptWithoutFs crlf other normal rustIn rustKey rustKeys shown printedBy endedBy
+unfolding forest tree ascii sameBytes order insertNode get someOf optionDefs flagDefs commandsOf all decodeFirst table decodeTwo decodeThree decodeFour leastSecond greatestSecond within piecesFrom piecesOf codesOf codesIn bytesAll encode encodeAll among whiteSpace isWhiteSpace afterRun trimEnd trimmed wordsAfter wordsBetween wellFormedLength closed tokenizeFrom tokenize insert containsKey deepest findCommand any find isOption isFlag isShortOption isShortFlag optionNameByShort flagNameByShort stripPrefix startsWith findEquals optionValue longName shortNames shortOrPositional long turn parseArgsFrom parseArgs validateRequired parseCommand parseTokens parse println leftIn join forEach forEachNode labelStr optionLine flagLine nodeLine helpLines nodeUnder showHelp availableLine showAvailableCommands isUtf8 utf8OrEmpty along nodeAt report handle executeCommand runCmdBytes digitOf hexIn escapeUnicode isPrintable escapeDebug debugChars debugError handleBuiltinCommands runLine enter textOf numberBytes frameOf frameRuns optionFrame flagFrame reportOf keysOf reportFor digitsIn decimal last pushed kept addCommand clearLineAndRedraw promptWithoutFs crlf other normal rustIn rustKey rustKeys shown printedBy endedBy
 sessions = (refl, refl, refl, refl, refl)

@@ -13,7 +13,7 @@ use Rattle.image.specs.Frames.{Frame}
 use Rattle.tree.specs.Forest.{Forest, flatten, orderly}
 use Rattle.tree.specs.Subtrees.{subtree}
 use Rattle.tree.specs.Commands.{Reached, descend}
-use Rattle.ink.specs.Ascii.{ascii}
+use Rattle.buffer.specs.Ascii.{ascii}
 use Rattle.message.specs.Messages.{message}
 use Rattle.message.specs.declared.error.ParseError.the-variants.{UnknownCommand as TellUnknown, UnknownOption as TellOption, MissingValue as TellValue, MissingRequired as TellRequired, NoHandler as TellHandler}
 use Rattle.arguments.specs.Meanings.{definitionsOf}

@@ -10,10 +10,10 @@ use Rattle.tree.specs.Images.{framesOf}
 use Rattle.tree.specs.Forest.{Forest, flatten, orderly}
 use Rattle.tree.proofs.Forests.{StandsFor}
 use Rattle.tree.specs.Subtrees.{subtree}
-use Rattle.ink.specs.Ascii.{ascii}
+use Rattle.buffer.specs.Ascii.{ascii}
 use Rattle.rows.specs.Rows.{rows, titled}
 use Rattle.rows.specs.declared.row.Listing.the-variants.{Options, Flags, Subcommands}
-use Rattle.layout.specs.Texts.{spaced, usageLine, lists, about, helpText, availableHead, availableFoot, availableText}
+use Rattle.help.specs.Texts.{spaced, usageLine, lists, about, helpText, availableHead, availableFoot, availableText}
 use Rattle.help.specs.Paths.{Led, found, lost, followed}
 use Rattle.help.specs.Answer.{replyBy, helpIn, helpOf}
 use Rattle.rust.specs.Std.{ifSome, isEmpty, join, println}

@@ -10,8 +10,8 @@ use lib.ListN.{length, drop, getD, getElem?}
 use borrow.Author.Tests.{lt-ltb, le-ltb, le-leb, lt-leb, ltb-true, ltb-false, eqb-true, eqb-false}
 use Rattle.buffer.proofs.Choices.{then-is, else-is}
 use Rattle.text.specs.Decoding.{Piece, piecesOf, bytesAll}
-use Rattle.text.specs.Apart.{white, behindRun, trimEnd, beforeEnd, trimmed, allWhite, blank}
-use Rattle.text.proofs.Sights.{some-bytes}
+use Rattle.text.specs.Apart.{white, afterRun, trimEnd, beforeEnd, trimmed, allWhite, blank}
+use Rattle.text.proofs.WhiteRuns.{some-bytes}
 use Rattle.history.specs.Entries.{mostEntries, newestIs, isNew, withRoom, added}
 use Rattle.history.specs.Journal.{Journal, noEntries, count, entryOf, offered, atPlace, recordOf, slotsOf, journalOf, good}
 use Rattle.history.specs.Answer.{addAnswer, recordBy, slotsBy, Addition}
@@ -36,13 +36,13 @@ solid-end : (p : Piece) (ps : List Piece) → white p ≡ false → isEmpty (byt
 solid-end p [] w = ap (λ (t : Bool). isEmpty (bytesAll (cond t [] (p ∷ [])))) w ∙ some-left (bytesAll (p ∷ [])) (some-bytes p [])
 solid-end p (q ∷ ps) w = some-left (bytesAll (p ∷ q ∷ ps)) (some-bytes p (q ∷ ps))
 
-trim-blank : (ps : List Piece) → isEmpty (bytesAll (trimEnd (behindRun true ps))) ≡ allWhite ps
-unfolding behindRun allWhite trimEnd bytesAll
+trim-blank : (ps : List Piece) → isEmpty (bytesAll (trimEnd (afterRun true ps))) ≡ allWhite ps
+unfolding afterRun allWhite trimEnd bytesAll
 trim-blank [] = refl
 trim-blank (p ∷ ps) = by (white p) refl (trim-blank ps)
   where
-    by : (t : Bool) → white p ≡ t → isEmpty (bytesAll (trimEnd (behindRun true ps))) ≡ allWhite ps
-        → isEmpty (bytesAll (trimEnd (cond (Bool·beq t true) (behindRun true ps) (p ∷ ps)))) ≡ cond t (allWhite ps) false
+    by : (t : Bool) → white p ≡ t → isEmpty (bytesAll (trimEnd (afterRun true ps))) ≡ allWhite ps
+        → isEmpty (bytesAll (trimEnd (cond (Bool·beq t true) (afterRun true ps) (p ∷ ps)))) ≡ cond t (allWhite ps) false
     by true w h = h
     by false w h = solid-end p (trimEnd ps) w
 

@@ -33,7 +33,7 @@ use Rattle.editor.specs.Answer.{stateOf, goodState, taken, refused, Pressing}
 use Rattle.editor.proofs.Fine.{Fine, fine-of, formed-nothing}
 use Rattle.editor.proofs.KeyTurns.{own-mode}
 use Rattle.editor.proofs.Called.{key-taken, state-after}
-use Rattle.ink.specs.Ascii.{ascii}
+use Rattle.buffer.specs.Ascii.{ascii}
 use Rattle.rust.specs.Std.{ifSome, isUtf8, println, utf8OrEmpty}
 use Rattle.rust.specs.History.{CommandHistory, addCommand, Stepped, clearLineAndRedraw}
 use Rattle.rust.specs.Loop.{InputState, Normal, EscapeSeq, Shell, Event, writes, runs, Loop, turned, firstBytes, lineRun, crlf, bsdl, other, normal, escape, recalledIn, keyA, keyB, keyC, keyD, escapeSeq, rustIn, rustKey}

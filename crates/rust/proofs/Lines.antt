@@ -7,7 +7,7 @@ use lib.Dec.{eqb, leb}
 use Rattle.image.specs.Frames.{Perhaps, option, flag}
 use Rattle.image.specs.Limits.{isName, isShort, optionally, definable, fair}
 use Rattle.image.proofs.Fields.{both-first, both-second}
-use Rattle.ink.specs.Ascii.{ascii}
+use Rattle.buffer.specs.Ascii.{ascii}
 use Rattle.rows.specs.Rows.{padded, shownAs, requiredMark, entry, optionRow, flagRow, nodeRow}
 use Rattle.rust.specs.Std.{leftIn, println}
 use Rattle.rust.specs.Tree.{CommandNode, descriptionOf, someOf, textOf}

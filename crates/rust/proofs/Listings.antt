@@ -11,7 +11,7 @@ use Rattle.image.specs.Frames.{Perhaps, Frame, node, option, flag}
 use Rattle.image.specs.Limits.{fair}
 use Rattle.image.proofs.Fields.{both-first, both-second}
 use Rattle.tree.specs.Forest.{Forest, bare, grown, flatten, definitionsOnly, orderly}
-use Rattle.ink.specs.Ascii.{ascii}
+use Rattle.buffer.specs.Ascii.{ascii}
 use Rattle.rows.specs.Rows.{optionRow, flagRow, nodeRow, rowOf, endsList, rows, titled}
 use Rattle.rows.specs.declared.row.Listing.{Listing}
 use Rattle.rows.specs.declared.row.Listing.the-variants.{Options, Flags, Subcommands, Commands as AllCommands}

@@ -10,12 +10,12 @@ use Rattle.words.specs.Tokens.{wordsOf}
 use Rattle.image.specs.Frames.{Frame, node, option, flag}
 use Rattle.tree.specs.Images.{framesOf}
 use Rattle.tree.specs.Forest.{Forest, flatten, orderly}
-use Rattle.tree.proofs.Wholes.{well-formed-frames}
-use Rattle.tree.proofs.Growing.{forest-obeys}
+use Rattle.tree.proofs.WellFormedImages.{well-formed-frames}
+use Rattle.tree.proofs.Flattening.{forest-obeys}
 use Rattle.tree.proofs.Forests.{StandsFor}
 use Rattle.tree.specs.Subtrees.{subtree}
 use Rattle.tree.specs.Commands.{Reached, descend, onSubtree}
-use Rattle.ink.specs.Ascii.{ascii}
+use Rattle.buffer.specs.Ascii.{ascii}
 use Rattle.arguments.specs.Arguments.{noneFound, Stand, go, wait, unknownOption, missingValue, args}
 use Rattle.parse.specs.Commands.{Outcome, parsed, fault, isMissing, missingRequired, onMissing, outcomeOf, concluded, parseIn, parseWords, parseLine}
 use Rattle.rust.specs.Tree.{optionDefs, get, commandsOf}

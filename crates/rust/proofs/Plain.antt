@@ -11,12 +11,12 @@ use borrow.Author.Tests.{leb-true, lt-ltb}
 use Rattle.buffer.proofs.Choices.{then-is}
 use Rattle.text.specs.Unicode.{encode}
 use Rattle.text.specs.Decoding.{codesIn, decodeFirst}
-use Rattle.text.proofs.Rows.{row-ascii}
+use Rattle.text.proofs.TableRows.{row-ascii}
 use Rattle.text.proofs.Prefix.{codes-step, codes-none}
 use Rattle.image.specs.Frames.{Perhaps, absent, present}
-use Rattle.image.specs.Limits.{shown, allShown, isName, isShort, optionally}
+use Rattle.image.specs.Limits.{isShown, allShown, isName, isShort, optionally}
 use Rattle.image.proofs.Fields.{both-first, both-second}
-use Rattle.ink.specs.Ascii.{ascii}
+use Rattle.buffer.specs.Ascii.{ascii}
 use Rattle.rows.specs.Rows.{blanks, padded, shortThen, shownAs}
 use Rattle.rust.specs.Std.{isEmpty, leftIn}
 use Rattle.rust.specs.Tree.{someOf, textOf}
@@ -47,13 +47,13 @@ codes-plain : (t : List ℕ) → Plain t → codesIn t ≡ t
 codes-plain t p = ap codesIn (sym (append-nil t)) ∙ codes-behind t [] p ∙ ap (λ (l : List ℕ). t ++ l) codes-none ∙ append-nil t
 
 -- what is shown is plain
-shown-plain : (low b : ℕ) → shown low b ≡ true → b < 0x80
+shown-plain : (low b : ℕ) → isShown low b ≡ true → b < 0x80
 shown-plain low b e = let h = leb-true b 0x7e (both-second (leb low b) _ e) in omega arith
 
 all-plain : (low : ℕ) (t : List ℕ) → allShown low t ≡ true → Plain t
 unfolding allShown
 all-plain low [] e = tt
-all-plain low (b ∷ t) e = (shown-plain low b (both-first (shown low b) _ e), all-plain low t (both-second (shown low b) _ e))
+all-plain low (b ∷ t) e = (shown-plain low b (both-first (isShown low b) _ e), all-plain low t (both-second (isShown low b) _ e))
 
 pub name-plain : (t : List ℕ) → isName t ≡ true → Plain t
 unfolding isName

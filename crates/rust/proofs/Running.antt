@@ -12,7 +12,7 @@ use Rattle.buffer.specs.Compare.{sameBytes}
 use Rattle.buffer.proofs.Choices.{then-is, true-is-not-false}
 use Rattle.text.specs.Unicode.{WellFormed}
 use Rattle.text.specs.Decoding.{piecesFrom, piecesOf, bytesAll, codesIn, wellFormedLength}
-use Rattle.text.specs.Apart.{behindRun, trimEnd, trimmed, blank, wordsBetween}
+use Rattle.text.specs.Apart.{afterRun, trimEnd, trimmed, blank, wordsBetween}
 use Rattle.text.proofs.Prefix.{prefix-fits, whole-is, is-whole}
 use Rattle.words.specs.Tokens.{wordsOf}
 use Rattle.image.specs.Frames.{Frame}
@@ -20,10 +20,10 @@ use Rattle.tree.specs.Images.{framesOf}
 use Rattle.tree.specs.Forest.{Forest, flatten}
 use Rattle.tree.proofs.Forests.{StandsFor}
 use Rattle.tree.specs.Subtrees.{subtree}
-use Rattle.ink.specs.Ascii.{ascii}
+use Rattle.buffer.specs.Ascii.{ascii}
 use Rattle.message.specs.Debug.{debugBytes, unknownHelp}
 use Rattle.message.specs.Messages.{illFormed, goodbye, clearScreen}
-use Rattle.layout.specs.Texts.{availableText}
+use Rattle.help.specs.Texts.{availableText}
 use Rattle.help.specs.Paths.{Led, found, lost, onSubtree, followed}
 use Rattle.help.specs.Answer.{replyBy, helpIn, helpOf}
 use Rattle.shell.specs.Lines.{silence, text, farewell, builtinOf, onBuiltin, beginsHelp, helpWords, helpSaid, execute, otherSaid, lineSaid, saidOf}
@@ -108,7 +108,7 @@ unfolding println illFormed ascii
 ill-is = refl
 
 empty-is-none : (printable : ℕ → Bool) (tree : Commands) → handleBuiltinCommands printable tree [] ≡ none
-unfolding handleBuiltinCommands trimmed piecesOf piecesFrom behindRun trimEnd bytesAll sameBytes startsWith ascii
+unfolding handleBuiltinCommands trimmed piecesOf piecesFrom afterRun trimEnd bytesAll sameBytes startsWith ascii
 empty-is-none printable tree = refl
 
 -- WELL-FORMED LINES

@@ -8,13 +8,13 @@ use Rattle.buffer.specs.Compare.{sameBytes}
 use Rattle.buffer.proofs.Choices.{then-is, else-is, true-is-not-false}
 use Rattle.text.specs.Unicode.{encodeAll}
 use Rattle.text.specs.Decoding.{piecesFrom, piecesOf, codesOf, codesIn, bytesAll, wellFormedLength}
-use Rattle.text.specs.Apart.{behindRun, trimEnd, trimmed, allWhite, blank}
+use Rattle.text.specs.Apart.{afterRun, trimEnd, trimmed, allWhite, blank}
 use Rattle.image.specs.Frames.{Frame}
 use Rattle.tree.specs.Images.{framesOf}
 use Rattle.tree.specs.Forest.{Forest}
 use Rattle.tree.specs.declared.check.Checked.the-variants.{Good}
 use Rattle.tree.proofs.Forests.{StandsFor, forest-good}
-use Rattle.ink.specs.Ascii.{ascii}
+use Rattle.buffer.specs.Ascii.{ascii}
 use Rattle.shell.specs.Lines.{Said, silence, text, farewell, handed as handsOver, builtinOf, beginsHelp, otherSaid, lineSaid, saidOf}
 use Rattle.editor.specs.Turns.{State, Kind, shows, enters, drops, Turn, lineFeed, turnOf}
 use Rattle.editor.specs.Answer.{stateOf, editorOf, historyOf, goodState}
@@ -53,7 +53,7 @@ said-ends (handsOver number report) = refl
 
 -- an empty line is not run by the Rust, and says nothing with us
 empty-silent : (frames : List Frame) → saidOf frames [] ≡ silence
-unfolding saidOf lineSaid otherSaid builtinOf beginsHelp wellFormedLength codesIn codesOf encodeAll trimmed blank allWhite piecesOf piecesFrom behindRun trimEnd bytesAll sameBytes ascii
+unfolding saidOf lineSaid otherSaid builtinOf beginsHelp wellFormedLength codesIn codesOf encodeAll trimmed blank allWhite piecesOf piecesFrom afterRun trimEnd bytesAll sameBytes ascii
 empty-silent frames = refl
 
 -- the prompt without the feature fs, and a turn with it

@@ -5,13 +5,13 @@ use mathlib.Core.List.{List, [], _∷_}
 use native.Mathlib.Omega.{arith}
 use Rattle.buffer.specs.Compare.{order, sameBytes}
 use Rattle.frame.specs.Text.{numberBytes, textOf as framed}
-use Rattle.image.specs.Frames.{Frame, node, option, flag, text, perhaps, encode}
+use Rattle.image.specs.Frames.{Frame, node, option, flag, text, perhaps, encodeFrame}
 use Rattle.image.specs.Limits.{allShown, isName, isNote, isShort, definable, fair}
 use Rattle.tree.specs.Images.{flat}
 use Rattle.tree.specs.Forest.{Forest, bare, grown, flatten, nodesIn, optionsIn, flagsIn, definitionsOnly, orderly}
 use Rattle.tree.proofs.Forests.{StandsFor}
-use Rattle.ink.specs.Ascii.{ascii}
-use Rattle.trees.specs.Commands.{ascii as letters, command, marked, baseTree, fsTree}
+use Rattle.buffer.specs.Ascii.{ascii}
+use Rattle.trees.specs.Commands.{command, marked, baseTree, fsTree}
 use Rattle.rust.specs.Tree.{Commands, insertNode, someOf, optionDefs, flagDefs, commandsOf}
 use Rattle.rust.specs.Base.{carryOut, placeIn, namesBy, buildBaseCmd, buildCommandTree}
 
@@ -29,7 +29,7 @@ pub record BuiltAs (frames : List Frame) (tree : Commands) : Type 0 where
   pub built : commandsOf forest ≡ tree
 
 pub base-built : BuiltAs baseTree (buildCommandTree false)
-unfolding gathered baseTree letters ascii command marked numberBytes framed text perhaps encode allShown isName isNote isShort definable fair flat flatten nodesIn optionsIn flagsIn definitionsOnly orderly sameBytes order insertNode someOf optionDefs flagDefs commandsOf carryOut placeIn namesBy buildBaseCmd buildCommandTree
+unfolding gathered baseTree ascii command marked numberBytes framed text perhaps encodeFrame allShown isName isNote isShort definable fair flat flatten nodesIn optionsIn flagsIn definitionsOnly orderly sameBytes order insertNode someOf optionDefs flagDefs commandsOf carryOut placeIn namesBy buildBaseCmd buildCommandTree
 base-built =
     record {
       forest = gathered baseTree .1;
@@ -38,7 +38,7 @@ base-built =
     }
 
 pub fs-built : BuiltAs fsTree (buildCommandTree true)
-unfolding gathered fsTree letters ascii command marked numberBytes framed text perhaps encode allShown isName isNote isShort definable fair flat flatten nodesIn optionsIn flagsIn definitionsOnly orderly sameBytes order insertNode someOf optionDefs flagDefs commandsOf carryOut placeIn namesBy buildBaseCmd buildCommandTree
+unfolding gathered fsTree ascii command marked numberBytes framed text perhaps encodeFrame allShown isName isNote isShort definable fair flat flatten nodesIn optionsIn flagsIn definitionsOnly orderly sameBytes order insertNode someOf optionDefs flagDefs commandsOf carryOut placeIn namesBy buildBaseCmd buildCommandTree
 fs-built =
     record {
       forest = gathered fsTree .1;

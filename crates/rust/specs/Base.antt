@@ -6,7 +6,7 @@ use mathlib.Core.Bool.{Bool, cond}
 use mathlib.Core.List.{List, [], _∷_, _++_}
 use mathlib.Core.Option.{none, some}
 use Rattle.buffer.specs.Compare.{sameBytes}
-use Rattle.ink.specs.Ascii.{ascii}
+use Rattle.buffer.specs.Ascii.{ascii}
 use Rattle.rust.specs.Tree.{FlagDef, CommandNode, commandNode, Commands, empty, insertNode}
 
 -- x.method(..)

@@ -3,7 +3,7 @@ use Prim.Native.Nat.{ℕ}
 use mathlib.Core.Bool.{Bool, true, false, cond}
 use mathlib.Core.List.{List, [], _∷_, _++_}
 use mathlib.Core.Option.{Option, none, some}
-use Rattle.ink.specs.Ascii.{ascii}
+use Rattle.buffer.specs.Ascii.{ascii}
 use Rattle.rust.specs.Std.{ifSome, isEmpty, join, leftIn, println, utf8}
 use Rattle.rust.specs.Tree.{OptionDef, FlagDef, CommandNode, Commands, empty, entry, subcommandsOf, descriptionOf, usageOf, optionsOf, flagsOf, get}
 use Rattle.rust.specs.Parser.{UnknownCommand, Result, ok, err}

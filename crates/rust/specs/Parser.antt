@@ -6,7 +6,7 @@ use mathlib.Core.Option.{Option, none, some}
 use lib.Dec.{eqb, ltb}
 use lib.ListN.{length, take, drop}
 use Rattle.buffer.specs.Compare.{sameBytes}
-use Rattle.ink.specs.Ascii.{ascii}
+use Rattle.buffer.specs.Ascii.{ascii}
 use Rattle.rust.specs.Std.{byCmp, charsOf, ifSome, isEmpty, isWhitespace, startsWith, stripPrefix, utf8}
 use Rattle.rust.specs.Tree.{OptionDef, CommandNode, Commands, subcommandsOf, optionsOf, flagsOf, get}
 

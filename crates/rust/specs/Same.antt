@@ -14,7 +14,7 @@ use Rattle.history.specs.declared.stepping.Step.{Step}
 use Rattle.keys.specs.declared.meaning.Mode.{Mode}
 use Rattle.keys.specs.declared.meaning.Mode.the-variants.{Typing, Escape, Sequence}
 use Rattle.editor.specs.Turns.{State}
-use Rattle.ink.specs.Ascii.{ascii}
+use Rattle.buffer.specs.Ascii.{ascii}
 use Rattle.image.specs.Limits.{both}
 use Rattle.table.specs.Map.{Map}
 use Rattle.report.specs.Report.{reportOf}

@@ -6,7 +6,7 @@ use mathlib.Core.Option.{Option, none, some}
 use lib.Dec.{ltb, eqb}
 use lib.ListN.{drop}
 use Rattle.buffer.specs.Compare.{sameBytes}
-use Rattle.ink.specs.Ascii.{ascii}
+use Rattle.buffer.specs.Ascii.{ascii}
 use Rattle.rust.specs.Std.{charsOf, hexDigit, ifSome, isEmpty, isUtf8, join, println, splitWhitespace, startsWith, trim, utf8, utf8OrEmpty}
 use Rattle.rust.specs.Tree.{CommandNode, Commands, handlerOf, subcommandsOf, get}
 use Rattle.rust.specs.Parser.{ParsedCommand, ParseError, UnknownCommand, UnknownOption, MissingValue, MissingRequiredOption, NoHandler, Result, ok, err, parse}

@@ -13,7 +13,7 @@ use Rattle.text.specs.Space.{isWhiteSpace}
 use Rattle.text.specs.Apart.{trimmed, wordsBetween}
 use Rattle.frame.specs.Hex.{digitOf}
 use Rattle.screen.specs.Decimal.{decimal}
-use Rattle.ink.specs.Ascii.{ascii}
+use Rattle.buffer.specs.Ascii.{ascii}
 use Rattle.table.specs.Map.{onOrder}
 
 -- if let Some(x) = .. { .. } else { .. }

@@ -1,16 +1,16 @@
--- Laws of a redraw: its length, its parts written one behind the other, each answer, and that there is no second one.
+-- Laws of a redraw: its length, its parts written one after the other, each answer, and that there is no second one.
 use Prim.Native.Nat.{ℕ, zero, suc, _+_, _-_, _^_, _≤_, _<_, min}
 use mathlib.Core.Path.{_≡_, refl, sym, ap, _∙_}
 use mathlib.Core.List.{List, [], _∷_, _++_, append-assoc}
 use native.Mathlib.Omega.{arith}
 use lib.ListN.{length, length-append}
 use borrow.Author.Tests.{lt-ltb, le-ltb}
-use Rattle.buffer.specs.Write.{over, Pushed}
+use Rattle.buffer.specs.Write.{over, overIfFits, Pushed}
 use Rattle.buffer.proofs.Choices.{then-is, else-is}
 use Rattle.buffer.proofs.Lending.{overAt-nothing}
 use Rattle.buffer.proofs.Writing.{pushed-both, pushed-front}
 use Rattle.screen.specs.Decimal.{decimal}
-use Rattle.screen.specs.Redraw.{clearLine, moveBack, redraw, greatest, roomAnswer, leavesBy, Redraw}
+use Rattle.screen.specs.Redraw.{clearLine, moveBack, redraw, greatestNumber, roomAnswer, Redraw}
 use Rattle.screen.specs.declared.line.Redrawn.{Redrawn}
 use Rattle.screen.specs.declared.line.Redrawn.the-variants.{Shown, NoRoom}
 use Rattle.screen.proofs.Numerals.{decimal-most}
@@ -74,13 +74,12 @@ module _ (prompt content : List ℕ) (cursor : ℕ) where
       pushed-front _ out left r four .bytes ∙ ap (λ (x : List ℕ). over x out) (append-assoc (clearLine ++ prompt) content m ∙ append-assoc clearLine prompt (content ++ m))
 
   -- each answer, with what it leaves
-  module _ (out : List ℕ) (n : ℕ) (e : n ≡ min (length (redraw prompt content cursor)) greatest) where
+  module _ (out : List ℕ) (n : ℕ) (e : n ≡ min (length (redraw prompt content cursor)) greatestNumber) where
     pub no-room : length out < n → Redraw prompt content cursor out (NoRoom n) out
-    unfolding roomAnswer
+    unfolding roomAnswer overIfFits
     no-room h =
         let l : length out < length (redraw prompt content cursor) = omega arith in
-        let k : roomAnswer (length (redraw prompt content cursor)) (length out) ≡ NoRoom n = then-is _ _ _ (lt-ltb _ _ l) ∙ ap NoRoom (sym e) in
-        record { answer = sym k; bytes = sym (ap (λ (r : Redrawn). leavesBy r (redraw prompt content cursor) out) k) }
+        record { answer = sym (then-is _ _ _ (lt-ltb _ _ l) ∙ ap NoRoom (sym e)); bytes = sym (then-is _ _ _ (lt-ltb _ _ l)) }
 
     -- a buffer has fewer than 2^63 bytes, so a length that it has is not one past the range
     pub enough : length out < 2 ^ 63 → n ≤ length out → n ≡ length (redraw prompt content cursor)
@@ -90,15 +89,14 @@ module _ (prompt content : List ℕ) (cursor : ℕ) where
     room h k = let m = enough h k in let l = redraw-length in omega arith
 
     pub shown : (left : List ℕ) → length out < 2 ^ 63 → n ≤ length out → left ≡ over (redraw prompt content cursor) out → Redraw prompt content cursor out (Shown n) left
-    unfolding roomAnswer
+    unfolding roomAnswer overIfFits
     shown left h l w =
         let m = enough h l in
         let f : length (redraw prompt content cursor) ≤ length out = omega arith in
-        let k : roomAnswer (length (redraw prompt content cursor)) (length out) ≡ Shown n = else-is _ _ _ (le-ltb _ _ f) ∙ ap Shown (sym m) in
-        record { answer = sym k; bytes = w ∙ sym (ap (λ (r : Redrawn). leavesBy r (redraw prompt content cursor) out) k) }
+        record { answer = sym (else-is _ _ _ (le-ltb _ _ f) ∙ ap Shown (sym m)); bytes = w ∙ sym (else-is _ _ _ (le-ltb _ _ f)) }
 
   -- the length needed is exact where the texts and a move fit 64 bits, as all that the editor holds do
-  pub needed-exact : length prompt + length content ≤ 2 ^ 63 → min (length (redraw prompt content cursor)) greatest ≡ length (redraw prompt content cursor)
+  pub needed-exact : length prompt + length content ≤ 2 ^ 63 → min (length (redraw prompt content cursor)) greatestNumber ≡ length (redraw prompt content cursor)
   needed-exact h = let m = move-few (length content - cursor) (omega arith) in let l = redraw-length in omega arith
 
 -- no second answer satisfies the contract

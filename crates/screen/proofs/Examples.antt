@@ -16,7 +16,7 @@ log : redraw prompt (0x6c ∷ 0x6f ∷ 0x67 ∷ []) 3
 unfolding prompt redraw moveBack
 log = refl
 
--- no prompt and `log`, the cursor behind the `l`: ESC `[2D` at the end
+-- no prompt and `log`, the cursor after the `l`: ESC `[2D` at the end
 inside : redraw [] (0x6c ∷ 0x6f ∷ 0x67 ∷ []) 1 ≡ 0x0d ∷ 0x1b ∷ 0x5b ∷ 0x32 ∷ 0x4b ∷ 0x6c ∷ 0x6f ∷ 0x67 ∷ 0x1b ∷ 0x5b ∷ 0x32 ∷ 0x44 ∷ []
 unfolding redraw moveBack decimal digitsIn
 inside = refl

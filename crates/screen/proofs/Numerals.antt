@@ -11,7 +11,7 @@ use borrow.Author.Tests.{lt-ltb, le-ltb, ltb-true, ltb-false}
 use Rattle.buffer.specs.Write.{Pushed}
 use Rattle.buffer.proofs.Choices.{then-is, else-is}
 use Rattle.buffer.proofs.Writing.{pushed-both}
-use Rattle.screen.specs.Decimal.{digitsIn, decimal, valueBehind, valueOf}
+use Rattle.screen.specs.Decimal.{digitsIn, decimal, valueAfter, digitsValue}
 
 -- the bound on the number of digits does not matter
 enough : (j k n : ℕ) → n ≤ j → n ≤ k → digitsIn j n ≡ digitsIn k n
@@ -22,7 +22,7 @@ enough (suc j) zero n h l = then-is _ _ _ (lt-ltb n 10 (omega arith))
 enough (suc j) (suc k) n h l =
     ap (λ (s : List ℕ). cond (ltb n 10) ((0x30 + n) ∷ []) (s ++ ((0x30 + n % 10) ∷ []))) (enough j k (n / 10) (omega arith) (omega arith))
 
--- a number below ten is one digit, and any other has a last one behind those of its tenth
+-- a number below ten is one digit, and any other has a last one after those of its tenth
 pub decimal-step : (n : ℕ) → decimal n ≡ cond (ltb n 10) ((0x30 + n) ∷ []) (decimal (n / 10) ++ ((0x30 + n % 10) ∷ []))
 unfolding decimal digitsIn
 decimal-step zero = refl
@@ -50,23 +50,23 @@ module _ (P : ℕ → Type 0) (one : (n : ℕ) → n < 10 → P n) (more : (n : 
   by-digits n = within n n (omega arith)
 
 -- the value of digits and one more
-value-snoc : (v : ℕ) (s : List ℕ) (d : ℕ) → valueBehind v (s ++ (d ∷ [])) ≡ valueBehind v s * 10 + (d - 0x30)
-unfolding valueBehind
+value-snoc : (v : ℕ) (s : List ℕ) (d : ℕ) → valueAfter v (s ++ (d ∷ [])) ≡ valueAfter v s * 10 + (d - 0x30)
+unfolding valueAfter
 value-snoc v [] d = refl
 value-snoc v (x ∷ s) d = value-snoc (v * 10 + (x - 0x30)) s d
 
 -- THE VALUE of a number's digits is the number
-pub decimal-value : (n : ℕ) → valueOf (decimal n) ≡ n
-unfolding valueOf valueBehind
-decimal-value = by-digits (λ n. valueOf (decimal n) ≡ n) one more
+pub decimal-value : (n : ℕ) → digitsValue (decimal n) ≡ n
+unfolding digitsValue valueAfter
+decimal-value = by-digits (λ n. digitsValue (decimal n) ≡ n) one more
   where
-    one : (n : ℕ) → n < 10 → valueOf (decimal n) ≡ n
-    one n h = ap valueOf (decimal-one n h) ∙ omega arith
+    one : (n : ℕ) → n < 10 → digitsValue (decimal n) ≡ n
+    one n h = ap digitsValue (decimal-one n h) ∙ omega arith
 
-    more : (n : ℕ) → 10 ≤ n → valueOf (decimal (n / 10)) ≡ n / 10 → valueOf (decimal n) ≡ n
+    more : (n : ℕ) → 10 ≤ n → digitsValue (decimal (n / 10)) ≡ n / 10 → digitsValue (decimal n) ≡ n
     more n h e =
         let s = value-snoc 0 (decimal (n / 10)) (0x30 + n % 10) in
-        ap valueOf (decimal-more n h) ∙ s ∙ ap (λ (v : ℕ). v * 10 + (0x30 + n % 10 - 0x30)) e ∙ omega arith
+        ap digitsValue (decimal-more n h) ∙ s ∙ ap (λ (v : ℕ). v * 10 + (0x30 + n % 10 - 0x30)) e ∙ omega arith
 
 -- ASCII digits, and texts of them
 abbrev pub Digit : ℕ → Type 0
@@ -117,8 +117,8 @@ decimal-lead = by-digits (λ n. 0 < n → 0x30 < getD (decimal n) 0 0) (λ n h p
         rw (decimal-more n h, List·getD-append (decimal (n / 10)) ((0x30 + n % 10) ∷ []) 0 0 (decimal-some (n / 10))) (k (omega arith))
 
 -- NO OTHER digits without a leading zero have this value
-behind : (v : ℕ) (s : List ℕ) → 0 < v → Digits s → decimal (valueBehind v s) ≡ decimal v ++ s
-unfolding valueBehind
+behind : (v : ℕ) (s : List ℕ) → 0 < v → Digits s → decimal (valueAfter v s) ≡ decimal v ++ s
+unfolding valueAfter
 behind v [] h d = sym (append-nil (decimal v))
 behind v (x ∷ s) h d =
     let w : ℕ = v * 10 + (x - 0x30) in
@@ -137,16 +137,16 @@ behind v (x ∷ s) h d =
     lastDigit : (v x : ℕ) → Digit x → 0x30 + (v * 10 + (x - 0x30)) % 10 ≡ x
     lastDigit v x d = omega arith
 
-pub decimal-only : (d : ℕ) (s : List ℕ) → 0x30 < d → Digits (d ∷ s) → decimal (valueOf (d ∷ s)) ≡ d ∷ s
-unfolding valueOf valueBehind
+pub decimal-only : (d : ℕ) (s : List ℕ) → 0x30 < d → Digits (d ∷ s) → decimal (digitsValue (d ∷ s)) ≡ d ∷ s
+unfolding digitsValue valueAfter
 decimal-only d s h k =
     let first : 0 * 10 + (d - 0x30) ≡ d - 0x30 = omega arith in
     let back : 0x30 + (d - 0x30) ≡ d = omega arith in
-    ap (λ (v : ℕ). decimal (valueBehind v s)) first
+    ap (λ (v : ℕ). decimal (valueAfter v s)) first
     ∙ behind (d - 0x30) s (omega arith) (k .1)
     ∙ ap (λ (l : List ℕ). l ++ s) (decimal-one (d - 0x30) (omega arith) ∙ ap (λ (n : ℕ). n ∷ []) back)
 
--- the digits written one behind the other
+-- the digits written one after the other
 module _ (n : ℕ) (out : List ℕ) (at : ℕ) where
   pub pushed-one : (left : List ℕ) (r : ℕ) → n < 10 → Pushed ((0x30 + n) ∷ []) out at r left → Pushed (decimal n) out at r left
   pushed-one left r h p = rw (decimal-one n h) p

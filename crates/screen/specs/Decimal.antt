@@ -13,10 +13,10 @@ digitsIn (suc most) n = let longer = digitsIn most (n / 10) ++ ((0x30 + n % 10) 
 unfoldable pub decimal : ℕ → List ℕ
 decimal n = digitsIn n n
 
--- the value of digits behind digits whose value is v, and of digits alone
-unfoldable pub valueBehind : ℕ → List ℕ → ℕ
-valueBehind v [] = v
-valueBehind v (d ∷ s) = valueBehind (v * 10 + (d - 0x30)) s
+-- the value of digits after digits whose value is v, and of digits alone
+unfoldable pub valueAfter : ℕ → List ℕ → ℕ
+valueAfter v [] = v
+valueAfter v (d ∷ s) = valueAfter (v * 10 + (d - 0x30)) s
 
-unfoldable pub valueOf : List ℕ → ℕ
-valueOf s = valueBehind 0 s
+unfoldable pub digitsValue : List ℕ → ℕ
+digitsValue s = valueAfter 0 s

@@ -5,7 +5,7 @@ use mathlib.Core.Bool.{cond}
 use mathlib.Core.List.{List, [], _∷_, _++_}
 use lib.Dec.{ltb}
 use lib.ListN.{length}
-use Rattle.buffer.specs.Write.{over}
+use Rattle.buffer.specs.Write.{overIfFits}
 use Rattle.screen.specs.Decimal.{decimal}
 use Rattle.screen.specs.declared.line.Redrawn.{Redrawn}
 use Rattle.screen.specs.declared.line.Redrawn.the-variants.{Shown, NoRoom}
@@ -19,26 +19,21 @@ unfoldable pub moveBack : ℕ → List ℕ
 moveBack zero = []
 moveBack (suc n) = 0x1B ∷ 0x5B ∷ (decimal (suc n) ++ (0x44 ∷ []))
 
--- the bytes of a redraw; a cursor at the content's end or past it has nothing behind it
+-- the bytes of a redraw; a cursor at the content's end or past it has nothing after it
 unfoldable pub redraw : List ℕ → List ℕ → ℕ → List ℕ
 redraw prompt content cursor = clearLine ++ (prompt ++ (content ++ moveBack (length content - cursor)))
 
 -- the greatest number of 64 bits: a length needed that is above it is given as this one
-abbrev pub greatest : ℕ
-greatest = 0xFFFFFFFFFFFFFFFF
+abbrev pub greatestNumber : ℕ
+greatestNumber = 0xFFFFFFFFFFFFFFFF
 
 -- the answer for n bytes and a buffer of `room` bytes
 unfoldable pub roomAnswer : ℕ → ℕ → Redrawn
-roomAnswer n room = cond (ltb room n) (NoRoom (min n greatest)) (Shown n)
-
--- a refusal writes nothing; what is shown stands in the first bytes, and the rest stays
-abbrev pub leavesBy : Redrawn → List ℕ → List ℕ → List ℕ
-leavesBy (Shown n) bytes out = over bytes out
-leavesBy (NoRoom n) bytes out = out
+roomAnswer n room = cond (ltb room n) (NoRoom (min n greatestNumber)) (Shown n)
 
 pub record Redraw (prompt content : List ℕ) (cursor : ℕ) (out : List ℕ) (r : Redrawn) (left : List ℕ) : Type 0 where
   pub answer : r ≡ roomAnswer (length (redraw prompt content cursor)) (length out)
-  pub bytes : left ≡ leavesBy (roomAnswer (length (redraw prompt content cursor)) (length out)) (redraw prompt content cursor) out
+  pub bytes : left ≡ overIfFits (redraw prompt content cursor) out
 
 -- the refusal's number in 01 (0: none), and the value that goes with it
 abbrev pub number : Redrawn → ℕ

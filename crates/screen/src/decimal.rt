@@ -16,7 +16,7 @@ pub fn decimal_size(n: usize) -> usize
     decimal_size(n / 10) + 1
 }
 
-// Writes the digits of n at the place `at` and returns the place behind them.
+// Writes the digits of n at the place `at` and returns the place after them.
 pub fn push_decimal(n: usize, out: &mut [u8], at: usize) -> usize
     requires { ⌜ at + length (decimal n) ≤ length (now out) ⌝ }
     ensures { λ r. ⌜ Pushed (decimal n) (now (out .entry)) at r (now (out .exit)) ⌝ }

@@ -7,7 +7,7 @@ ghost use mathlib.Core.Path.{_≡_};
 ghost use Prim.Native.Nat.{_+_, _-_, _≤_, min};
 ghost use lib.ListN.{length};
 ghost use Rattle.buffer.specs.Write.{Pushed};
-ghost use Rattle.screen.specs.Redraw.{moveBack, redraw, greatest, Redraw};
+ghost use Rattle.screen.specs.Redraw.{moveBack, redraw, greatestNumber, Redraw};
 
 // What a redraw answers.
 pub enum Redrawn {
@@ -17,7 +17,7 @@ pub enum Redrawn {
     NoRoom(usize),
 }
 
-// How many places behind the cursor the content ends.
+// How many places after the cursor the content ends.
 fn behind(content: &[u8], cursor: usize) -> usize
     ensures { λ r. ⌜ r ≡ length (now (content .entry)) - cursor ⌝ }
 {
@@ -39,7 +39,7 @@ fn move_size(n: usize) -> usize
 
 // How many bytes the redraw takes. Two slices of nearly 2^63 bytes each come to more than 64 bits hold: the sum stops there.
 fn redraw_size(prompt: &[u8], content: &[u8], cursor: usize) -> usize
-    ensures { λ r. ⌜ r ≡ min (length (redraw (now (prompt .entry)) (now (content .entry)) cursor)) greatest ⌝ }
+    ensures { λ r. ⌜ r ≡ min (length (redraw (now (prompt .entry)) (now (content .entry)) cursor)) greatestNumber ⌝ }
 {
     let texts = prompt.len() + content.len();
     let rest = move_size(behind(content, cursor)) + 5;
@@ -49,7 +49,7 @@ fn redraw_size(prompt: &[u8], content: &[u8], cursor: usize) -> usize
     texts + rest
 }
 
-// Writes the move by n places back at the place `at` and returns the place behind it.
+// Writes the move by n places back at the place `at` and returns the place after it.
 fn push_move(n: usize, out: &mut [u8], at: usize) -> usize
     requires { ⌜ at + length (moveBack n) ≤ length (now out) ⌝ }
     ensures { λ r. ⌜ Pushed (moveBack n) (now (out .entry)) at r (now (out .exit)) ⌝ }

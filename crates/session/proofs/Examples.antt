@@ -2,21 +2,24 @@
 use Prim.Native.Nat.{ℕ}
 use mathlib.Core.Path.{_≡_, refl}
 use mathlib.Core.List.{List, [], _∷_, _++_}
+use Rattle.buffer.specs.Write.{overIfFits}
 use Rattle.text.specs.Unicode.{encode, encodeAll}
-use Rattle.text.specs.Decoding.{leastSecond, greatestSecond, within, decodeTwo, decodeThree, decodeFour, table, decodeFirst, letter, letterHead, letterFirst, piecesFrom, piecesOf, bytesAll, codesOf, codesIn, wellFormedLength}
-use Rattle.text.specs.Space.{whiteSpace, among, isWhiteSpace, lowWhite, gap}
-use Rattle.text.specs.Apart.{runOf, behindRun, trimEnd, trimmed, allWhite, blank, wordsAfter, wordsBetween, nextWord}
+use Rattle.text.specs.Decoding.{leastSecond, greatestSecond, within, decodeTwo, decodeThree, decodeFour, table, decodeFirst, letter, letterFirst, piecesFrom, piecesOf, bytesAll, codesOf, codesIn, wellFormedLength}
+use Rattle.text.specs.Inner.{letterHead, lowWhite, gap}
+use Rattle.text.specs.Space.{whiteSpace, among, isWhiteSpace}
+use Rattle.text.specs.Apart.{runOf, afterRun, trimEnd, trimmed, allWhite, blank, wordsAfter, wordsBetween, nextWord}
 use Rattle.buffer.specs.Compare.{order, sameBytes}
 use Rattle.frame.specs.Text.{Bytes, numberBytes, numberOf, textOf, readText}
 use Rattle.frame.specs.Framed.{frameOf, frameFirst}
 use Rattle.frame.specs.Series.{textsFrom, textsIn, runs}
-use Rattle.frame.specs.House.{houseLine, ended, digitsOf, readDigits, readHouse, houseLeaves, writeHouse, lineLeaves}
+use Rattle.frame.specs.House.{houseLine, ended, digitsOf, readDigits, readHouse, houseLeaves, writeHouse}
 use Rattle.frame.specs.Hex.{digitOf, hexOf, digitValue, pairOf, unhex, firstBad}
-use Rattle.image.specs.Frames.{text, perhaps, encode as encodeImage}
-use Rattle.image.specs.Reading.{span, nodeLengths, definitionLengths, nodeFirst, optionFirst, flagFirst, headFirst, perhapsIn, nodeIn, optionIn, flagIn, definedIn, frameFirst as frameFirstImage, readFirst}
+use Rattle.image.specs.Frames.{text, perhaps, encodeFrame}
+use Rattle.image.specs.Reading.{span, nodeLengths, definitionLengths, nodeFirst, optionFirst, flagFirst, headFirst, perhapsIn, nodeIn, optionIn, flagIn, strictFirst, readFirst}
+use Rattle.image.specs.Inner.{definedIn}
 use Rattle.image.specs.Limits.{allShown, isName, isNote, isShort, definable, fair}
 use Rattle.tree.specs.Images.{itemsFrom, items, framesIn, framesOf, flat}
-use Rattle.tree.specs.Rules.{rises, follows, obeys, after, judge, obeyAll, checkTree}
+use Rattle.tree.specs.Rules.{rises, follows, obeys, after, judgeItems, obeyAll, checkTree}
 use Rattle.lookup.specs.Subtrees.{treeNamed}
 use Rattle.tree.specs.Subtrees.{upTo, onFrom, subtree}
 use Rattle.words.specs.Tokens.{roleOf, tokensFrom, tokens, wordsOf, wordFrames}
@@ -28,9 +31,9 @@ use Rattle.report.specs.Report.{optionFrame, flagFrame, reportOf, faultOf, dash
 use Rattle.parse.specs.Commands.{isMissing, missingRequired, concluded, parseIn, parseWords, parseLine}
 use Rattle.tree.specs.Commands.{descend}
 use Rattle.parse.specs.Answer.{toldIn, outcomeAnswer, outcomeLeaves, parseAnswer, parseLeaves}
-use Rattle.ink.specs.Ascii.{ascii}
+use Rattle.buffer.specs.Ascii.{ascii}
 use Rattle.shell.specs.Lines.{builtinOf, beginsHelp, helpWords, faultMessage, joined, handlerOf, carried, executeIn, execute, otherSaid, lineSaid, saidOf}
-use Rattle.screen.specs.Decimal.{digitsIn, decimal, valueBehind, valueOf}
+use Rattle.screen.specs.Decimal.{digitsIn, decimal, valueAfter, digitsValue}
 use Rattle.screen.specs.Redraw.{moveBack, redraw, roomAnswer}
 use Rattle.text.specs.Decoding.{wellFormed}
 use Rattle.history.specs.Entries.{mostEntries, newestIs, isNew, withRoom, added, usable, sound}
@@ -39,7 +42,7 @@ use Rattle.history.specs.Journal.{recordOf, slotsOf, journalOf}
 use Rattle.keys.specs.Keys.{typed, escaped, sequenced}
 use Rattle.editor.specs.Turns.{redrawn, enter, erase, insert, up, onPlace, down, right, left, turnOf, afterKeys}
 use Rattle.session.specs.Prints.{wide, frameOf as frameOfSession, linesOf, shown, prompt, answered, leaves, keyPrints, keyEnds}
-use Rattle.growth.specs.Growth.{oneFrame, takes}
+use Rattle.tree.specs.Growth.{oneFrame, takes}
 use Rattle.session.specs.Lines.{beginning, formOf as formOfSession, lineForm, takeForm, takeLine, pressKey, pressKeys, onTaking, lineCourse, session}
 
 input : List (List ℕ)
@@ -55,5 +58,5 @@ output =
     ++ ascii "2261787669736f723a2420\n"))))
 
 in-full : linesOf (session beginning input) ≡ output
-unfolding encode encodeAll leastSecond greatestSecond within decodeTwo decodeThree decodeFour table decodeFirst letter letterHead letterFirst piecesFrom piecesOf bytesAll codesOf codesIn wellFormedLength whiteSpace among isWhiteSpace lowWhite gap runOf behindRun trimEnd trimmed allWhite blank wordsAfter wordsBetween nextWord order sameBytes Bytes numberBytes numberOf textOf readText frameOf frameFirst textsFrom textsIn runs houseLine ended digitsOf readDigits readHouse houseLeaves writeHouse lineLeaves digitOf hexOf digitValue pairOf unhex firstBad text perhaps encodeImage span nodeLengths definitionLengths nodeFirst optionFirst flagFirst headFirst perhapsIn nodeIn optionIn flagIn definedIn frameFirstImage readFirst allShown isName isNote isShort definable fair itemsFrom items framesIn framesOf flat rises follows obeys after judge obeyAll checkTree upTo onFrom subtree treeNamed roleOf tokensFrom tokens wordsOf wordFrames put look has amongTable putWithin definitionsOf definitionsAt firstName meaning isOption beforeEquals longForm formOf withOption withFlag withPositional shortSteps args optionFrame flagFrame reportOf faultOf dashed reportAnswer reportLeaves descend isMissing missingRequired concluded parseIn parseWords parseLine toldIn outcomeAnswer outcomeLeaves parseAnswer parseLeaves ascii builtinOf beginsHelp helpWords faultMessage joined handlerOf carried executeIn execute otherSaid lineSaid saidOf digitsIn decimal valueBehind valueOf moveBack redraw roomAnswer mostEntries newestIs isNew withRoom added wellFormed usable sound limit padded holding lineOf goodLine inserted erased content redrawn enter erase insert typed escaped sequenced up onPlace down right left turnOf afterKeys recordOf slotsOf journalOf wide frameOfSession linesOf shown prompt answered leaves keyPrints keyEnds formOfSession lineForm oneFrame takes takeForm takeLine pressKey pressKeys onTaking lineCourse session input output
+unfolding encode encodeAll leastSecond greatestSecond within decodeTwo decodeThree decodeFour table decodeFirst letter letterHead letterFirst piecesFrom piecesOf bytesAll codesOf codesIn wellFormedLength whiteSpace among isWhiteSpace lowWhite gap runOf afterRun trimEnd trimmed allWhite blank wordsAfter wordsBetween nextWord order sameBytes Bytes numberBytes numberOf textOf readText frameOf frameFirst textsFrom textsIn runs houseLine ended digitsOf readDigits readHouse houseLeaves writeHouse overIfFits digitOf hexOf digitValue pairOf unhex firstBad text perhaps encodeFrame span nodeLengths definitionLengths nodeFirst optionFirst flagFirst headFirst perhapsIn nodeIn optionIn flagIn definedIn strictFirst readFirst allShown isName isNote isShort definable fair itemsFrom items framesIn framesOf flat rises follows obeys after judgeItems obeyAll checkTree upTo onFrom subtree treeNamed roleOf tokensFrom tokens wordsOf wordFrames put look has amongTable putWithin definitionsOf definitionsAt firstName meaning isOption beforeEquals longForm formOf withOption withFlag withPositional shortSteps args optionFrame flagFrame reportOf faultOf dashed reportAnswer reportLeaves descend isMissing missingRequired concluded parseIn parseWords parseLine toldIn outcomeAnswer outcomeLeaves parseAnswer parseLeaves ascii builtinOf beginsHelp helpWords faultMessage joined handlerOf carried executeIn execute otherSaid lineSaid saidOf digitsIn decimal valueAfter digitsValue moveBack redraw roomAnswer mostEntries newestIs isNew withRoom added wellFormed usable sound limit padded holding lineOf goodLine inserted erased content redrawn enter erase insert typed escaped sequenced up onPlace down right left turnOf afterKeys recordOf slotsOf journalOf wide frameOfSession linesOf shown prompt answered leaves keyPrints keyEnds formOfSession lineForm oneFrame takes takeForm takeLine pressKey pressKeys onTaking lineCourse session input output
 in-full = refl

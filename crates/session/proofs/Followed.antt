@@ -22,8 +22,8 @@ use Rattle.tree.specs.declared.check.Checked.{Checked}
 use Rattle.tree.specs.declared.check.Checked.the-variants.{Good, BadFrame}
 use Rattle.tree.specs.Steps.{stepIf}
 use Rattle.tree.specs.declared.walk.Step.{Step}
-use Rattle.growth.specs.Growth.{takes, admits, passedBy}
-use Rattle.growth.proofs.Standing.{Growth, grows as grows-by, grows-whole}
+use Rattle.tree.specs.Growth.{takes, admits, passedBy}
+use Rattle.tree.proofs.Grown.{Growth, grows as grows-by, grows-whole}
 use Rattle.editor.specs.Turns.{State, Kind, shows, enters, drops, Turn, turnOf}
 use Rattle.editor.specs.Answer.{goodState}
 use Rattle.editor.proofs.Fine.{Fine}

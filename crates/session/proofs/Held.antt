@@ -7,7 +7,7 @@ use lib.ListN.{length}
 use Rattle.tree.specs.Images.{framesOf}
 use Rattle.tree.specs.Rules.{checkTree}
 use Rattle.tree.specs.declared.check.Checked.the-variants.{Good}
-use Rattle.growth.proofs.Standing.{Stands, start-stands, stands-good}
+use Rattle.tree.proofs.Grown.{Stands, start-stands, stands-good}
 use Rattle.history.specs.Journal.{noEntries, slotsOf as journalSlots}
 use Rattle.history.specs.declared.stepping.History.{History}
 use Rattle.editor.specs.declared.line.Editor.{Editor}

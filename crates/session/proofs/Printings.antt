@@ -6,11 +6,11 @@ use native.Mathlib.Omega.{arith}
 use borrow.Author.Tests.{le-ltb}
 use borrow.Rule.Slice.PartMut.{putMid}
 use lib.ListN.{length, take, drop, getD, length-drop}
-use Rattle.buffer.specs.Write.{over, Pushed}
+use Rattle.buffer.specs.Write.{over, Pushed, overIfFits}
 use Rattle.buffer.proofs.Choices.{else-is}
 use Rattle.buffer.proofs.Lending.{overAt-nothing, rest-lent}
 use Rattle.buffer.proofs.Writing.{rest-pushed}
-use Rattle.frame.specs.House.{houseLine, writeHouse, lineLeaves, HouseWritten}
+use Rattle.frame.specs.House.{houseLine, writeHouse, HouseWritten}
 use Rattle.frame.specs.declared.house.Lined.{Lined}
 use Rattle.frame.specs.declared.house.Lined.the-variants.{Written as Done, Short}
 use Rattle.frame.proofs.Lines.{length-houseLine}
@@ -19,7 +19,7 @@ use Rattle.session.specs.Prints.{Printed, screen, frameOf, linesOf, show
 -- where there is room, the line is written
 pub house-room : (frame out left : List ℕ) (r : Lined) → 2 * length frame + 1 ≤ length out → HouseWritten frame out r left
     → (r ≡ Done (length (houseLine frame))) × (left ≡ over (houseLine frame) out)
-unfolding writeHouse lineLeaves
+unfolding writeHouse overIfFits
 house-room frame out left r h w =
     let l = length-houseLine frame in
     let room : length (houseLine frame) ≤ length out = omega arith in

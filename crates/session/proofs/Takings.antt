@@ -22,7 +22,7 @@ use Rattle.image.specs.Reading.{readFirst}
 use Rattle.tree.specs.Steps.{stepIf}
 use Rattle.tree.specs.declared.walk.Walk.{Walk}
 use Rattle.tree.specs.declared.walk.Step.{Step}
-use Rattle.growth.specs.Growth.{admits, passedBy, Grows}
+use Rattle.tree.specs.Growth.{admits, passedBy, Grows}
 use Rattle.session.specs.Lines.{tree, keys, formless, formOf, formBy, lineForm}
 use Rattle.session.specs.Calls.{withWalk, withKeys, refusing, tookBy, imageBy, onLine, TakingLine}
 use Rattle.session.specs.declared.standing.Session.{Session}

@@ -18,7 +18,7 @@ use Rattle.buffer.proofs.Writing.{pushed-both, pushed-front}
 use Rattle.text.specs.Unicode.{encode, encodeAll}
 use Rattle.text.specs.Decoding.{table, decodeFirst, piecesFrom, piecesOf, codesOf, codesIn, wellFormedLength}
 use Rattle.frame.specs.House.{houseLine}
-use Rattle.ink.specs.Ascii.{ascii}
+use Rattle.buffer.specs.Ascii.{ascii}
 use Rattle.text.specs.Decoding.{wellFormed}
 use Rattle.frame.proofs.Lines.{length-houseLine}
 use Rattle.image.specs.Frames.{Frame}

@@ -15,7 +15,7 @@ use Rattle.tree.specs.Steps.{startWalk}
 use Rattle.tree.specs.declared.check.Checked.{Checked}
 use Rattle.tree.specs.declared.check.Checked.the-variants.{Good, BadFrame}
 use Rattle.tree.specs.declared.walk.Walk.{Walk}
-use Rattle.growth.specs.Growth.{admits, passedBy}
+use Rattle.tree.specs.Growth.{admits, passedBy}
 use Rattle.history.specs.Journal.{noEntries, recordOf}
 use Rattle.editor.specs.declared.drawing.KeyAnswer.{KeyAnswer}
 use Rattle.editor.specs.Line.{freshEditor}

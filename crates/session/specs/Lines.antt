@@ -8,7 +8,7 @@ use Rattle.frame.specs.Hex.{unhex}
 use Rattle.frame.specs.declared.house.House.{House}
 use Rattle.frame.specs.declared.house.House.the-variants.{Frame, Unended, Empty, TooLong, Odd, NoDigit, Short}
 use Rattle.tree.specs.Images.{framesOf}
-use Rattle.growth.specs.Growth.{takes}
+use Rattle.tree.specs.Growth.{takes}
 use Rattle.editor.specs.Turns.{State, freshState, turnOf}
 use Rattle.session.specs.Prints.{Printed, badLine, prompt, keyPrints, keyEnds}
 

@@ -3,7 +3,7 @@ use Prim.Native.Nat.{ℕ, _/_, _%_}
 use mathlib.Core.Bool.{Bool, true, false}
 use mathlib.Core.List.{List, [], _∷_, _++_}
 use Rattle.frame.specs.House.{houseLine}
-use Rattle.ink.specs.Ascii.{ascii}
+use Rattle.buffer.specs.Ascii.{ascii}
 use Rattle.image.specs.Frames.{Frame}
 use Rattle.message.specs.Messages.{goodbye}
 use Rattle.editor.specs.Turns.{Kind, shows, enters, drops, Turn, lineFeed}

@@ -3,7 +3,7 @@ use super::standing::Session;
 use buffer::part;
 use frame::House;
 use frame::read_line;
-use growth::add_frame;
+use tree::add_frame;
 ghost use mathlib.Core.Path.{_≡_};
 ghost use Prim.Native.Nat.{_<_};
 ghost use lib.ListN.{length};

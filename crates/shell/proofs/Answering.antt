@@ -7,11 +7,11 @@ use native.Mathlib.Omega.{arith}
 use borrow.Author.Tests.{le-ltb}
 use lib.Dec.{ltb}
 use lib.ListN.{length}
-use Rattle.buffer.specs.Write.{over}
+use Rattle.buffer.specs.Write.{over, overIfFits}
 use Rattle.buffer.proofs.Choices.{else-is}
-use Rattle.ink.specs.Answer.{showAnswer, leavesBy as showLeavesBy, showLeaves, Showing}
-use Rattle.ink.specs.declared.show.Shown.{Shown}
-use Rattle.ink.specs.declared.show.Shown.the-variants.{Text as ShownText, NoRoom as ShownShort}
+use Rattle.buffer.specs.Showing.{showAnswer, Showing}
+use Rattle.buffer.specs.declared.show.Shown.{Shown}
+use Rattle.buffer.specs.declared.show.Shown.the-variants.{Text as ShownText, NoRoom as ShownShort}
 use Rattle.report.specs.Report.{reportAnswer, leavesBy as reportLeavesBy, reportLeaves, Reporting}
 use Rattle.report.specs.declared.answer.Reported.{Reported}
 use Rattle.report.specs.declared.answer.Reported.the-variants.{Report, NoRoom as ReportShort}
@@ -33,16 +33,12 @@ module _ (s : Said) (out left : List ℕ) where
   n = length (bytesOf s)
 
   pub said-shown : (q : Shown) → Showing (bytesOf s) out q left → Answered s out (shownAs s q) left
-  unfolding showAnswer showLeaves saidAnswer saidLeaves
-  said-shown q h = record { answer = ap (shownAs s) (h .answer) ∙ by (ltb (length out) n); bytes = h .bytes ∙ leaves (ltb (length out) n) }
+  unfolding showAnswer overIfFits saidAnswer saidLeaves
+  said-shown q h = record { answer = ap (shownAs s) (h .answer) ∙ by (ltb (length out) n); bytes = h .bytes }
     where
       by : (t : Bool) → shownAs s (cond t (ShownShort n) (ShownText n)) ≡ cond t (NoRoom n) (named s n)
       by true = refl
       by false = refl
-
-      leaves : (t : Bool) → showLeavesBy (cond t (ShownShort n) (ShownText n)) (bytesOf s) out ≡ cond t out (over (bytesOf s) out)
-      leaves true = refl
-      leaves false = refl
 
   pub said-reported : (q : Reported) → Reporting (bytesOf s) out q left → Answered s out (reportedAs s q) left
   unfolding reportAnswer reportLeaves saidAnswer saidLeaves

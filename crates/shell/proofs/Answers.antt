@@ -18,7 +18,7 @@ use Rattle.parse.specs.Answer.{toldIn, onChecked}
 use Rattle.parse.proofs.Answers.{AgreeOn, else-alike}
 use Rattle.message.specs.Messages.{illFormed, clearScreen, message}
 use Rattle.message.specs.declared.error.ParseError.the-variants.{NoHandler}
-use Rattle.layout.specs.Texts.{availableText}
+use Rattle.help.specs.Texts.{availableText}
 use Rattle.help.specs.Answer.{Reply, said, unknown, wordless, helpIn, helpOf}
 use Rattle.shell.specs.Lines.{Said, silence, text, farewell, handed, builtinOf, onBuiltin, beginsHelp, helpWords, helpSaid, joined, carried, executeIn, execute, otherSaid, lineSaid, saidOf}
 use Rattle.shell.specs.Answer.{saidAnswer, saidLeaves, runAnswer, runLeaves, Running}

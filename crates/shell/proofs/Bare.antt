@@ -10,8 +10,8 @@ use Rattle.buffer.proofs.Ordering.{same-is}
 use Rattle.text.specs.Unicode.{encode}
 use Rattle.text.specs.Decoding.{Piece, character, table, decodeFirst, piecesFrom, piecesOf, bytesAll}
 use Rattle.text.specs.Space.{whiteSpace, among, isWhiteSpace}
-use Rattle.text.specs.Apart.{white, behindRun, beforeEnd, trimEnd, trimmed, ended, wordsAfter, wordsBetween}
-use Rattle.ink.specs.Ascii.{ascii}
+use Rattle.text.specs.Apart.{white, afterRun, beforeEnd, trimEnd, trimmed, ended, wordsAfter, wordsBetween}
+use Rattle.buffer.specs.Ascii.{ascii}
 use Rattle.shell.specs.Lines.{builtinOf, beginsHelp, helpWords}
 use Rattle.shell.specs.declared.builtin.Builtin.the-variants.{Help}
 
@@ -40,7 +40,7 @@ none-mapped [] e = refl
 none-mapped (p ∷ l) e = cc
 
 bare : (t : List ℕ) → wordsBetween t ≡ [] → builtinOf (trimmed (ascii "help " ++ t)) ≡ Help
-unfolding trimmed piecesOf piecesFrom decodeFirst table behindRun trimEnd isWhiteSpace among whiteSpace wordsBetween bytesAll encode builtinOf sameBytes ascii
+unfolding trimmed piecesOf piecesFrom decodeFirst table afterRun trimEnd isWhiteSpace among whiteSpace wordsBetween bytesAll encode builtinOf sameBytes ascii
 bare t e =
     ap
     (λ (ps : List Piece). builtinOf (bytesAll (beforeEnd (character 0x68) (beforeEnd (character 0x65) (beforeEnd (character 0x6c) (beforeEnd (character 0x70) (beforeEnd (character 0x20) ps)))))))

@@ -19,17 +19,17 @@ use Rattle.image.specs.Frames.{Frame}
 use Rattle.tree.specs.Images.{framesOf}
 use Rattle.tree.specs.Rules.{start, checkTree}
 use Rattle.tree.specs.declared.check.Checked.the-variants.{Good}
-use Rattle.tree.proofs.Wholes.{good-well-formed}
+use Rattle.tree.proofs.WellFormedImages.{good-well-formed}
 use Rattle.tree.specs.Subtrees.{subtree}
 use Rattle.tree.specs.Commands.{descend}
-use Rattle.lookup.proofs.Few.{Few, obey-few, few-subtree}
+use Rattle.lookup.proofs.FrameCounts.{Few, obey-few, few-subtree}
 use Rattle.message.specs.Messages.{message, illFormed, clearScreen}
 use Rattle.message.specs.declared.error.ParseError.the-variants.{NoHandler}
 use Rattle.message.proofs.Bounds.{message-most, ill-formed-most, goodbye-most, clear-most, unknown-most}
-use Rattle.layout.specs.Texts.{spaced, availableText}
-use Rattle.layout.proofs.Bounds.{spaced-more, spaced-most, available-most}
+use Rattle.help.specs.Texts.{spaced, availableText}
+use Rattle.help.proofs.TextBounds.{spaced-more, spaced-most, available-most}
 use Rattle.help.specs.Answer.{Reply, said, unknown, wordless, helpOf}
-use Rattle.help.proofs.Bounds.{ReplyWithin, help-within}
+use Rattle.help.proofs.ReplyBounds.{ReplyWithin, help-within}
 use Rattle.parse.specs.Commands.{Outcome, parsed, fault, emptyCommand, parseIn}
 use Rattle.parse.specs.Answer.{toldIn}
 use Rattle.parse.proofs.Bounds.{words-more, measure, path-within, parse-most}

@@ -5,7 +5,7 @@ use Rattle.buffer.specs.Compare.{order, sameBytes}
 use Rattle.text.specs.Unicode.{encode, encodeAll}
 use Rattle.text.specs.Decoding.{decodeTwo, decodeThree, decodeFour, table, decodeFirst, piecesFrom, piecesOf, codesOf, codesIn, bytesAll, wellFormedLength}
 use Rattle.text.specs.Space.{whiteSpace, among, isWhiteSpace}
-use Rattle.text.specs.Apart.{behindRun, trimEnd, trimmed, allWhite, blank, wordsAfter, wordsBetween}
+use Rattle.text.specs.Apart.{afterRun, trimEnd, trimmed, allWhite, blank, wordsAfter, wordsBetween}
 use Rattle.frame.specs.Text.{numberBytes, textOf}
 use Rattle.frame.specs.Framed.{frameOf}
 use Rattle.frame.specs.Series.{runs}
@@ -16,11 +16,11 @@ use Rattle.image.specs.Frames.{absent, present, Frame, node, flag}
 use Rattle.tree.specs.Subtrees.{upTo, onFrom, subtree}
 use Rattle.tree.specs.Commands.{descend}
 use Rattle.lookup.specs.Searches.{keyed}
-use Rattle.ink.specs.Ascii.{ascii}
+use Rattle.buffer.specs.Ascii.{ascii}
 use Rattle.rows.specs.Rows.{blanks, padded, shortThen, shownAs, entry, flagRow, nodeRow, rows, titled}
 use Rattle.message.specs.Messages.{message, illFormed, clearScreen}
 use Rattle.message.specs.Debug.{debugByte, debugBytes, unknownHelp}
-use Rattle.layout.specs.Texts.{spaced, lists, about, helpText, availableText}
+use Rattle.help.specs.Texts.{spaced, lists, about, helpText, availableText}
 use Rattle.help.specs.Paths.{followed}
 use Rattle.help.specs.Answer.{helpIn, helpOf}
 use Rattle.arguments.specs.Meanings.{definitionsOf, firstName, meaning, isOption}
@@ -44,7 +44,7 @@ handlers :
     (saidOf frames (ascii "log") ≡ handed 2 (0x11 ∷ 0 ∷ 3 ∷ ascii "log"))
     × (saidOf frames (ascii "log a\\ ") ≡ handed 2 (0x11 ∷ 0 ∷ 3 ∷ ascii "log" ++ 0x14 ∷ 0 ∷ 1 ∷ ascii "a"))
     × (saidOf frames (ascii " vm start -f ") ≡ handed 3 (0x11 ∷ 0 ∷ 2 ∷ ascii "vm" ++ 0x11 ∷ 0 ∷ 5 ∷ ascii "start" ++ 0x13 ∷ 0 ∷ 5 ∷ ascii "force"))
-unfolding frames ascii sameBytes order decodeFirst table decodeTwo decodeThree decodeFour piecesFrom piecesOf codesOf codesIn bytesAll encode encodeAll among whiteSpace isWhiteSpace behindRun trimEnd trimmed allWhite blank wordsAfter wordsBetween numberBytes textOf frameOf runs keyed upTo onFrom subtree roleOf tokensFrom tokens wordsOf put has definitionsOf firstName meaning isOption beforeEquals longForm formOf withOption withFlag withPositional shortSteps args optionFrame flagFrame reportOf descend isMissing missingRequired concluded parseIn toldIn message illFormed clearScreen debugByte debugBytes unknownHelp spaced lists about helpText blanks padded shortThen shownAs entry flagRow nodeRow rows titled followed helpIn helpOf builtinOf beginsHelp helpWords faultMessage joined handlerOf carried executeIn execute otherSaid lineSaid wellFormedLength saidOf
+unfolding frames ascii sameBytes order decodeFirst table decodeTwo decodeThree decodeFour piecesFrom piecesOf codesOf codesIn bytesAll encode encodeAll among whiteSpace isWhiteSpace afterRun trimEnd trimmed allWhite blank wordsAfter wordsBetween numberBytes textOf frameOf runs keyed upTo onFrom subtree roleOf tokensFrom tokens wordsOf put has definitionsOf firstName meaning isOption beforeEquals longForm formOf withOption withFlag withPositional shortSteps args optionFrame flagFrame reportOf descend isMissing missingRequired concluded parseIn toldIn message illFormed clearScreen debugByte debugBytes unknownHelp spaced lists about helpText blanks padded shortThen shownAs entry flagRow nodeRow rows titled followed helpIn helpOf builtinOf beginsHelp helpWords faultMessage joined handlerOf carried executeIn execute otherSaid lineSaid wellFormedLength saidOf
 handlers = (refl, refl, refl)
 
 -- a bare `help` is judged after trimming, as are the end and `clear`; a blank line does nothing
@@ -54,7 +54,7 @@ builtins :
     × (saidOf frames (ascii " quit\n") ≡ farewell)
     × (saidOf frames (ascii "clear ") ≡ text 0 clearScreen)
     × (saidOf frames (ascii " \t ") ≡ silence)
-unfolding frames ascii sameBytes order decodeFirst table decodeTwo decodeThree decodeFour piecesFrom piecesOf codesOf codesIn bytesAll encode encodeAll among whiteSpace isWhiteSpace behindRun trimEnd trimmed allWhite blank wordsAfter wordsBetween numberBytes textOf frameOf runs keyed upTo onFrom subtree roleOf tokensFrom tokens wordsOf put has definitionsOf firstName meaning isOption beforeEquals longForm formOf withOption withFlag withPositional shortSteps args optionFrame flagFrame reportOf descend isMissing missingRequired concluded parseIn toldIn message illFormed clearScreen debugByte debugBytes unknownHelp spaced lists about helpText blanks padded shortThen shownAs entry flagRow nodeRow rows titled followed helpIn helpOf builtinOf beginsHelp helpWords faultMessage joined handlerOf carried executeIn execute otherSaid lineSaid wellFormedLength saidOf
+unfolding frames ascii sameBytes order decodeFirst table decodeTwo decodeThree decodeFour piecesFrom piecesOf codesOf codesIn bytesAll encode encodeAll among whiteSpace isWhiteSpace afterRun trimEnd trimmed allWhite blank wordsAfter wordsBetween numberBytes textOf frameOf runs keyed upTo onFrom subtree roleOf tokensFrom tokens wordsOf put has definitionsOf firstName meaning isOption beforeEquals longForm formOf withOption withFlag withPositional shortSteps args optionFrame flagFrame reportOf descend isMissing missingRequired concluded parseIn toldIn message illFormed clearScreen debugByte debugBytes unknownHelp spaced lists about helpText blanks padded shortThen shownAs entry flagRow nodeRow rows titled followed helpIn helpOf builtinOf beginsHelp helpWords faultMessage joined handlerOf carried executeIn execute otherSaid lineSaid wellFormedLength saidOf
 builtins = (refl, refl, refl, refl, refl)
 
 -- an untrimmed line that begins `help `, its words split on white space only; with a leading space it is the unknown command `help`
@@ -62,7 +62,7 @@ helps :
     (saidOf frames (ascii "help log ") ≡ text 0 (ascii "Command: log\nDescription: Change log level\nUsage: log [LEVEL]\n"))
     × (saidOf frames (ascii "help \"log\"") ≡ text 4 (ascii "Error: UnknownCommand(\"\\\"log\\\"\")\n"))
     × (saidOf frames (ascii " help log") ≡ text 4 (ascii "Error: Unknown command 'help'\nType 'help' to see available commands\n"))
-unfolding frames ascii sameBytes order decodeFirst table decodeTwo decodeThree decodeFour piecesFrom piecesOf codesOf codesIn bytesAll encode encodeAll among whiteSpace isWhiteSpace behindRun trimEnd trimmed allWhite blank wordsAfter wordsBetween numberBytes textOf frameOf runs keyed upTo onFrom subtree roleOf tokensFrom tokens wordsOf put has definitionsOf firstName meaning isOption beforeEquals longForm formOf withOption withFlag withPositional shortSteps args optionFrame flagFrame reportOf descend isMissing missingRequired concluded parseIn toldIn message illFormed clearScreen debugByte debugBytes unknownHelp spaced lists about helpText blanks padded shortThen shownAs entry flagRow nodeRow rows titled followed helpIn helpOf builtinOf beginsHelp helpWords faultMessage joined handlerOf carried executeIn execute otherSaid lineSaid wellFormedLength saidOf
+unfolding frames ascii sameBytes order decodeFirst table decodeTwo decodeThree decodeFour piecesFrom piecesOf codesOf codesIn bytesAll encode encodeAll among whiteSpace isWhiteSpace afterRun trimEnd trimmed allWhite blank wordsAfter wordsBetween numberBytes textOf frameOf runs keyed upTo onFrom subtree roleOf tokensFrom tokens wordsOf put has definitionsOf firstName meaning isOption beforeEquals longForm formOf withOption withFlag withPositional shortSteps args optionFrame flagFrame reportOf descend isMissing missingRequired concluded parseIn toldIn message illFormed clearScreen debugByte debugBytes unknownHelp spaced lists about helpText blanks padded shortThen shownAs entry flagRow nodeRow rows titled followed helpIn helpOf builtinOf beginsHelp helpWords faultMessage joined handlerOf carried executeIn execute otherSaid lineSaid wellFormedLength saidOf
 helps = (refl, refl, refl)
 
 -- each refusal with its message: 3, 4 without a word, 4, 5, 8
@@ -72,5 +72,5 @@ refusals :
     × (saidOf frames (ascii "start") ≡ text 4 (ascii "Error: Unknown command 'start'\nType 'help' to see available commands\n"))
     × (saidOf frames (ascii "vm start --x=1") ≡ text 5 (ascii "Error: Unknown option '--x'\n"))
     × (saidOf frames (ascii "vm") ≡ text 8 (ascii "Error: Command 'vm' has no handler function\n"))
-unfolding frames ascii sameBytes order decodeFirst table decodeTwo decodeThree decodeFour piecesFrom piecesOf codesOf codesIn bytesAll encode encodeAll among whiteSpace isWhiteSpace behindRun trimEnd trimmed allWhite blank wordsAfter wordsBetween numberBytes textOf frameOf runs keyed upTo onFrom subtree roleOf tokensFrom tokens wordsOf put has definitionsOf firstName meaning isOption beforeEquals longForm formOf withOption withFlag withPositional shortSteps args optionFrame flagFrame reportOf descend isMissing missingRequired concluded parseIn toldIn message illFormed clearScreen debugByte debugBytes unknownHelp spaced lists about helpText blanks padded shortThen shownAs entry flagRow nodeRow rows titled followed helpIn helpOf builtinOf beginsHelp helpWords faultMessage joined handlerOf carried executeIn execute otherSaid lineSaid wellFormedLength saidOf
+unfolding frames ascii sameBytes order decodeFirst table decodeTwo decodeThree decodeFour piecesFrom piecesOf codesOf codesIn bytesAll encode encodeAll among whiteSpace isWhiteSpace afterRun trimEnd trimmed allWhite blank wordsAfter wordsBetween numberBytes textOf frameOf runs keyed upTo onFrom subtree roleOf tokensFrom tokens wordsOf put has definitionsOf firstName meaning isOption beforeEquals longForm formOf withOption withFlag withPositional shortSteps args optionFrame flagFrame reportOf descend isMissing missingRequired concluded parseIn toldIn message illFormed clearScreen debugByte debugBytes unknownHelp spaced lists about helpText blanks padded shortThen shownAs entry flagRow nodeRow rows titled followed helpIn helpOf builtinOf beginsHelp helpWords faultMessage joined handlerOf carried executeIn execute otherSaid lineSaid wellFormedLength saidOf
 refusals = (refl, refl, refl, refl, refl)

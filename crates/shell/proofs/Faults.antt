@@ -17,11 +17,11 @@ use Rattle.frame.proofs.Series.{texts-end, word-within, word-length, words-more
 use Rattle.table.specs.Held.{partOf}
 use Rattle.report.specs.Report.{faultOf, dashed, reportAnswer, reportLeaves, Reporting}
 use Rattle.report.specs.declared.answer.Reported.{Reported}
-use Rattle.ink.specs.Ascii.{ascii}
-use Rattle.ink.specs.Inks.{Inked, Countable}
-use Rattle.ink.proofs.Inking.{inked-nothing, inked-both, inked-as}
+use Rattle.buffer.specs.Ascii.{ascii}
+use Rattle.buffer.specs.Inks.{Inked, Countable}
+use Rattle.buffer.proofs.Inking.{inked-nothing, inked-both, inked-as}
 use Rattle.message.specs.declared.error.ParseError.the-variants.{MissingRequired}
-use Rattle.layout.specs.Texts.{spaced}
+use Rattle.help.specs.Texts.{spaced}
 use Rattle.shell.specs.Lines.{faultMessage, joined}
 
 -- the last of the fault numbers

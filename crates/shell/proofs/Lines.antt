@@ -27,11 +27,11 @@ use Rattle.tree.specs.Images.{framesOf}
 use Rattle.tree.specs.Rules.{checkTree}
 use Rattle.tree.specs.declared.check.Checked.{Checked}
 use Rattle.tree.specs.declared.check.Checked.the-variants.{Good, BadFrame}
-use Rattle.ink.specs.Ascii.{ascii}
+use Rattle.buffer.specs.Ascii.{ascii}
 use Rattle.message.specs.Messages.{illFormed, clearScreen}
 use Rattle.message.specs.Debug.{unknownHelp}
-use Rattle.layout.specs.Texts.{helpText, availableText}
-use Rattle.layout.proofs.Words.{next-told, next-nothing}
+use Rattle.help.specs.Texts.{helpText, availableText}
+use Rattle.help.proofs.SpacedWords.{next-told, next-nothing}
 use Rattle.help.specs.Paths.{between, FoundAt, LostAt}
 use Rattle.help.specs.Answer.{helpOf, helpLine}
 use Rattle.help.proofs.Answers.{reply-none, reply-found, reply-lost}

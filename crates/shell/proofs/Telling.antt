@@ -10,7 +10,7 @@ use Rattle.frame.specs.Series.{textsIn}
 use Rattle.report.specs.Report.{dashed, reportOf}
 use Rattle.tree.specs.Images.{framesOf}
 use Rattle.tree.specs.Commands.{reachedBy}
-use Rattle.tree.specs.Trails.{partAt}
+use Rattle.tree.specs.Trails.{imagePart}
 use Rattle.message.specs.Messages.{message}
 use Rattle.message.specs.declared.error.ParseError.{ParseError}
 use Rattle.message.specs.declared.error.ParseError.the-variants.{NoHandler}
@@ -48,7 +48,7 @@ dashed-short words part (MissingRequired name) k = absurd (k refl)
 
 module _ (words image rest : List ℕ) (j : Judged) (handler : ℕ) where
   abbrev part : List ℕ
-  part = partAt image (j .place)
+  part = imagePart image (j .place)
 
   abbrev path : List (List ℕ)
   path = textsIn (take (j .place .at) words)

@@ -11,12 +11,12 @@ use Rattle.words.specs.Tokens.{wordsOf}
 use Rattle.image.specs.Frames.{Frame, node, option, flag}
 use Rattle.tree.specs.Subtrees.{subtree}
 use Rattle.tree.specs.Commands.{descend}
-use Rattle.ink.specs.Ascii.{ascii}
+use Rattle.buffer.specs.Ascii.{ascii}
 use Rattle.message.specs.Messages.{message, illFormed, clearScreen}
 use Rattle.message.specs.Debug.{unknownHelp}
 use Rattle.message.specs.declared.error.ParseError.{ParseError}
 use Rattle.message.specs.declared.error.ParseError.the-variants.{UnknownCommand, UnknownOption, MissingValue, MissingRequired, NoHandler}
-use Rattle.layout.specs.Texts.{spaced, availableText}
+use Rattle.help.specs.Texts.{spaced, availableText}
 use Rattle.help.specs.Answer.{Reply, said, unknown, wordless, helpOf}
 use Rattle.parse.specs.Commands.{Outcome, parsed, fault, emptyCommand, parseIn}
 use Rattle.parse.specs.Answer.{toldIn}

@@ -1,9 +1,9 @@
 // What running a line answers.
-use ink::Shown;
+use buffer::Shown;
 use report::Reported;
 ghost use mathlib.Core.List.{List};
 ghost use Prim.Native.Nat.{ℕ};
-ghost use Rattle.ink.specs.Answer.{Showing};
+ghost use Rattle.buffer.specs.Showing.{Showing};
 ghost use Rattle.report.specs.Report.{Reporting};
 ghost use Rattle.message.specs.Messages.{goodbye};
 ghost use Rattle.shell.specs.Lines.{text, farewell, handed};

@@ -1,9 +1,9 @@
 // The messages of what is wrong with a line: of a fault, and of a command without a handler.
+use buffer::Shown;
+use buffer::put;
 use buffer::rest;
 use frame::Framed;
 use frame::read_frame;
-use ink::Shown;
-use ink::put;
 use message::ParseError;
 use message::show_message;
 use report::write_fault;
@@ -12,11 +12,11 @@ ghost use Prim.Native.Nat.{_≤_, _<_};
 ghost use lib.ListN.{length};
 ghost use Rattle.frame.specs.Series.{textsIn};
 ghost use Rattle.report.specs.Report.{dashed};
-ghost use Rattle.ink.specs.Inks.{Inked};
-ghost use Rattle.ink.specs.Answer.{Showing};
+ghost use Rattle.buffer.specs.Inks.{Inked};
+ghost use Rattle.buffer.specs.Showing.{Showing};
 ghost use Rattle.message.specs.Messages.{message};
 ghost use Rattle.message.specs.declared.error.ParseError.the-variants.{NoHandler};
-ghost use Rattle.layout.specs.Texts.{spaced};
+ghost use Rattle.help.specs.Texts.{spaced};
 ghost use Rattle.shell.specs.Lines.{faultMessage, joined};
 
 // The message of a fault by its number.

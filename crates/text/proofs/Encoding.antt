@@ -14,7 +14,7 @@ use Rattle.text.specs.Unicode.{Scalar, low, high, encode}
 use Rattle.text.specs.declared.utf8.Decoded.{Decoded}
 use Rattle.text.specs.declared.utf8.Decoded.the-variants.{Character, IllFormed, End}
 use Rattle.text.specs.Decoding.{leastSecond, greatestSecond, within, second, later, table, decodeFirst}
-use Rattle.text.proofs.Rows.{two-is, two-not, three-is, three-not, three-cut, four-is, four-not, four-cut, four-cut-last, row-ascii, row-none, row-two, row-three, row-four, row-past}
+use Rattle.text.proofs.TableRows.{two-is, two-not, three-is, three-not, three-cut, four-is, four-not, four-cut, four-cut-last, row-ascii, row-none, row-two, row-three, row-four, row-past}
 
 -- one of two, or of three, ways that numbers can stand
 pub below-or-not : (a n : ℕ) → (a < n) ⊎ (n ≤ a)

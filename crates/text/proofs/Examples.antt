@@ -7,7 +7,7 @@ use Rattle.text.specs.Unicode.{encode, encodeAll}
 use Rattle.text.specs.declared.utf8.Decoded.the-variants.{IllFormed}
 use Rattle.text.specs.Decoding.{leastSecond, greatestSecond, within, decodeTwo, decodeThree, decodeFour, table, decodeFirst, piecesFrom, piecesOf, bytesAll, codesOf, codesIn, letter, letterFirst, wellFormedLength}
 use Rattle.text.specs.Space.{whiteSpace, among, isWhiteSpace}
-use Rattle.text.specs.Apart.{behindRun, trimEnd, trimmed, allWhite, blank, wordsAfter, wordsBetween}
+use Rattle.text.specs.Apart.{afterRun, trimEnd, trimmed, allWhite, blank, wordsAfter, wordsBetween}
 
 -- U+004D, U+0430, U+4E8C and U+10302, encoded and decoded
 codes : List ℕ
@@ -51,7 +51,7 @@ unfolding wellFormedLength encodeAll encode codesIn codesOf piecesOf piecesFrom 
 prefix-length = refl
 
 trimmed-text : trimmed (0x09 ∷ 0x61 ∷ 0xC2 ∷ 0xA0 ∷ 0x62 ∷ 0x20 ∷ []) ≡ 0x61 ∷ 0xC2 ∷ 0xA0 ∷ 0x62 ∷ []
-unfolding trimmed trimEnd behindRun bytesAll encode piecesOf piecesFrom decodeFirst table decodeTwo within leastSecond greatestSecond isWhiteSpace among whiteSpace
+unfolding trimmed trimEnd afterRun bytesAll encode piecesOf piecesFrom decodeFirst table decodeTwo within leastSecond greatestSecond isWhiteSpace among whiteSpace
 trimmed-text = refl
 
 two-words : wordsBetween (0x09 ∷ 0x61 ∷ 0xC2 ∷ 0xA0 ∷ 0x62 ∷ 0x20 ∷ []) ≡ (0x61 ∷ []) ∷ (0x62 ∷ []) ∷ []

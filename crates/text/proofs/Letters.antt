@@ -14,9 +14,10 @@ use lib.ListN.{length, drop, getD}
 use Rattle.buffer.proofs.Choices.{then-is, else-is, true-is-not-false}
 use Rattle.text.specs.declared.utf8.Decoded.{Decoded}
 use Rattle.text.specs.declared.utf8.Decoded.the-variants.{Character, IllFormed, End}
-use Rattle.text.specs.Space.{gap, isWhiteSpace}
-use Rattle.text.specs.Decoding.{within, second, later, decodeTwo, decodeThree, decodeFour, table, decodeFirst, lengthOf, letter, letterHead, letterOf, letterFirst, codesIn, wellFormedLength}
-use Rattle.text.proofs.Rows.{two-is, two-not, three-is, three-not, three-cut, four-is, four-not, four-cut, four-cut-last, row-ascii, row-none, row-two, row-three, row-four, row-past, decode-at, decode-end}
+use Rattle.text.specs.Space.{isWhiteSpace}
+use Rattle.text.specs.Inner.{gap, lengthOf, letterHead}
+use Rattle.text.specs.Decoding.{within, second, later, decodeTwo, decodeThree, decodeFour, table, decodeFirst, letter, letterOf, letterFirst, codesIn, wellFormedLength}
+use Rattle.text.proofs.TableRows.{two-is, two-not, three-is, three-not, three-cut, four-is, four-not, four-cut, four-cut-last, row-ascii, row-none, row-two, row-three, row-four, row-past, decode-at, decode-end}
 use Rattle.text.proofs.Encoding.{below-or-not, second-in, second-least, after-E0, after-F0, within-has}
 use Rattle.text.proofs.Spaces.{none-in-a-gap}
 use Rattle.text.proofs.Pieces.{character-some, character-fits}

@@ -1,9 +1,9 @@
 -- The laws of the crate `text`: each speaks of a definition, and belongs to no one function.
-pub mod Rows
+pub mod TableRows
 pub mod Encoding
 pub mod Pieces
 pub mod Prefix
-pub mod Sights
+pub mod WhiteRuns
 pub mod Splits
 mod Examples
 pub mod Spaces

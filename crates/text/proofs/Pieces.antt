@@ -116,7 +116,7 @@ rest-shorter s p e =
     in
     omega arith
 
--- what holds of the empty text, and of a text if it holds behind its first piece, holds of every text with its pieces
+-- what holds of the empty text, and of a text if it holds after its first piece, holds of every text with its pieces
 module _ (P : List ℕ → List Piece → Type 0) (empty : P [] [])
     (more : (p : Piece) (s : List ℕ) → Fair p → s ≡ bytesOf p ++ drop (length (bytesOf p)) s
     → P (drop (length (bytesOf p)) s) (piecesOf (drop (length (bytesOf p)) s)) → P s (p ∷ piecesOf (drop (length (bytesOf p)) s))) where

@@ -11,7 +11,8 @@ use lib.Dec.{eqb, ltb}
 use lib.ListN.{length, drop, getD}
 use Rattle.buffer.proofs.Choices.{then-is, else-is, true-is-not-false}
 use Rattle.buffer.proofs.Lists.{drop-step}
-use Rattle.text.specs.Space.{whiteSpace, among, isWhiteSpace, lowWhite, gap}
+use Rattle.text.specs.Space.{whiteSpace, among, isWhiteSpace}
+use Rattle.text.specs.Inner.{lowWhite, gap}
 
 module _ (n : ℕ) (list : List ℕ) (i : ℕ) (h : i < length list) where
   pub among-found : getD list i 0 ≡ n → among n (drop i list) ≡ true

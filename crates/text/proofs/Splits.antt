@@ -12,42 +12,42 @@ use Rattle.buffer.proofs.Lists.{drop-end}
 use Rattle.text.specs.Decoding.{Piece, piecesOf, bytesOf, bytesAll}
 use Rattle.text.specs.declared.apart.Word.{Word}
 use Rattle.text.specs.declared.apart.Word.the-variants.{At, Nothing}
-use Rattle.text.specs.Apart.{white, runOf, behindRun, trimEnd, beforeEnd, trimmed, allWhite, blank, ended, wordsAfter, wordsBetween, wordAt, nextWord}
+use Rattle.text.specs.Apart.{white, runOf, afterRun, trimEnd, beforeEnd, trimmed, allWhite, blank, ended, wordsAfter, wordsBetween, wordAt, nextWord}
 use Rattle.text.proofs.Pieces.{Fair, by-pieces, pieces-bytes, pieces-none, piece-some}
-use Rattle.text.proofs.Sights.{solidLength}
+use Rattle.text.proofs.WhiteRuns.{solidLength}
 
--- a run and what lies behind it make up the pieces
-pub run-splits : (is : Bool) (ps : List Piece) → bytesAll ps ≡ bytesAll (runOf is ps) ++ bytesAll (behindRun is ps)
-unfolding bytesAll runOf behindRun
+-- a run and what lies after it make up the pieces
+pub run-splits : (is : Bool) (ps : List Piece) → bytesAll ps ≡ bytesAll (runOf is ps) ++ bytesAll (afterRun is ps)
+unfolding bytesAll runOf afterRun
 run-splits is [] = refl
 run-splits is (p ∷ ps) = by (Bool·beq (white p) is) (run-splits is ps)
   where
-    by : (t : Bool) → bytesAll ps ≡ bytesAll (runOf is ps) ++ bytesAll (behindRun is ps)
-        → bytesOf p ++ bytesAll ps ≡ bytesAll (cond t (p ∷ runOf is ps) []) ++ bytesAll (cond t (behindRun is ps) (p ∷ ps))
+    by : (t : Bool) → bytesAll ps ≡ bytesAll (runOf is ps) ++ bytesAll (afterRun is ps)
+        → bytesOf p ++ bytesAll ps ≡ bytesAll (cond t (p ∷ runOf is ps) []) ++ bytesAll (cond t (afterRun is ps) (p ∷ ps))
     by true h = ap (λ (l : List ℕ). bytesOf p ++ l) h ∙ sym (append-assoc (bytesOf p) _ _)
     by false h = refl
 
 pub run-fits : (is : Bool) (s : List ℕ) → length (bytesAll (runOf is (piecesOf s))) ≤ length s
 run-fits is s =
-    let size : length s ≡ length (bytesAll (runOf is (piecesOf s))) + length (bytesAll (behindRun is (piecesOf s))) =
-    ap length (sym (pieces-bytes s) ∙ run-splits is (piecesOf s)) ∙ length-append (bytesAll (runOf is (piecesOf s))) (bytesAll (behindRun is (piecesOf s)))
+    let size : length s ≡ length (bytesAll (runOf is (piecesOf s))) + length (bytesAll (afterRun is (piecesOf s))) =
+    ap length (sym (pieces-bytes s) ∙ run-splits is (piecesOf s)) ∙ length-append (bytesAll (runOf is (piecesOf s))) (bytesAll (afterRun is (piecesOf s)))
     in
     omega arith
 
--- the pieces of what is left behind a run are the pieces behind it
+-- the pieces of what is left after a run are the pieces after it
 Behind : Bool → List ℕ → List Piece → Type 0
-Behind is s ps = piecesOf s ≡ ps → piecesOf (drop (length (bytesAll (runOf is ps))) s) ≡ behindRun is ps
+Behind is s ps = piecesOf s ≡ ps → piecesOf (drop (length (bytesAll (runOf is ps))) s) ≡ afterRun is ps
 
 behind-more : (is : Bool) (p : Piece) (s : List ℕ) → Fair p → s ≡ bytesOf p ++ drop (length (bytesOf p)) s
     → Behind is (drop (length (bytesOf p)) s) (piecesOf (drop (length (bytesOf p)) s)) → Behind is s (p ∷ piecesOf (drop (length (bytesOf p)) s))
-unfolding Behind bytesAll runOf behindRun
+unfolding Behind bytesAll runOf afterRun
 behind-more is p s f e h q = by (Bool·beq (white p) is) (h refl)
   where
     t : List ℕ
     t = drop (length (bytesOf p)) s
 
-    by : (b : Bool) → piecesOf (drop (length (bytesAll (runOf is (piecesOf t)))) t) ≡ behindRun is (piecesOf t)
-        → piecesOf (drop (length (bytesAll (cond b (p ∷ runOf is (piecesOf t)) []))) s) ≡ cond b (behindRun is (piecesOf t)) (p ∷ piecesOf t)
+    by : (b : Bool) → piecesOf (drop (length (bytesAll (runOf is (piecesOf t)))) t) ≡ afterRun is (piecesOf t)
+        → piecesOf (drop (length (bytesAll (cond b (p ∷ runOf is (piecesOf t)) []))) s) ≡ cond b (afterRun is (piecesOf t)) (p ∷ piecesOf t)
     by true k =
         ap piecesOf
         (ap (λ (n : ℕ). drop n s) (length-append (bytesOf p) (bytesAll (runOf is (piecesOf t))))
@@ -56,10 +56,10 @@ behind-more is p s f e h q = by (Bool·beq (white p) is) (h refl)
     by false k = q
 
 behind-none : (is : Bool) → Behind is [] []
-unfolding Behind bytesAll runOf behindRun
+unfolding Behind bytesAll runOf afterRun
 behind-none is e = e
 
-pub behind-pieces : (is : Bool) (s : List ℕ) → piecesOf (drop (length (bytesAll (runOf is (piecesOf s)))) s) ≡ behindRun is (piecesOf s)
+pub behind-pieces : (is : Bool) (s : List ℕ) → piecesOf (drop (length (bytesAll (runOf is (piecesOf s)))) s) ≡ afterRun is (piecesOf s)
 unfolding Behind
 behind-pieces is s = by-pieces (Behind is) (behind-none is) (behind-more is) s refl
 
@@ -141,7 +141,7 @@ solid-take t =
     ap (λ (l : List ℕ). take (length (bytesAll (trimEnd (piecesOf t)))) l) (solid-splits t)
     ∙ take-at (bytesAll (trimEnd (piecesOf t))) (bytesAll (end-splits (piecesOf t) .after)) (length (bytesAll (trimEnd (piecesOf t)))) refl
 
--- the part from behind the white space at the beginning to the end of the last solid piece is the trimmed text
+-- the part from after the white space at the beginning to the end of the last solid piece is the trimmed text
 module _ (s : List ℕ) (start end : ℕ) (e : start ≡ 0 + length (bytesAll (runOf true (piecesOf s)))) (f : end ≡ start + solidLength (drop start s)) where
   pub trim-fits : end ≤ length s
   trim-fits = let h = solid-fits (drop start s) in let k = run-fits true s in omega (arith, length-drop start s)
@@ -151,7 +151,7 @@ module _ (s : List ℕ) (start end : ℕ) (e : start ≡ 0 + length (bytesAll (r
   trim-is =
       let z : start ≡ length (bytesAll (runOf true (piecesOf s))) = omega arith in
       let size : end - start ≡ solidLength (drop start s) = omega arith in
-      let ps : piecesOf (drop start s) ≡ behindRun true (piecesOf s) = ap (λ (n : ℕ). piecesOf (drop n s)) z ∙ behind-pieces true s in
+      let ps : piecesOf (drop start s) ≡ afterRun true (piecesOf s) = ap (λ (n : ℕ). piecesOf (drop n s)) z ∙ behind-pieces true s in
       ap (λ (n : ℕ). take n (drop start s)) size
       ∙ solid-take (drop start s)
       ∙ ap (λ (l : List Piece). bytesAll (trimEnd l)) ps
@@ -178,12 +178,12 @@ pub record Trimming (s : List ℕ) : Type 0 where
   pub begins : beginsWhite inner ≡ false
   pub ends : endsWhite inner ≡ false
 
-run-pieces : (is : Bool) (ps : List Piece) → ps ≡ runOf is ps ++ behindRun is ps
-unfolding runOf behindRun
+run-pieces : (is : Bool) (ps : List Piece) → ps ≡ runOf is ps ++ afterRun is ps
+unfolding runOf afterRun
 run-pieces is [] = refl
 run-pieces is (p ∷ ps) = by (Bool·beq (white p) is) (run-pieces is ps)
   where
-    by : (t : Bool) → ps ≡ runOf is ps ++ behindRun is ps → p ∷ ps ≡ cond t (p ∷ runOf is ps) [] ++ cond t (behindRun is ps) (p ∷ ps)
+    by : (t : Bool) → ps ≡ runOf is ps ++ afterRun is ps → p ∷ ps ≡ cond t (p ∷ runOf is ps) [] ++ cond t (afterRun is ps) (p ∷ ps)
     by true h = ap (λ (l : List Piece). p ∷ l) h
     by false h = refl
 
@@ -196,13 +196,13 @@ run-white (p ∷ ps) = by (white p) refl (run-white ps)
     by true e h = rw e h
     by false e h = refl
 
--- behind a run of white space there is none
-behind-solid : (ps : List Piece) → beginsWhite (behindRun true ps) ≡ false
-unfolding behindRun
+-- after a run of white space there is none
+behind-solid : (ps : List Piece) → beginsWhite (afterRun true ps) ≡ false
+unfolding afterRun
 behind-solid [] = refl
 behind-solid (p ∷ ps) = by (white p) refl (behind-solid ps)
   where
-    by : (t : Bool) → white p ≡ t → beginsWhite (behindRun true ps) ≡ false → beginsWhite (cond (Bool·beq t true) (behindRun true ps) (p ∷ ps)) ≡ false
+    by : (t : Bool) → white p ≡ t → beginsWhite (afterRun true ps) ≡ false → beginsWhite (cond (Bool·beq t true) (afterRun true ps) (p ∷ ps)) ≡ false
     by true e h = h
     by false e h = e
 
@@ -228,7 +228,7 @@ end-ends (p ∷ ps) = by (trimEnd ps) (white p) refl (end-ends ps)
 pub trimming : (s : List ℕ) → Trimming s
 unfolding trimmed
 trimming s =
-    let rest : List Piece = behindRun true (piecesOf s) in
+    let rest : List Piece = afterRun true (piecesOf s) in
     let l = end-splits rest in
     record {
       before = runOf true (piecesOf s);
@@ -253,7 +253,7 @@ module _ (s : List ℕ) (at start : ℕ) (e : start ≡ at + length (bytesAll (r
   left-is : drop (length (bytesAll (runOf true (piecesOf (drop at s))))) (drop at s) ≡ drop start s
   left-is = drop-drop (length (bytesAll (runOf true (piecesOf (drop at s))))) at s ∙ ap (λ (n : ℕ). drop n s) (sym e)
 
-  behind-is : behindRun true (piecesOf (drop at s)) ≡ piecesOf (drop start s)
+  behind-is : afterRun true (piecesOf (drop at s)) ≡ piecesOf (drop start s)
   behind-is = sym (behind-pieces true (drop at s)) ∙ ap piecesOf left-is
 
   pub next-none : length s ≤ start → nextWord at (drop at s) ≡ Nothing
@@ -268,32 +268,32 @@ module _ (s : List ℕ) (at start : ℕ) (e : start ≡ at + length (bytesAll (r
       rw (← e, behind-is) (word-here (piecesOf (drop start s)) start solid some ∙ ap (λ (n : ℕ). At start n) (sym f))
 
 pub next-past : (s : List ℕ) (at : ℕ) → length s ≤ at → nextWord at (drop at s) ≡ Nothing
-unfolding nextWord runOf behindRun
+unfolding nextWord runOf afterRun
 next-past s at h = rw (drop-end s at h, pieces-none)
 
 -- the words of pieces: white space in front does not count, and the first word ends at the next white space
-words-start : (ps : List Piece) → wordsAfter [] ps ≡ wordsAfter [] (behindRun true ps)
-unfolding wordsAfter behindRun
+words-start : (ps : List Piece) → wordsAfter [] ps ≡ wordsAfter [] (afterRun true ps)
+unfolding wordsAfter afterRun
 words-start [] = refl
 words-start (p ∷ ps) = by (white p) refl (words-start ps)
   where
-    by : (t : Bool) → white p ≡ t → wordsAfter [] ps ≡ wordsAfter [] (behindRun true ps)
-        → cond t (wordsAfter [] ps) (wordsAfter (p ∷ []) ps) ≡ wordsAfter [] (cond (Bool·beq t true) (behindRun true ps) (p ∷ ps))
+    by : (t : Bool) → white p ≡ t → wordsAfter [] ps ≡ wordsAfter [] (afterRun true ps)
+        → cond t (wordsAfter [] ps) (wordsAfter (p ∷ []) ps) ≡ wordsAfter [] (cond (Bool·beq t true) (afterRun true ps) (p ∷ ps))
     by true e h = h
     by false e h = rw e
 
-words-first : (word ps : List Piece) → wordsAfter word ps ≡ ended (word ++ runOf false ps) (wordsAfter [] (behindRun false ps))
-unfolding wordsAfter runOf behindRun
+words-first : (word ps : List Piece) → wordsAfter word ps ≡ ended (word ++ runOf false ps) (wordsAfter [] (afterRun false ps))
+unfolding wordsAfter runOf afterRun
 words-first word [] = ap (λ (l : List Piece). ended l []) (sym (append-nil word))
 words-first word (p ∷ ps) = by (white p) refl (words-first (word ++ (p ∷ [])) ps)
   where
-    by : (t : Bool) → white p ≡ t → wordsAfter (word ++ (p ∷ [])) ps ≡ ended ((word ++ (p ∷ [])) ++ runOf false ps) (wordsAfter [] (behindRun false ps))
+    by : (t : Bool) → white p ≡ t → wordsAfter (word ++ (p ∷ [])) ps ≡ ended ((word ++ (p ∷ [])) ++ runOf false ps) (wordsAfter [] (afterRun false ps))
         → cond t (ended word (wordsAfter [] ps)) (wordsAfter (word ++ (p ∷ [])) ps)
-        ≡ ended (word ++ cond (Bool·beq t false) (p ∷ runOf false ps) []) (wordsAfter [] (cond (Bool·beq t false) (behindRun false ps) (p ∷ ps)))
+        ≡ ended (word ++ cond (Bool·beq t false) (p ∷ runOf false ps) []) (wordsAfter [] (cond (Bool·beq t false) (afterRun false ps) (p ∷ ps)))
     by true e h = rw e (ap (λ (l : List Piece). ended l (wordsAfter [] ps)) (sym (append-nil word)))
-    by false e h = h ∙ ap (λ (l : List Piece). ended l (wordsAfter [] (behindRun false ps))) (append-snoc word p (runOf false ps))
+    by false e h = h ∙ ap (λ (l : List Piece). ended l (wordsAfter [] (afterRun false ps))) (append-snoc word p (runOf false ps))
 
--- the next word of a text, and the words behind it, are its words
+-- the next word of a text, and the words after it, are its words
 abbrev pub WordsBy : List ℕ → Word → Type 0
 WordsBy s Nothing = wordsBetween s ≡ []
 WordsBy s (At start end) = wordsBetween s ≡ take (end - start) (drop start s) ∷ wordsBetween (drop end s)
@@ -306,7 +306,7 @@ no-word (p ∷ ps) e h = let q : p ∷ runOf false ps ≡ [] = rw e at h in cc
 -- the word at the beginning of a text that does not begin with white space
 record Word-at (t : List ℕ) : Type 0 where
   taken : take (length (bytesAll (runOf false (piecesOf t)))) t ≡ bytesAll (runOf false (piecesOf t))
-  rest : piecesOf (drop (length (bytesAll (runOf false (piecesOf t)))) t) ≡ behindRun false (piecesOf t)
+  rest : piecesOf (drop (length (bytesAll (runOf false (piecesOf t)))) t) ≡ afterRun false (piecesOf t)
 
 word-at : (t : List ℕ) → Word-at t
 word-at t =
@@ -314,15 +314,15 @@ word-at t =
     record {
       taken =
           ap (λ (l : List ℕ). take (length word) l) (sym (pieces-bytes t) ∙ run-splits false (piecesOf t))
-          ∙ take-at word (bytesAll (behindRun false (piecesOf t))) (length word) refl;
+          ∙ take-at word (bytesAll (afterRun false (piecesOf t))) (length word) refl;
       rest = behind-pieces false t;
     }
 
-words-by : (s : List ℕ) (start : ℕ) (word : List Piece) → piecesOf (drop start s) ≡ behindRun true (piecesOf s)
+words-by : (s : List ℕ) (start : ℕ) (word : List Piece) → piecesOf (drop start s) ≡ afterRun true (piecesOf s)
     → runOf false (piecesOf (drop start s)) ≡ word → WordsBy s (wordAt start word)
 unfolding wordsBetween wordsAfter
 words-by s start [] e w =
-    let none : behindRun true (piecesOf s) ≡ [] = no-word (behindRun true (piecesOf s)) (behind-solid (piecesOf s)) (ap (runOf false) (sym e) ∙ w) in
+    let none : afterRun true (piecesOf s) ≡ [] = no-word (afterRun true (piecesOf s)) (behind-solid (piecesOf s)) (ap (runOf false) (sym e) ∙ w) in
     ap (map bytesAll) (words-start (piecesOf s) ∙ ap (wordsAfter []) none)
 words-by s start (p ∷ word) e w =
     let t : List ℕ = drop start s in
@@ -330,12 +330,12 @@ words-by s start (p ∷ word) e w =
     let h = word-at t in
     let size : start + k - start ≡ k = omega arith in
     let taken : take k t ≡ bytesAll (p ∷ word) = rw w at (h .taken) in
-    let rest : piecesOf (drop k t) ≡ behindRun false (piecesOf t) = rw w at (h .rest) in
-    let words : wordsAfter [] (piecesOf s) ≡ ended (p ∷ word) (wordsAfter [] (behindRun false (piecesOf t))) =
-    words-start (piecesOf s) ∙ ap (wordsAfter []) (sym e) ∙ words-first [] (piecesOf t) ∙ ap (λ (l : List Piece). ended l (wordsAfter [] (behindRun false (piecesOf t)))) w
+    let rest : piecesOf (drop k t) ≡ afterRun false (piecesOf t) = rw w at (h .rest) in
+    let words : wordsAfter [] (piecesOf s) ≡ ended (p ∷ word) (wordsAfter [] (afterRun false (piecesOf t))) =
+    words-start (piecesOf s) ∙ ap (wordsAfter []) (sym e) ∙ words-first [] (piecesOf t) ∙ ap (λ (l : List Piece). ended l (wordsAfter [] (afterRun false (piecesOf t)))) w
     in
     ap (map bytesAll) words
-    ∙ ap (λ (l : List ℕ). l ∷ map bytesAll (wordsAfter [] (behindRun false (piecesOf t)))) (sym taken ∙ ap (λ (n : ℕ). take n t) (sym size))
+    ∙ ap (λ (l : List ℕ). l ∷ map bytesAll (wordsAfter [] (afterRun false (piecesOf t)))) (sym taken ∙ ap (λ (n : ℕ). take n t) (sym size))
     ∙ ap (λ (l : List Piece). take (start + k - start) t ∷ map bytesAll (wordsAfter [] l)) (sym rest ∙ ap piecesOf (drop-drop k start s))
 
 pub words-next : (s : List ℕ) → WordsBy s (nextWord 0 s)
@@ -343,5 +343,5 @@ unfolding nextWord
 words-next s =
     let start : ℕ = 0 + length (bytesAll (runOf true (piecesOf s))) in
     let z : start ≡ length (bytesAll (runOf true (piecesOf s))) = omega arith in
-    let e : piecesOf (drop start s) ≡ behindRun true (piecesOf s) = ap (λ (n : ℕ). piecesOf (drop n s)) z ∙ behind-pieces true s in
-    words-by s start (runOf false (behindRun true (piecesOf s))) e (ap (runOf false) e)
+    let e : piecesOf (drop start s) ≡ afterRun true (piecesOf s) = ap (λ (n : ℕ). piecesOf (drop n s)) z ∙ behind-pieces true s in
+    words-by s start (runOf false (afterRun true (piecesOf s))) e (ap (runOf false) e)

@@ -5,9 +5,7 @@ use mathlib.Core.List.{List, [], _∷_, _++_, map}
 use lib.ListN.{length}
 use Rattle.text.specs.declared.apart.Word.{Word}
 use Rattle.text.specs.declared.apart.Word.the-variants.{At, Nothing}
-use Rattle.text.specs.declared.apart.Seen.{Seen}
-use Rattle.text.specs.declared.apart.Seen.the-variants.{Here, End}
-use Rattle.text.specs.Decoding.{Piece, character, stray, piecesOf, bytesOf, bytesAll}
+use Rattle.text.specs.Decoding.{Piece, character, stray, piecesOf, bytesAll}
 use Rattle.text.specs.Space.{isWhiteSpace}
 
 -- a stray byte is no white space
@@ -15,19 +13,14 @@ abbrev pub white : Piece → Bool
 white (character code) = isWhiteSpace code
 white (stray b) = false
 
--- what pieces begin with, as white space goes, and its length in bytes
-abbrev pub seenFirst : List Piece → Seen
-seenFirst [] = End
-seenFirst (p ∷ pieces) = Here (white p) (length (bytesOf p))
-
--- the run that pieces begin with, of white space or of anything else, and what lies behind it
+-- the run that pieces begin with, of white space or of anything else, and what lies after it
 unfoldable pub runOf : Bool → List Piece → List Piece
 runOf is [] = []
 runOf is (p ∷ pieces) = cond (Bool·beq (white p) is) (p ∷ runOf is pieces) []
 
-unfoldable pub behindRun : Bool → List Piece → List Piece
-behindRun is [] = []
-behindRun is (p ∷ pieces) = cond (Bool·beq (white p) is) (behindRun is pieces) (p ∷ pieces)
+unfoldable pub afterRun : Bool → List Piece → List Piece
+afterRun is [] = []
+afterRun is (p ∷ pieces) = cond (Bool·beq (white p) is) (afterRun is pieces) (p ∷ pieces)
 
 -- without the white space that pieces end with
 abbrev pub beforeEnd : Piece → List Piece → List Piece
@@ -40,7 +33,7 @@ trimEnd (p ∷ pieces) = beforeEnd p (trimEnd pieces)
 
 -- without the white space at either end
 unfoldable pub trimmed : List ℕ → List ℕ
-trimmed s = bytesAll (trimEnd (behindRun true (piecesOf s)))
+trimmed s = bytesAll (trimEnd (afterRun true (piecesOf s)))
 
 -- nothing but white space
 unfoldable pub allWhite : List Piece → Bool
@@ -67,7 +60,7 @@ abbrev pub wordAt : ℕ → List Piece → Word
 wordAt start [] = Nothing
 wordAt start (p ∷ word) = At start (start + length (bytesAll (p ∷ word)))
 
--- where the next word lies, given what is left of the text behind its first `at` bytes: behind the white space there, up to the next
+-- where the next word lies, given what is left of the text after its first `at` bytes: after the white space there, up to the next
 unfoldable pub nextWord : ℕ → List ℕ → Word
 nextWord at s =
-    wordAt (at + length (bytesAll (runOf true (piecesOf s)))) (runOf false (behindRun true (piecesOf s)))
+    wordAt (at + length (bytesAll (runOf true (piecesOf s)))) (runOf false (afterRun true (piecesOf s)))

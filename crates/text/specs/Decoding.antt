@@ -68,17 +68,9 @@ onDecoded (Character code n) f other = f code n
 onDecoded IllFormed f other = other
 onDecoded End f other = other
 
--- the length of a character, 0 for anything else
-abbrev pub lengthOf : Decoded → ℕ
-lengthOf d = onDecoded d (λ code n. n) 0
-
 -- the characters from C0 to FFF and from 4000 to FFFF: most letters outside ASCII, and no white space
 unfoldable pub letter : ℕ → Bool
 letter code = cond (ltb code 0xC0) false (cond (ltb code 0x1000) true (cond (ltb code 0x4000) false (ltb code 0x10000)))
-
--- the first bytes of those that have three
-unfoldable pub letterHead : ℕ → Bool
-letterHead a = cond (eqb a 0xE0) true (within 0xE4 0xEF a)
 
 -- the length of the letter that a text begins with, 0 if it begins with anything else
 abbrev pub letterOf : Decoded → ℕ

@@ -3,3 +3,4 @@ pub mod Unicode
 pub mod Decoding
 pub mod Space
 pub mod Apart
+pub mod Inner

@@ -2,7 +2,7 @@
 use Prim.Native.Nat.{ℕ}
 use mathlib.Core.Bool.{Bool, true, false, cond}
 use mathlib.Core.List.{List, [], _∷_}
-use lib.Dec.{eqb, ltb}
+use lib.Dec.{eqb}
 
 -- U+0009-000D, 0020, 0085, 00A0, 1680, 2000-200A, 2028, 2029, 202F, 205F, 3000
 unfoldable pub whiteSpace : List ℕ
@@ -41,10 +41,3 @@ among n (m ∷ list) = cond (eqb m n) true (among n list)
 
 unfoldable pub isWhiteSpace : ℕ → Bool
 isWhiteSpace code = among code whiteSpace
-
--- what the code decides without the list: the code points below 85, and wide gaps past it
-unfoldable pub lowWhite : ℕ → Bool
-lowWhite code = cond (ltb code 0x0E) (ltb 0x08 code) (eqb code 0x20)
-
-unfoldable pub gap : ℕ → Bool
-gap code = cond (ltb code 0x1680) (ltb 0xA0 code) (ltb 0x3000 code)

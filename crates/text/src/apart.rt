@@ -3,7 +3,8 @@ ghost use Prim.Native.Nat.{_+_, _≤_};
 ghost use mathlib.Core.Path.{_≡_};
 ghost use lib.ListN.{length, drop};
 ghost use Rattle.text.specs.Decoding.{piecesOf, bytesAll};
-ghost use Rattle.text.specs.Apart.{seenFirst, runOf, trimEnd, trimmed, blank, nextWord};
+ghost use Rattle.text.specs.Apart.{runOf, trimEnd, trimmed, blank, nextWord};
+ghost use Rattle.text.specs.Inner.{seenFirst};
 use crate::space::is_white_space;
 use crate::utf8::Decoded;
 use crate::utf8::decode;
@@ -38,7 +39,7 @@ fn see(s: &[u8], at: usize) -> Seen
     }
 }
 
-// The place behind the run at a place: of white space, or of anything else.
+// The place after the run at a place: of white space, or of anything else.
 fn run_end(s: &[u8], from: usize, is_white: bool) -> usize
     requires { ⌜ from ≤ length (now s) ⌝ }
     ensures { λ r. ⌜ r ≡ from + length (bytesAll (runOf «is_white» (piecesOf (drop from (now (s .entry)))))) ⌝ }
@@ -56,7 +57,7 @@ fn run_end(s: &[u8], from: usize, is_white: bool) -> usize
     at
 }
 
-// The place behind the last piece from a place on that is no white space; that place itself if there is none.
+// The place after the last piece from a place on that is no white space; that place itself if there is none.
 fn last_solid(s: &[u8], from: usize) -> usize
     requires { ⌜ from ≤ length (now s) ⌝ }
     ensures { λ r. ⌜ r ≡ from + length (bytesAll (trimEnd (piecesOf (drop from (now (s .entry)))))) ⌝ }

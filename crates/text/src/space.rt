@@ -1,6 +1,7 @@
 // White space: the 25 code points with Unicode's property White_Space.
 ghost use mathlib.Core.Path.{_≡_};
-ghost use Rattle.text.specs.Space.{isWhiteSpace, lowWhite, gap};
+ghost use Rattle.text.specs.Space.{isWhiteSpace};
+ghost use Rattle.text.specs.Inner.{lowWhite, gap};
 
 const WHITE_SPACE: [u32; 25] = [
     0x0009,

@@ -2,7 +2,8 @@
 ghost use mathlib.Core.Path.{_≡_};
 ghost use lib.ListN.{length, drop, getD};
 ghost use Prim.Native.Nat.{_%_, _≤_, _<_};
-ghost use Rattle.text.specs.Decoding.{leastSecond, greatestSecond, within, second, later, decodeTwo, decodeThree, decodeFour, table, decodeFirst, lengthOf, letterHead, letterFirst, wellFormedLength};
+ghost use Rattle.text.specs.Decoding.{leastSecond, greatestSecond, within, second, later, decodeTwo, decodeThree, decodeFour, table, decodeFirst, letterFirst, wellFormedLength};
+ghost use Rattle.text.specs.Inner.{lengthOf, letterHead};
 use buffer::greatest_byte;
 
 // What stands at a place of a text.

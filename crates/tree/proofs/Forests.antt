@@ -9,8 +9,8 @@ use Rattle.tree.specs.Images.{framesOf, flat}
 use Rattle.tree.specs.Rules.{checkTree}
 use Rattle.tree.specs.Forest.{Forest, flatten, nodesIn, orderly}
 use Rattle.tree.specs.declared.check.Checked.the-variants.{Good}
-use Rattle.tree.proofs.Wholes.{well-formed-good, good-well-formed}
-use Rattle.tree.proofs.Growing.{forest-obeys}
+use Rattle.tree.proofs.WellFormedImages.{well-formed-good, good-well-formed}
+use Rattle.tree.proofs.Flattening.{forest-obeys}
 use Rattle.tree.proofs.Planting.{obeys-forest}
 
 -- an image that stands for a forest

@@ -1,4 +1,4 @@
--- Laws of an image as items: one frame, then the items of what stands behind it.
+-- Laws of an image as items: one frame, then the items of what stands after it.
 use Prim.Native.Nat.{ℕ, zero, suc, _+_, _-_, _<_, _≤_}
 use mathlib.Core.Path.{_≡_, refl, sym, ap, _∙_}
 use mathlib.Core.Bool.{true, false}
@@ -13,12 +13,12 @@ use Rattle.image.specs.Frames.{Frame}
 use Rattle.image.specs.Reading.{headFirst, Read, read, broken, ended, readFirst}
 use Rattle.image.proofs.Encoding.{read-within, read-ended}
 use Rattle.tree.specs.Images.{Item, whole, torn, itemsFrom, items, framesIn, framesOf}
-use Rattle.tree.specs.Rules.{Seen, start, obeys, after, judge, checkTree}
+use Rattle.tree.specs.Rules.{Seen, start, obeys, after, judgeItems, checkTree}
 use Rattle.tree.specs.Steps.{startWalk, seenBy, Sound, passed, stepBy}
 use Rattle.tree.specs.declared.walk.Walk.{Walk}
 use Rattle.tree.specs.declared.walk.Step.{Step}
 use Rattle.tree.specs.declared.check.Checked.the-variants.{Good, BadFrame}
-use Rattle.tree.proofs.Told.{passes}
+use Rattle.tree.proofs.PassedFrames.{passes}
 
 items-skip : (s : List ℕ) (j : ℕ) → itemsFrom s j ≡ itemsFrom (drop j s) 0
 unfolding itemsFrom
@@ -62,20 +62,20 @@ frames-end s at h = ap framesIn (items-end s at h)
 
 -- a frame that obeys, one that does not, and bytes that are none
 module _ (seen : Seen) (n : ℕ) (s : List ℕ) where
-  pub judge-on : (f : Frame) (k : ℕ) → readFirst s ≡ read f k → obeys seen f ≡ true → judge seen n (items s) ≡ judge (after seen f) (n + 1) (items (drop k s))
-  unfolding judge
+  pub judge-on : (f : Frame) (k : ℕ) → readFirst s ≡ read f k → obeys seen f ≡ true → judgeItems seen n (items s) ≡ judgeItems (after seen f) (n + 1) (items (drop k s))
+  unfolding judgeItems
   judge-on f k e o = rw (items-read s f k e, o)
 
-  pub judge-stop : (f : Frame) (k : ℕ) → readFirst s ≡ read f k → obeys seen f ≡ false → judge seen n (items s) ≡ BadFrame n
-  unfolding judge
+  pub judge-stop : (f : Frame) (k : ℕ) → readFirst s ≡ read f k → obeys seen f ≡ false → judgeItems seen n (items s) ≡ BadFrame n
+  unfolding judgeItems
   judge-stop f k e o = rw (items-read s f k e, o)
 
-  pub judge-torn : readFirst s ≡ broken → judge seen n (items s) ≡ BadFrame n
-  unfolding judge
+  pub judge-torn : readFirst s ≡ broken → judgeItems seen n (items s) ≡ BadFrame n
+  unfolding judgeItems
   judge-torn e = rw (items-broken s e)
 
-pub judge-none : (seen : Seen) (n : ℕ) → judge seen n [] ≡ Good
-unfolding judge
+pub judge-none : (seen : Seen) (n : ℕ) → judgeItems seen n [] ≡ Good
+unfolding judgeItems
 judge-none seen n = refl
 
 -- a walk on its way: what is left is judged as the whole image is
@@ -83,7 +83,7 @@ pub record OnWay (image : List ℕ) (walk : Walk) (n : ℕ) : Type 0 where
   pub sound : Sound walk
   pub within : walk .at ≤ length image
   pub count : n ≤ walk .at
-  pub same : judge (seenBy image walk) n (items (drop (walk .at) image)) ≡ judge start 0 (items image)
+  pub same : judgeItems (seenBy image walk) n (items (drop (walk .at) image)) ≡ judgeItems start 0 (items image)
 
 module _ (image : List ℕ) (walk : Walk) (n : ℕ) (way : OnWay image walk n) (r : Step) where
   -- a turn
@@ -115,7 +115,7 @@ module _ (image : List ℕ) (walk : Walk) (n : ℕ) (way : OnWay image walk n) (
 
   -- the frame that breaks a rule
   pub stops : (x : Read) → readFirst (drop (walk .at) image) ≡ x → r ≡ stepBy (seenBy image walk) walk x → r .ok ≡ false → walk .at < length image
-      → BadFrame n ≡ judge start 0 (items image)
+      → BadFrame n ≡ judgeItems start 0 (items image)
   unfolding stepBy
   stops (read f k) e s o h = sym (judge-stop (seenBy image walk) n (drop (walk .at) image) f k e (sym (ap (λ (step : Step). step .ok) s) ∙ o)) ∙ way .same
   stops broken e s o h = sym (judge-torn (seenBy image walk) n (drop (walk .at) image) e) ∙ way .same
@@ -127,13 +127,13 @@ unfolding seenBy
 sets-out image walk e =
     rw e (record { sound = record { deep = omega arith; names = refl }; within = omega arith; count = omega arith; same = refl })
 
-pub arrives : (image : List ℕ) (walk : Walk) (n : ℕ) → OnWay image walk n → length image ≤ walk .at → Good ≡ judge start 0 (items image)
+pub arrives : (image : List ℕ) (walk : Walk) (n : ℕ) → OnWay image walk n → length image ≤ walk .at → Good ≡ judgeItems start 0 (items image)
 arrives image walk n way h = sym (judge-none (seenBy image walk) n) ∙ rw (← items-end image (walk .at) h) (way .same)
 
 pub check-long : (image : List ℕ) → 32768 < length image → BadFrame 0 ≡ checkTree image
 unfolding checkTree
 check-long image h = rw (lt-ltb 32768 (length image))
 
-pub check-judged : (image : List ℕ) → length image ≤ 32768 → judge start 0 (items image) ≡ checkTree image
+pub check-judged : (image : List ℕ) → length image ≤ 32768 → judgeItems start 0 (items image) ≡ checkTree image
 unfolding checkTree
 check-judged image h = rw (le-ltb 32768 (length image))

@@ -1,12 +1,15 @@
 -- The laws of the crate `tree` that belong to no one function, and that later crates cite.
 pub mod Walks
-pub mod Told
+pub mod PassedFrames
 pub mod Items
-pub mod Wholes
+pub mod WellFormedImages
 pub mod Trails
-pub mod Reached
-pub mod Growing
+pub mod CommandNodes
+pub mod Flattening
 pub mod Planting
 pub mod Forests
-pub mod Firsts
+pub mod FirstBad
 pub mod Examples
+pub mod OneFrameMore
+pub mod Grown
+pub mod GrowthExamples

@@ -14,7 +14,7 @@ use Rattle.image.specs.Limits.{isName, fair}
 use Rattle.image.proofs.Fields.{both-first, both-second, both-true}
 use Rattle.tree.specs.Rules.{Seen, start, isLess, rises, follows, obeys, after, obeyAll}
 use Rattle.tree.specs.Forest.{Forest, bare, grown, flatten, nodesIn, optionsIn, flagsIn, definitionsOnly, modest, orderly}
-use Rattle.tree.proofs.Growing.{put-length, put-at, put-below}
+use Rattle.tree.proofs.Flattening.{put-length, put-at, put-below}
 
 -- what a list of frames plants: the definitions before its first node, and for each depth the siblings before the first node above them
 record Planted : Type 0 where
@@ -70,7 +70,7 @@ module _ (d h : ℕ) (n ds : List ℕ) (u : Perhaps) (p : Planted) where
 regroup : (a b c r : List Frame) → (a ++ (b ++ c)) ++ r ≡ a ++ (b ++ (c ++ r))
 regroup a b c r = simp append-assoc
 
--- a node takes the definitions and the two layers behind it
+-- a node takes the definitions and the two layers after it
 layers-put : (d h : ℕ) (n ds : List ℕ) (u : Perhaps) (p : Planted) → layers d (put d h n ds u p .at) ≡ node d h n ds u ∷ (p .loose ++ layers (suc d) (p .at))
 unfolding layers flatten
 layers-put zero h n ds u p = rw (put-here 0 h n ds u p)

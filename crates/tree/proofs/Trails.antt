@@ -19,7 +19,7 @@ use Rattle.frame.specs.declared.framed.Framed.{Framed as Frames}
 use Rattle.frame.specs.declared.framed.Framed.the-variants.{Frame as Framed, Broken, End as Ended}
 use Rattle.frame.proofs.Texts.{bytes-drop}
 use Rattle.frame.proofs.Series.{texts-stop, word-within, word-length, words-more, texts-none, whole-none, path-more, path-whole}
-use Rattle.image.specs.Frames.{Perhaps, text, perhaps, Frame, node, option, flag, encode}
+use Rattle.image.specs.Frames.{Perhaps, text, perhaps, Frame, node, option, flag, encodeFrame}
 use Rattle.image.specs.Limits.{both, isName, fair}
 use Rattle.image.specs.Reading.{headFirst, readBy, Read, read, broken, ended, readFirst, nodeIn, optionIn, flagIn}
 use Rattle.image.specs.declared.head.Head.{Head}
@@ -31,7 +31,8 @@ use Rattle.tree.specs.Rules.{obeys, checkTree}
 use Rattle.tree.specs.Steps.{textFirst, nameAt, seenBy, startWalk, passed as walked, stepBy}
 use Rattle.tree.specs.Subtrees.{isNamed, isUpper, upTo, onFrom, rooted, subtree}
 use Rattle.tree.specs.Commands.{Reached, onSubtree, descend, reachedBy}
-use Rattle.tree.specs.Trails.{partAt, Descended, Leads, Finding, allFair, nextWord, Ahead, foundBy, startTrail, isAbove, Inside, Followed, inside, behind, Passing}
+use Rattle.tree.specs.Trails.{imagePart, Descended, Leads, Finding}
+use Rattle.tree.specs.Inner.{allFair, nextIn, Ahead, foundBy, startTrail, isAbove, Inside, Trailed, inside, beyond, Passing}
 use Rattle.tree.specs.declared.walk.Walk.{Walk}
 use Rattle.tree.specs.declared.walk.Step.{Step}
 use Rattle.tree.specs.declared.command.Place.{Place}
@@ -42,9 +43,9 @@ use Rattle.tree.specs.declared.command.Next.the-variants.{Word, End as N
 use Rattle.tree.specs.declared.check.Checked.the-variants.{Good, BadFrame}
 use Rattle.tree.specs.declared.check.Tested.{Tested}
 use Rattle.tree.proofs.Items.{frames-read, frames-end}
-use Rattle.tree.proofs.Told.{head-name}
+use Rattle.tree.proofs.PassedFrames.{head-name}
 use Rattle.tree.proofs.Walks.{passed-at}
-use Rattle.tree.proofs.Wholes.{AllFit, flat-append, frames-flat}
+use Rattle.tree.proofs.WellFormedImages.{AllFit, flat-append, frames-flat}
 
 -- FRAMES UP TO A TEST, and from one on
 up-never : (test : Frame → Bool) → ((f : Frame) → test f ≡ false) → (fs : List Frame) → upTo test fs ≡ fs
@@ -137,20 +138,20 @@ plain-flag c name l ds = record { below = by; other = λ k w. refl }
     by (suc k) = refl
 
 module _ (image : List ℕ) (at n : ℕ) (b : Bytes image) where
-  byte-of : (i : ℕ) (f : Frame) → readFirst (drop at image) ≡ read f n → getD image (at + i) 0 ≡ getD (encode f ++ drop n (drop at image)) i 0
+  byte-of : (i : ℕ) (f : Frame) → readFirst (drop at image) ≡ read f n → getD image (at + i) 0 ≡ getD (encodeFrame f ++ drop n (drop at image)) i 0
   byte-of i f e = sym (getD-drop at image i 0) ∙ ap (λ (s : List ℕ). getD s i 0) (read-back (drop at image) (bytes-drop at image b) f n e)
 
-  kind-of : (f : Frame) → readFirst (drop at image) ≡ read f n → getD image at 0 ≡ getD (encode f ++ drop n (drop at image)) 0 0
+  kind-of : (f : Frame) → readFirst (drop at image) ≡ read f n → getD image at 0 ≡ getD (encodeFrame f ++ drop n (drop at image)) 0 0
   kind-of f e = let k : at + 0 ≡ at = omega arith in ap (λ (i : ℕ). getD image i 0) (sym k) ∙ byte-of 0 f e
 
   pub no-node : (f : Frame) → readFirst (drop at image) ≡ read f n → (getD image at 0 ≡ 1 → ⊥) → Plain f
-  unfolding encode
+  unfolding encodeFrame
   no-node (node d h name ds u) e k = absurd (k (kind-of (node d h name ds u) e))
   no-node (option r c name l ds) e k = plain-option r c name l ds
   no-node (flag c name l ds) e k = plain-flag c name l ds
 
   pub node-at : (f : Frame) → readFirst (drop at image) ≡ read f n → getD image at 0 ≡ 1 → NodeAt image at f
-  unfolding encode text textOf numberBytes fair isName
+  unfolding encodeFrame text textOf numberBytes fair isName
   node-at (node d h name ds u) e k =
       let q : getD image (at + 1) 0 ≡ d = byte-of 1 (node d h name ds u) e in
       record {
@@ -188,7 +189,7 @@ module _ (words image : List ℕ) (at : ℕ) (t : Trail) (passed : List Frame) (
         path = ap (λ (x : Reached). x .path) r;
         left = ap (λ (x : Reached). x .words) r;
         frames = ap framesOf s ∙ frames-flat passed (all-fit passed (o .fair)) ∙ ap (λ (x : Reached). x .frames) r;
-        within = record { order = let a = o .start in omega arith; inside = let a = o .within in omega arith; passed = o .behind };
+        within = record { order = let a = o .start in omega arith; inside = let a = o .within in omega arith; passed = o .ahead };
       }
 
 -- ONE FRAME MORE
@@ -199,20 +200,20 @@ module _ (words image : List ℕ) (b : Bytes image) (at n : ℕ) (f : Frame) (e 
   frames-on : framesOf (drop at image) ≡ f ∷ more
   frames-on = frames-read (drop at image) f n e ∙ ap (λ (l : List ℕ). f ∷ framesOf l) (drop-drop n at image)
 
-  bytes-on : take n (drop at image) ≡ encode f
+  bytes-on : take n (drop at image) ≡ encodeFrame f
   bytes-on =
       let back = read-back (drop at image) (bytes-drop at image b) f n e in
-      let all : length (drop at image) ≡ length (encode f) + length (drop n (drop at image)) = ap length back ∙ length-append (encode f) (drop n (drop at image)) in
+      let all : length (drop at image) ≡ length (encodeFrame f) + length (drop n (drop at image)) = ap length back ∙ length-append (encodeFrame f) (drop n (drop at image)) in
       let less = length-drop n (drop at image) in
       let in-it = read-within (drop at image) f n e .1 in
-      let size : n ≡ length (encode f) = omega arith in
-      ap (take n) back ∙ ap (λ (m : ℕ). take m (encode f ++ drop n (drop at image))) size ∙ take-append-seam (encode f) (drop n (drop at image))
+      let size : n ≡ length (encodeFrame f) = omega arith in
+      ap (take n) back ∙ ap (λ (m : ℕ). take m (encodeFrame f ++ drop n (drop at image))) size ∙ take-append-seam (encodeFrame f) (drop n (drop at image))
 
   within : at + n ≤ length image
   within = let l = length-drop at image in let w = read-within (drop at image) f n e .1 in omega arith
 
   -- the bytes from a place before
-  front-on : (start : ℕ) → start ≤ at → take (at + n - start) (drop start image) ≡ take (at - start) (drop start image) ++ encode f
+  front-on : (start : ℕ) → start ≤ at → take (at + n - start) (drop start image) ≡ take (at - start) (drop start image) ++ encodeFrame f
   front-on start l =
       let k : at + n - start ≡ at - start + n = omega arith in
       let j : start + (at - start) ≡ at = omega arith in
@@ -221,17 +222,17 @@ module _ (words image : List ℕ) (b : Bytes image) (at n : ℕ) (f : Frame) (e 
       ∙ ap (λ (l : List ℕ). take (at - start) (drop start image) ++ take n l) (drop-drop (at - start) start image ∙ ap (λ (m : ℕ). drop m image) j)
       ∙ ap (λ (l : List ℕ). take (at - start) (drop start image) ++ l) bytes-on
 
-  flat-one : flat (f ∷ []) ≡ encode f
+  flat-one : flat (f ∷ []) ≡ encodeFrame f
   unfolding flat
-  flat-one = append-nil (encode f)
+  flat-one = append-nil (encodeFrame f)
 
   fair-one : allFair (f ∷ []) ≡ true
   unfolding allFair
   fair-one = both-true _ _ good refl
 
-  up-past : (test : Frame → Bool) → test f ≡ false → upTo test (framesOf (drop at image)) ≡ f ∷ upTo test more
+  up-over : (test : Frame → Bool) → test f ≡ false → upTo test (framesOf (drop at image)) ≡ f ∷ upTo test more
   unfolding upTo
-  up-past test k = ap (upTo test) frames-on ∙ else-is _ _ _ k
+  up-over test k = ap (upTo test) frames-on ∙ else-is _ _ _ k
 
   up-here : (test : Frame → Bool) → test f ≡ true → upTo test (framesOf (drop at image)) ≡ []
   unfolding upTo
@@ -253,15 +254,15 @@ module _ (words image : List ℕ) (b : Bytes image) (at n : ℕ) (f : Frame) (e 
           start = let s = o .start in omega arith;
           within = within;
           end = o .end;
-          behind = o .behind;
+          ahead = o .ahead;
           whole = o .whole;
           top = o .top;
           none = o .none;
-          bytes = front-on (t .place .start) (o .start) ∙ ap (λ (s : List ℕ). s ++ encode f) (o .bytes) ∙ ap (λ (s : List ℕ). flat passed ++ s) (sym flat-one) ∙ sym (flat-append passed (f ∷ []));
+          bytes = front-on (t .place .start) (o .start) ∙ ap (λ (s : List ℕ). s ++ encodeFrame f) (o .bytes) ∙ ap (λ (s : List ℕ). flat passed ++ s) (sym flat-one) ∙ sym (flat-append passed (f ∷ []));
           fair = fair-both passed (f ∷ []) (o .fair) fair-one;
           free = λ w l q. on-behind (isNamed (t .depth) w) passed (f ∷ []) (o .free w l q) ∙ on-other (isNamed (t .depth) w) (m w l q);
           steps =
-              ap (λ (fs : List Frame). descend (t .depth) fs (path words image at t passed o) (left words image at t passed o)) (append-snoc passed f (upTo (isAbove (t .depth)) more) ∙ ap (λ (fs : List Frame). passed ++ fs) (sym (up-past (isAbove (t .depth)) a)))
+              ap (λ (fs : List Frame). descend (t .depth) fs (path words image at t passed o) (left words image at t passed o)) (append-snoc passed f (upTo (isAbove (t .depth)) more) ∙ ap (λ (fs : List Frame). passed ++ fs) (sym (up-over (isAbove (t .depth)) a)))
               ∙ o .steps;
         }
 
@@ -275,13 +276,13 @@ module _ (words image : List ℕ) (b : Bytes image) (at n : ℕ) (f : Frame) (e 
       word = take m (drop (t .place .at + 3) words)
 
       abbrev next : Trail
-      next = record { place = record { start = at; end = length image; at = t .place .at + 3 + m }; depth = t .depth + 1; next = nextWord (frameFirst (drop (t .place .at + 3 + m) words)) }
+      next = record { place = record { start = at; end = length image; at = t .place .at + 3 + m }; depth = t .depth + 1; next = nextIn (frameFirst (drop (t .place .at + 3 + m) words)) }
 
       child : isNamed (t .depth) word f ≡ true → subtree (t .depth) word (passed ++ upTo (isAbove (t .depth)) (framesOf (drop at image))) ≡ f ∷ upTo (isUpper (t .depth)) more
       unfolding subtree
       child c =
           ap (rooted (t .depth))
-          (ap (λ (l : List Frame). onFrom (isNamed (t .depth) word) (passed ++ l)) (up-past (isAbove (t .depth)) a)
+          (ap (λ (l : List Frame). onFrom (isNamed (t .depth) word) (passed ++ l)) (up-over (isAbove (t .depth)) a)
           ∙ on-behind (isNamed (t .depth) word) passed (f ∷ upTo (isAbove (t .depth)) more) (o .free word _ (words-more words (t .place .at) kind m q))
           ∙ on-met (isNamed (t .depth) word) (upTo (isAbove (t .depth)) more) c)
           ∙ ap (λ (l : List Frame). f ∷ l) (up-up (isAbove (t .depth)) (isUpper (t .depth)) (above-upper (t .depth)) more)
@@ -309,7 +310,7 @@ module _ (words image : List ℕ) (b : Bytes image) (at n : ℕ) (f : Frame) (e 
             start = omega arith;
             within = within;
             end = refl;
-            behind = word-within words (t .place .at) kind m q;
+            ahead = word-within words (t .place .at) kind m q;
             whole = path-whole words (t .place .at) kind m q bw shorter (o .whole);
             top = λ z. absurd (omega arith);
             none = λ z. absurd (longer (path words image at t passed o) (sym p ∙ z));
@@ -323,12 +324,12 @@ module _ (words image : List ℕ) (b : Bytes image) (at n : ℕ) (f : Frame) (e 
           }
 
 -- THE NEXT WORD
-pub next-framed : (d : Frames) (n : ℕ) → Word n ≡ nextWord d → (kind : ℕ) × (d ≡ Framed kind n)
+pub next-framed : (d : Frames) (n : ℕ) → Word n ≡ nextIn d → (kind : ℕ) × (d ≡ Framed kind n)
 next-framed (Framed kind m) n e = let k : m ≡ n = cc in (kind, ap (Framed kind) k)
 next-framed Broken n e = absurd (let z : _≡_ {A = ℕ} 0 1 = cc in omega arith)
 next-framed Ended n e = absurd (let z : _≡_ {A = ℕ} 0 1 = cc in omega arith)
 
-next-none : (words : List ℕ) (at : ℕ) (w : List ℕ) (l : List (List ℕ)) (d : Frames) → frameFirst (drop at words) ≡ d → NoMore ≡ nextWord d → textsIn (drop at words) ≡ w ∷ l → ⊥
+next-none : (words : List ℕ) (at : ℕ) (w : List ℕ) (l : List (List ℕ)) (d : Frames) → frameFirst (drop at words) ≡ d → NoMore ≡ nextIn d → textsIn (drop at words) ≡ w ∷ l → ⊥
 next-none words at w l (Framed kind n) e k q = let z : _≡_ {A = ℕ} 0 1 = cc in omega arith
 next-none words at w l Broken e k q = let z = texts-stop (drop at words) Broken e (hit (1 ∷ 2 ∷ []) 1 tt) in let y : _≡_ {A = ℕ} 0 1 = cc in omega arith
 next-none words at w l Ended e k q = let z = texts-stop (drop at words) Ended e (hit (1 ∷ 2 ∷ []) 2 tt) in let y : _≡_ {A = ℕ} 0 1 = cc in omega arith
@@ -358,45 +359,45 @@ last-name image p m s e h =
 -- THE TURNS OF THE CODE
 module _ (words image : List ℕ) (b : Bytes image) (at : ℕ) (h : at < length image) (t : Trail) where
   -- no node
-  pub past-plain : (getD image at 0 ≡ 1 → ⊥) → Passing words image at t t
-  past-plain k f n e g (inside passed o) =
+  pub after-plain : (getD image at 0 ≡ 1 → ⊥) → Passing words image at t t
+  after-plain k f n e g (inside passed o) =
       let x = no-node image at n b f e k in
       inside _ (passes-by words image b at n f e g h t passed o (x .below (t .depth)) (λ w l q. x .other (t .depth) w))
-  past-plain k f n e g (behind z y d) = behind z y d
+  after-plain k f n e g (beyond z y d) = beyond z y d
 
   -- the subtree is passed already
-  pub past-behind : t .place .end < length image → Passing words image at t t
-  past-behind k f n e g (inside passed o) = absurd (let q = o .end in omega arith)
-  past-behind k f n e g (behind z y d) = behind z y d
+  pub after-beyond : t .place .end < length image → Passing words image at t t
+  after-beyond k f n e g (inside passed o) = absurd (let q = o .end in omega arith)
+  after-beyond k f n e g (beyond z y d) = beyond z y d
 
   module _ (kind : getD image at 0 ≡ 1) where
     -- a node below a child
-    pub past-deep : t .depth < getD image (at + 1) 0 → Passing words image at t t
-    past-deep k f n e g (inside passed o) =
+    pub after-deep : t .depth < getD image (at + 1) 0 → Passing words image at t t
+    after-deep k f n e g (inside passed o) =
         let x = node-at image at n b f e kind in
         inside _ (passes-by words image b at n f e g h t passed o (x .below (t .depth) (omega arith)) (λ w l q. x .other (t .depth) w (λ z. omega arith)))
-    past-deep k f n e g (behind z y d) = behind z y d
+    after-deep k f n e g (beyond z y d) = beyond z y d
 
     -- a node that is not below
-    pub past-above : getD image (at + 1) 0 < t .depth → length image ≤ t .place .end → Passing words image at t (record { place = record { start = t .place .start; end = at; at = t .place .at }; depth = t .depth; next = t .next })
-    past-above k l f n e g (inside passed o) =
+    pub after-above : getD image (at + 1) 0 < t .depth → length image ≤ t .place .end → Passing words image at t (record { place = record { start = t .place .start; end = at; at = t .place .at }; depth = t .depth; next = t .next })
+    after-above k l f n e g (inside passed o) =
         let x = node-at image at n b f e kind in
-        behind h (λ z. omega arith) (closes words image b at n f e g h t passed o (x .above (t .depth) k) (λ z. omega arith))
-    past-above k l f n e g (behind z y d) = absurd (omega arith)
+        beyond h (λ z. omega arith) (closes words image b at n f e g h t passed o (x .above (t .depth) k) (λ z. omega arith))
+    after-above k l f n e g (beyond z y d) = absurd (omega arith)
 
     -- a child that is not of the next word's name, told by lengths, by last bytes or by all of them; and the one that is
     module _ (deep : getD image (at + 1) 0 ≡ t .depth) (end : length image ≤ t .place .end) where
-      past-unlike : ((f : Frame) (n : ℕ) → readFirst (drop at image) ≡ read f n → fair f ≡ true → (w : List ℕ) (l : List (List ℕ)) → textsIn (drop (t .place .at) words) ≡ w ∷ l → nameAt image (at + 4) ≡ w → ⊥)
+      after-unlike : ((f : Frame) (n : ℕ) → readFirst (drop at image) ≡ read f n → fair f ≡ true → (w : List ℕ) (l : List (List ℕ)) → textsIn (drop (t .place .at) words) ≡ w ∷ l → nameAt image (at + 4) ≡ w → ⊥)
           → Passing words image at t t
-      past-unlike k f n e g (inside passed o) =
+      after-unlike k f n e g (inside passed o) =
           let x = node-at image at n b f e kind in
           inside _
           (passes-by words image b at n f e g h t passed o (x .below (t .depth) (omega arith))
           (λ w l q. ap (λ (d : ℕ). isNamed d w f) (sym deep) ∙ x .named w ∙ not-same (nameAt image (at + 4)) w (k f n e g w l q)))
-      past-unlike k f n e g (behind z y d) = absurd (omega arith)
+      after-unlike k f n e g (beyond z y d) = absurd (omega arith)
 
-      pub past-no-word : Ahead words t → t .next ≡ NoMore → Passing words image at t t
-      past-no-word a k = past-unlike (λ f n e g w l q z. next-none words (t .place .at) w l (frameFirst (drop (t .place .at) words)) refl (sym k ∙ a) q)
+      pub after-no-word : Ahead words t → t .next ≡ NoMore → Passing words image at t t
+      after-no-word a k = after-unlike (λ f n e g w l q z. next-none words (t .place .at) w l (frameFirst (drop (t .place .at) words)) refl (sym k ∙ a) q)
 
       module _ (framed m : ℕ) (q : frameFirst (drop (t .place .at) words) ≡ Framed framed m) where
         abbrev ahead : List ℕ
@@ -405,14 +406,14 @@ module _ (words image : List ℕ) (b : Bytes image) (at : ℕ) (h : at < length 
         next-is : (w : List ℕ) (l : List (List ℕ)) → textsIn (drop (t .place .at) words) ≡ w ∷ l → w ≡ ahead
         next-is w l z = cc (z, words-more words (t .place .at) framed m q)
 
-        pub past-longer : (getD image (at + 4) 0 ≡ m → ⊥) → Passing words image at t t
-        past-longer k =
-            past-unlike
+        pub after-longer : (getD image (at + 4) 0 ≡ m → ⊥) → Passing words image at t t
+        after-longer k =
+            after-unlike
             (λ f n e g w l z y. k (sym (node-at image at n b f e kind .size) ∙ ap length (y ∙ next-is w l z) ∙ word-length words (t .place .at) framed m q))
 
-        pub past-last : (getD image (at + 4 + m) 0 ≡ getD words (t .place .at + 3 + m - 1) 0 → ⊥) → Passing words image at t t
-        past-last k =
-            past-unlike
+        pub after-last : (getD image (at + 4 + m) 0 ≡ getD words (t .place .at + 3 + m - 1) 0 → ⊥) → Passing words image at t t
+        after-last k =
+            after-unlike
             (λ f n e g w l z y.
             let x = node-at image at n b f e kind in
             let s = x .some g in
@@ -423,20 +424,20 @@ module _ (words image : List ℕ) (b : Bytes image) (at : ℕ) (h : at < length 
           same-as : r ≡ sameBytes (nameAt image (at + 4)) ahead
           same-as = is-same ∙ ap (λ (s : List ℕ). sameBytes s next) is-name ∙ ap (sameBytes (nameAt image (at + 4))) is-word
 
-          pub past-other : r ≡ false → Passing words image at t t
-          past-other k = past-unlike (λ f n e g w l z y. true-is-not-false (sym (ap (λ (s : List ℕ). sameBytes s ahead) (y ∙ next-is w l z) ∙ same-self ahead) ∙ sym same-as ∙ k))
+          pub after-other : r ≡ false → Passing words image at t t
+          after-other k = after-unlike (λ f n e g w l z y. true-is-not-false (sym (ap (λ (s : List ℕ). sameBytes s ahead) (y ∙ next-is w l z) ∙ same-self ahead) ∙ sym same-as ∙ k))
 
-          pub past-named : Bytes words → length words ≤ 4096 → r ≡ true
-              → Passing words image at t (record { place = record { start = at; end = length image; at = t .place .at + 3 + m }; depth = t .depth + 1; next = nextWord (frameFirst (drop (t .place .at + 3 + m) words)) })
-          past-named bw s k f n e g (inside passed o) =
+          pub after-named : Bytes words → length words ≤ 4096 → r ≡ true
+              → Passing words image at t (record { place = record { start = at; end = length image; at = t .place .at + 3 + m }; depth = t .depth + 1; next = nextIn (frameFirst (drop (t .place .at + 3 + m) words)) })
+          after-named bw s k f n e g (inside passed o) =
               let x = node-at image at n b f e kind in
               inside _
               (enters words image b at n f e g h t passed o framed m q bw s (x .below (t .depth) (omega arith)) (ap (λ (d : ℕ). isNamed d ahead f) (sym deep) ∙ x .named ahead ∙ sym same-as ∙ k)
               (λ w. x .other (t .depth + 1) w (λ z. omega arith)))
-          past-named bw s k f n e g (behind z y d) = absurd (omega arith)
+          after-named bw s k f n e g (beyond z y d) = absurd (omega arith)
 
 -- THE START AND THE END
-pub follows-start : (words image : List ℕ) (walk : Walk) (t : Trail) → walk ≡ startWalk → t ≡ startTrail words image → Followed words image (walk .at) t
+pub follows-start : (words image : List ℕ) (walk : Walk) (t : Trail) → walk ≡ startWalk → t ≡ startTrail words image → Trailed words image (walk .at) t
 unfolding flat allFair onFrom reachedBy
 follows-start words image walk t e q =
     rw (e, q)
@@ -445,7 +446,7 @@ follows-start words image walk t e q =
       start = omega arith;
       within = omega arith;
       end = refl;
-      behind = omega arith;
+      ahead = omega arith;
       whole = whole-none;
       top = λ z. texts-none;
       none = λ z. refl;
@@ -455,7 +456,7 @@ follows-start words image walk t e q =
       steps = ap (λ (fs : List Frame). descend 0 fs (textsIn []) (textsIn words)) (up-never (isAbove 0) (λ f. refl) (framesOf image)) ∙ ap (λ (p : List (List ℕ)). descend 0 (framesOf image) p (textsIn words)) texts-none;
     }))
 
-pub follows-end : (words image : List ℕ) (at : ℕ) (t : Trail) → length image ≤ at → Followed words image at t → Leads words image (foundBy t) (reachedBy image words)
+pub follows-end : (words image : List ℕ) (at : ℕ) (t : Trail) → length image ≤ at → Trailed words image at t → Leads words image (foundBy t) (reachedBy image words)
 unfolding upTo
 follows-end words image at t h (inside passed o) =
     by (eqb (t .depth) 0) refl (settles words image at t passed o (ap (upTo (isAbove (t .depth))) (frames-end image at h)) (t .place .end) (let a = o .end in let b = o .within in omega arith))
@@ -463,11 +464,11 @@ follows-end words image at t h (inside passed o) =
     by : (x : Bool) → eqb (t .depth) 0 ≡ x → Descended words image (t .place) (reachedBy image words) → Leads words image (cond x Nowhere (At (t .place))) (reachedBy image words)
     by true e d = sym (d .path) ∙ o .top (eqb-true (t .depth) 0 e)
     by false e d = (d, λ z. eqb-false (t .depth) 0 e (o .none (d .path ∙ z)))
-follows-end words image at t h (behind z y d) = rw (ne-eqb (t .depth) 0 y) d
+follows-end words image at t h (beyond z y d) = rw (ne-eqb (t .depth) 0 y) d
 
 -- one turn of the walk
 pub follows-turn : (words image : List ℕ) (walk : Walk) (r : Step) (t u : Trail) (x : Read) → readFirst (drop (walk .at) image) ≡ x → r ≡ stepBy (seenBy image walk) walk x → r .ok ≡ true
-    → Passing words image (walk .at) t u → Followed words image (walk .at) t → Followed words image (r .walk .at) u
+    → Passing words image (walk .at) t u → Trailed words image (walk .at) t → Trailed words image (r .walk .at) u
 unfolding stepBy obeys
 follows-turn words image walk r t u (read f n) e st o turn i =
     let obeyed : obeys (seenBy image walk) f ≡ true = sym (ap (λ (step : Step). step .ok) st) ∙ o in
@@ -476,7 +477,7 @@ follows-turn words image walk r t u (read f n) e st o turn i =
 follows-turn words image walk r t u broken e st o turn i = absurd (true-is-not-false (sym o ∙ ap (λ (step : Step). step .ok) st))
 follows-turn words image walk r t u ended e st o turn i = absurd (true-is-not-false (sym o ∙ ap (λ (step : Step). step .ok) st))
 
-pub part-most : (image : List ℕ) (place : Place) → length (partAt image place) ≤ place .end - place .start
+pub part-most : (image : List ℕ) (place : Place) → length (imagePart image place) ≤ place .end - place .start
 part-most image place = rw length-take (omega arith)
 
 -- THE ANSWER

@@ -13,12 +13,12 @@ use Rattle.buffer.specs.Compare.{order}
 use Rattle.buffer.specs.declared.order.Order.{Order}
 use Rattle.image.specs.Frames.{Perhaps, Frame, node, option, flag}
 use Rattle.tree.specs.Rules.{isLess, rises, follows, after}
-use Rattle.tree.specs.Steps.{nameAt, textFirst, seenBy, Sound, pastNode, pastOption, pastFlag, passed, stepIf}
+use Rattle.tree.specs.Steps.{nameAt, textFirst, seenBy, Sound, afterNode, afterOption, afterFlag, passed, stepIf}
 use Rattle.tree.specs.declared.walk.Walk.{Walk}
 use Rattle.tree.specs.declared.walk.Step.{Step}
 
--- a walk that has gone past a frame of that size
-pub record Past (image : List ℕ) (walk : Walk) (f : Frame) (size : ℕ) (next : Walk) : Type 0 where
+-- a walk that has passed a frame of that size
+pub record KnownAfter (image : List ℕ) (walk : Walk) (f : Frame) (size : ℕ) (next : Walk) : Type 0 where
   pub seen : seenBy image next ≡ after (seenBy image walk) f
   pub sound : Sound next
   pub place : next .at ≡ walk .at + size
@@ -77,11 +77,11 @@ module _ (image : List ℕ) (walk : Walk) (sound : Sound walk) where
     unfolding follows seenBy
     node-decides k l t r = rw (path-length, le-leb d (walk .deep), lt-ltb (walk .nodes) 256) (sym r)
 
-  -- the walk past a frame of each kind
-  pub past-node : (d h : ℕ) (n ds : List ℕ) (u : Perhaps) (size : ℕ) → d ≤ 7 → d ≤ walk .deep → n ≡ nameAt image (walk .at + 4)
-      → Past image walk (node d h n ds u) size (pastNode walk d size)
-  unfolding seenBy pastNode after
-  past-node d h n ds u size k l e =
+  -- the walk after a frame of each kind
+  pub after-node : (d h : ℕ) (n ds : List ℕ) (u : Perhaps) (size : ℕ) → d ≤ 7 → d ≤ walk .deep → n ≡ nameAt image (walk .at + 4)
+      → KnownAfter image walk (node d h n ds u) size (afterNode walk d size)
+  unfolding seenBy afterNode after
+  after-node d h n ds u size k l e =
       let names : List ℕ = walk .names in
       let inside : d < length names = let z = sound .names in omega arith in
       let front : take (d + 1) (set names d (walk .at + 4)) ≡ take d names ++ (walk .at + 4) ∷ [] =
@@ -98,13 +98,13 @@ module _ (image : List ℕ) (walk : Walk) (sound : Sound walk) where
         place = refl;
       }
 
-  pub past-option : (q c : ℕ) (n : List ℕ) (l : Perhaps) (ds : List ℕ) (size : ℕ) → Past image walk (option q c n l ds) size (pastOption walk size)
-  unfolding seenBy pastOption after
-  past-option q c n l ds size = record { seen = refl; sound = record { deep = sound .deep; names = sound .names }; place = refl }
+  pub after-option : (q c : ℕ) (n : List ℕ) (l : Perhaps) (ds : List ℕ) (size : ℕ) → KnownAfter image walk (option q c n l ds) size (afterOption walk size)
+  unfolding seenBy afterOption after
+  after-option q c n l ds size = record { seen = refl; sound = record { deep = sound .deep; names = sound .names }; place = refl }
 
-  pub past-flag : (c : ℕ) (n : List ℕ) (l : Perhaps) (ds : List ℕ) (size : ℕ) → Past image walk (flag c n l ds) size (pastFlag walk size)
-  unfolding seenBy pastFlag after
-  past-flag c n l ds size = record { seen = refl; sound = record { deep = sound .deep; names = sound .names }; place = refl }
+  pub after-flag : (c : ℕ) (n : List ℕ) (l : Perhaps) (ds : List ℕ) (size : ℕ) → KnownAfter image walk (flag c n l ds) size (afterFlag walk size)
+  unfolding seenBy afterFlag after
+  after-flag c n l ds size = record { seen = refl; sound = record { deep = sound .deep; names = sound .names }; place = refl }
 
   -- options and flags: a node must stand before them, and there is a limit of each
   module _ (q c : ℕ) (n : List ℕ) (l : Perhaps) (ds : List ℕ) where
@@ -130,10 +130,10 @@ module _ (rule : Bool) (walk next : Walk) where
   pub step-refused : (r : Step) → r ≡ stepIf false walk walk → rule ≡ false → r ≡ stepIf rule walk next
   step-refused r e k = e ∙ rw k
 
-  pub step-taken : (past : Walk) → past ≡ next → rule ≡ true → record { walk = past; ok = true } ≡ stepIf rule walk next
-  step-taken past e k = rw (k, e)
+  pub step-taken : (after : Walk) → after ≡ next → rule ≡ true → record { walk = after; ok = true } ≡ stepIf rule walk next
+  step-taken after e k = rw (k, e)
 
--- a text that was lent in three steps: the rest of the image, its first byte, and as many bytes behind that
+-- a text that was lent in three steps: the rest of the image, its first byte, and as many bytes after that
 pub name-lent : (image tail r : List ℕ) (p n : ℕ) → tail ≡ drop p image → n ≡ getD tail 0 0 → r ≡ take n (drop 1 tail) → r ≡ nameAt image p
 unfolding textFirst
 name-lent image tail r p n a b d = d ∙ rw (b, a)
@@ -142,9 +142,9 @@ name-lent image tail r p n a b d = d ∙ rw (b, a)
 pub compared : (r : Bool) (o : Order) (x y a : List ℕ) → r ≡ isLess o → o ≡ order x y → x ≡ a → r ≡ isLess (order a y)
 compared r o x y a e f g = cc
 
--- where the walk past a frame stands
+-- where the walk after a frame stands
 pub passed-at : (walk : Walk) (f : Frame) (n : ℕ) → passed walk f n .at ≡ walk .at + n
-unfolding pastNode pastOption pastFlag
+unfolding afterNode afterOption afterFlag
 passed-at walk (node d h name description usage) n = refl
 passed-at walk (option r c name long description) n = refl
 passed-at walk (flag c name long description) n = refl

@@ -1,7 +1,7 @@
--- An image as frames, one behind the other.
+-- An image as frames, one after the other.
 use Prim.Native.Nat.{ℕ, zero, suc, _-_}
 use mathlib.Core.List.{List, [], _∷_, _++_}
-use Rattle.image.specs.Frames.{Frame, encode}
+use Rattle.image.specs.Frames.{Frame, encodeFrame}
 use Rattle.image.specs.Reading.{Read, read, broken, ended, readFirst}
 
 -- a frame, or bytes that are none
@@ -35,4 +35,4 @@ framesOf s = framesIn (items s)
 -- the image of frames: the frames joined
 unfoldable pub flat : List Frame → List ℕ
 flat [] = []
-flat (f ∷ l) = encode f ++ flat l
+flat (f ∷ l) = encodeFrame f ++ flat l

@@ -52,16 +52,20 @@ after seen (flag c name long description) =
     record { path = seen .path; nodes = seen .nodes; options = seen .options; flags = seen .flags + 1 }
 
 -- the number of the first frame that breaks a rule, n frames being passed
-unfoldable pub judge : Seen → ℕ → List Item → Checked
-judge seen n [] = Good
-judge seen n (whole f ∷ l) = cond (obeys seen f) (judge (after seen f) (n + 1) l) (BadFrame n)
-judge seen n (torn ∷ l) = BadFrame n
+unfoldable pub judgeItems : Seen → ℕ → List Item → Checked
+judgeItems seen n [] = Good
+judgeItems seen n (whole f ∷ l) = cond (obeys seen f) (judgeItems (after seen f) (n + 1) l) (BadFrame n)
+judgeItems seen n (torn ∷ l) = BadFrame n
 
 -- whether every frame of a list obeys
 unfoldable pub obeyAll : Seen → List Frame → Bool
 obeyAll seen [] = true
 obeyAll seen (f ∷ l) = both (obeys seen f) (obeyAll (after seen f) l)
 
+-- the bytes of an image
+abbrev pub imageLimit : ℕ
+imageLimit = 32768
+
 -- the byte limit is tested first and gives 0
 unfoldable pub checkTree : List ℕ → Checked
-checkTree image = cond (ltb 32768 (length image)) (BadFrame 0) (judge start 0 (items image))
+checkTree image = cond (ltb imageLimit (length image)) (BadFrame 0) (judgeItems start 0 (items image))

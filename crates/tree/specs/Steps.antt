@@ -4,13 +4,13 @@ use mathlib.Core.Path.{_≡_}
 use mathlib.Core.Bool.{Bool, false, cond}
 use mathlib.Core.List.{List, map}
 use lib.ListN.{length, take, drop, getD, set, replicate}
-use Rattle.image.specs.Frames.{Perhaps, Frame, node, option, flag}
+use Rattle.image.specs.Frames.{Frame, node, option, flag}
 use Rattle.image.specs.Reading.{Read, read, broken, ended}
-use Rattle.tree.specs.Rules.{Seen, follows, obeys}
+use Rattle.tree.specs.Rules.{Seen, obeys}
 use Rattle.tree.specs.declared.walk.Walk.{Walk}
 use Rattle.tree.specs.declared.walk.Step.{Step}
 
--- the text behind the length byte at the front
+-- the text after the length byte at the front
 unfoldable pub textFirst : List ℕ → List ℕ
 textFirst s = take (getD s 0 0) (drop 1 s)
 
@@ -30,23 +30,23 @@ pub record Sound (walk : Walk) : Type 0 where
   pub deep : walk .deep ≤ 8
   pub names : length (walk .names) ≡ 8
 
--- the walk past a frame of that size, of each kind
-unfoldable pub pastNode : Walk → ℕ → ℕ → Walk
-pastNode walk depth size =
+-- the walk after a frame of that size, of each kind
+unfoldable pub afterNode : Walk → ℕ → ℕ → Walk
+afterNode walk depth size =
     record { at = walk .at + size; names = set (walk .names) depth (walk .at + 4); deep = depth + 1; nodes = walk .nodes + 1; options = 0; flags = 0 }
 
-unfoldable pub pastOption : Walk → ℕ → Walk
-pastOption walk size =
+unfoldable pub afterOption : Walk → ℕ → Walk
+afterOption walk size =
     record { at = walk .at + size; names = walk .names; deep = walk .deep; nodes = walk .nodes; options = walk .options + 1; flags = walk .flags }
 
-unfoldable pub pastFlag : Walk → ℕ → Walk
-pastFlag walk size =
+unfoldable pub afterFlag : Walk → ℕ → Walk
+afterFlag walk size =
     record { at = walk .at + size; names = walk .names; deep = walk .deep; nodes = walk .nodes; options = walk .options; flags = walk .flags + 1 }
 
 abbrev pub passed : Walk → Frame → ℕ → Walk
-passed walk (node d h name description usage) size = pastNode walk d size
-passed walk (option r c name long description) size = pastOption walk size
-passed walk (flag c name long description) size = pastFlag walk size
+passed walk (node d h name description usage) size = afterNode walk d size
+passed walk (option r c name long description) size = afterOption walk size
+passed walk (flag c name long description) size = afterFlag walk size
 
 -- a frame that keeps the rules is passed; another leaves the walk as it is
 abbrev pub stepIf : Bool → Walk → Walk → Step
@@ -57,16 +57,3 @@ unfoldable pub stepBy : Seen → Walk → Read → Step
 stepBy seen walk (read f n) = stepIf (obeys seen f) walk (passed walk f n)
 stepBy seen walk broken = stepIf false walk walk
 stepBy seen walk ended = stepIf false walk walk
-
--- the same for a frame of each kind, of which only what the rules ask counts
-abbrev pub NodeStepped : List ℕ → Walk → ℕ → List ℕ → ℕ → Step → Type 0
-NodeStepped image walk depth name size r =
-    (h : ℕ) (ds : List ℕ) (u : Perhaps) → r ≡ stepIf (follows (seenBy image walk) (node depth h name ds u)) walk (pastNode walk depth size)
-
-abbrev pub OptionStepped : List ℕ → Walk → ℕ → Step → Type 0
-OptionStepped image walk size r =
-    (q c : ℕ) (n : List ℕ) (l : Perhaps) (ds : List ℕ) → r ≡ stepIf (follows (seenBy image walk) (option q c n l ds)) walk (pastOption walk size)
-
-abbrev pub FlagStepped : List ℕ → Walk → ℕ → Step → Type 0
-FlagStepped image walk size r =
-    (c : ℕ) (n : List ℕ) (l : Perhaps) (ds : List ℕ) → r ≡ stepIf (follows (seenBy image walk) (flag c n l ds)) walk (pastFlag walk size)

@@ -10,6 +10,7 @@ ghost use lib.ListN.{length};
 ghost use Rattle.tree.specs.Rules.{checkTree};
 ghost use Rattle.tree.specs.Trails.{Finding};
 ghost use Rattle.tree.specs.declared.check.Checked.the-variants.{BadFrame};
+ghost use Rattle.frame.specs.Limits.{framesLimit};
 
 // What an image is: well-formed, or bad with the number, from 0, of the first frame that breaks a rule.
 pub enum Checked {
@@ -35,7 +36,7 @@ fn bad(n: usize) -> Tested
 
 // Tests an image and follows words, which come as frames, down to the command that they name; an image over 32,768 bytes is bad at frame 0.
 pub fn find_command(words: &[u8], image: &[u8]) -> Tested
-    requires { ⌜ length (now words) ≤ 4096 ⌝ }
+    requires { ⌜ length (now words) ≤ framesLimit ⌝ }
     ensures { λ r. ⌜ Finding (now (words .entry)) (now (image .entry)) r ⌝ }
 {
     if 32768 < image.len() {
@@ -49,9 +50,9 @@ pub fn find_command(words: &[u8], image: &[u8]) -> Tested
         if !step.ok {
             return bad(n);
         }
-        trail = trail.past(words, image, walk.at);
-        let past = step.walk;
-        walk = past;
+        trail = trail.after(words, image, walk.at);
+        let after = step.walk;
+        walk = after;
         n += 1;
     }
     Tested {

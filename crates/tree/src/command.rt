@@ -6,13 +6,13 @@ use buffer::same;
 use frame::Framed;
 use frame::read_frame;
 ghost use mathlib.Core.Path.{_≡_};
-ghost use Prim.Native.Nat.{_+_, _≤_, _<_};
-ghost use lib.ListN.{length, drop, getD};
+ghost use Prim.Native.Nat.{_+_, _<_};
+ghost use lib.ListN.{length, drop};
 ghost use Rattle.frame.specs.Framed.{frameFirst};
-ghost use Rattle.tree.specs.Trails.{nextWord, foundBy, Ahead, startTrail, Passing};
+ghost use Rattle.tree.specs.Inner.{nextIn, foundBy, Ahead, startTrail, Passing, AtFrame, AtChild};
 ghost use Rattle.tree.specs.declared.command.Next.the-variants.{Word};
 
-// A part of the image, and the place in the words behind the path that leads to it.
+// A part of the image, and the place in the words after the path that leads to it.
 pub struct Place {
     pub start: usize,
     pub end: usize,
@@ -42,7 +42,7 @@ pub struct Trail {
 
 // The word at a place.
 fn next_word(words: &[u8], at: usize) -> Next
-    ensures { λ r. ⌜ r ≡ nextWord (frameFirst (drop at (now (words .entry)))) ⌝ }
+    ensures { λ r. ⌜ r ≡ nextIn (frameFirst (drop at (now (words .entry)))) ⌝ }
 {
     match read_frame(words, at) {
         Framed::Frame { kind: _, length } => Next::Word(length),
@@ -80,9 +80,9 @@ impl Trail {
 
     // The child at a place of the image is passed, and a word of that length is next: the child is followed if that is its name. Names of one
     // list often begin alike, so lengths and last bytes are compared first.
-    fn past_name(self, words: &[u8], image: &[u8], at: usize, bytes: usize) -> Trail
-        requires { ⌜ (length (now words) ≤ 4096) × (length (now image) ≤ 32768) × (at < length (now image)) × Ahead (now words) self ⌝ }
-        requires { ⌜ (getD (now image) at 0 ≡ 1) × (getD (now image) (at + 1) 0 ≡ self .depth) × (length (now image) ≤ self .place .end) × (self .depth < 256) ⌝ }
+    fn after_name(self, words: &[u8], image: &[u8], at: usize, bytes: usize) -> Trail
+        requires { ⌜ AtFrame (now words) (now image) at self ⌝ }
+        requires { ⌜ AtChild (now image) at self ⌝ }
         requires { ⌜ self .next ≡ Word bytes ⌝ }
         ensures { λ r. ⌜ Passing (now (words .entry)) (now (image .entry)) at self r × Ahead (now (words .entry)) r ⌝ }
     {
@@ -109,21 +109,21 @@ impl Trail {
     }
 
     // The child at a place of the image is passed: if a word is next, it may be its name.
-    fn past_child(self, words: &[u8], image: &[u8], at: usize) -> Trail
-        requires { ⌜ (length (now words) ≤ 4096) × (length (now image) ≤ 32768) × (at < length (now image)) × Ahead (now words) self ⌝ }
-        requires { ⌜ (getD (now image) at 0 ≡ 1) × (getD (now image) (at + 1) 0 ≡ self .depth) × (length (now image) ≤ self .place .end) × (self .depth < 256) ⌝ }
+    fn after_child(self, words: &[u8], image: &[u8], at: usize) -> Trail
+        requires { ⌜ AtFrame (now words) (now image) at self ⌝ }
+        requires { ⌜ AtChild (now image) at self ⌝ }
         ensures { λ r. ⌜ Passing (now (words .entry)) (now (image .entry)) at self r × Ahead (now (words .entry)) r ⌝ }
     {
         let next = self.next;
         match next {
-            Next::Word(length) => self.past_name(words, image, at, length),
+            Next::Word(length) => self.after_name(words, image, at, length),
             Next::End => self,
         }
     }
 
     // The frame at a place of the image is passed.
-    pub fn past(self, words: &[u8], image: &[u8], at: usize) -> Trail
-        requires { ⌜ (length (now words) ≤ 4096) × (length (now image) ≤ 32768) × (at < length (now image)) × Ahead (now words) self ⌝ }
+    pub fn after(self, words: &[u8], image: &[u8], at: usize) -> Trail
+        requires { ⌜ AtFrame (now words) (now image) at self ⌝ }
         ensures { λ r. ⌜ Passing (now (words .entry)) (now (image .entry)) at self r × Ahead (now (words .entry)) r ⌝ }
     {
         if image[at] != 0x01 {
@@ -137,7 +137,7 @@ impl Trail {
             return self;
         }
         if depth == self.depth {
-            return self.past_child(words, image, at);
+            return self.after_child(words, image, at);
         }
         let next = self.next;
         Trail {

@@ -12,8 +12,9 @@ ghost use mathlib.Core.List.{List};
 ghost use Prim.Native.Nat.{ℕ, _+_, _≤_, _<_};
 ghost use lib.ListN.{length, drop};
 ghost use Rattle.image.specs.Reading.{readFirst};
-ghost use Rattle.tree.specs.Rules.{isLess, rises};
-ghost use Rattle.tree.specs.Steps.{Sound, nameAt, seenBy, startWalk, pastNode, pastOption, pastFlag, stepIf, stepBy, NodeStepped, OptionStepped, FlagStepped};
+ghost use Rattle.tree.specs.Rules.{isLess, rises, imageLimit};
+ghost use Rattle.tree.specs.Steps.{Sound, nameAt, seenBy, startWalk, afterNode, afterOption, afterFlag, stepIf, stepBy};
+ghost use Rattle.tree.specs.Inner.{NodeStepped, OptionStepped, FlagStepped};
 
 // Where a walk stands: its place; for each depth the place of the last name there, of which the first `deep` count; how many nodes
 // there were, and how many options and flags of the last one.
@@ -48,9 +49,9 @@ impl Walk {
     }
 
     // A node of that depth is passed, and is the last at its depth; its name begins four bytes on.
-    fn past_node(mut self, depth: usize, size: usize) -> Walk
-        requires { ⌜ (depth ≤ 7) × (4 ≤ size) × (self .at + size ≤ 32768) × (self .nodes < 256) ⌝ }
-        ensures { λ r. ⌜ r ≡ pastNode self depth size ⌝ }
+    fn after_node(mut self, depth: usize, size: usize) -> Walk
+        requires { ⌜ (depth ≤ 7) × (4 ≤ size) × (self .at + size ≤ imageLimit) × (self .nodes < 256) ⌝ }
+        ensures { λ r. ⌜ r ≡ afterNode self depth size ⌝ }
     {
         self.names[depth] = (self.at + 4) as u16;
         self.deep = depth + 1;
@@ -61,18 +62,18 @@ impl Walk {
         self
     }
 
-    fn past_option(mut self, size: usize) -> Walk
-        requires { ⌜ (self .at + size ≤ 32768) × (self .options < 32) ⌝ }
-        ensures { λ r. ⌜ r ≡ pastOption self size ⌝ }
+    fn after_option(mut self, size: usize) -> Walk
+        requires { ⌜ (self .at + size ≤ imageLimit) × (self .options < 32) ⌝ }
+        ensures { λ r. ⌜ r ≡ afterOption self size ⌝ }
     {
         self.options += 1;
         self.at += size;
         self
     }
 
-    fn past_flag(mut self, size: usize) -> Walk
-        requires { ⌜ (self .at + size ≤ 32768) × (self .flags < 32) ⌝ }
-        ensures { λ r. ⌜ r ≡ pastFlag self size ⌝ }
+    fn after_flag(mut self, size: usize) -> Walk
+        requires { ⌜ (self .at + size ≤ imageLimit) × (self .flags < 32) ⌝ }
+        ensures { λ r. ⌜ r ≡ afterFlag self size ⌝ }
     {
         self.flags += 1;
         self.at += size;
@@ -80,7 +81,7 @@ impl Walk {
     }
 }
 
-// The text behind the length byte at a place.
+// The text after the length byte at a place.
 pub fn name_at(image: &[u8], place: usize) -> &[u8]
     ensures { λ r. ⌜ now r ≡ nameAt (now (image .entry)) place ⌝ }
 {
@@ -117,7 +118,7 @@ fn refused(walk: Walk) -> Step
 }
 
 fn node_step(image: &[u8], walk: Walk, depth: usize, name: &[u8], size: usize) -> Step
-    requires { ⌜ (depth ≤ 7) × Sound walk × (4 ≤ size) × (walk .at + size ≤ 32768) ⌝ }
+    requires { ⌜ (depth ≤ 7) × Sound walk × (4 ≤ size) × (walk .at + size ≤ imageLimit) ⌝ }
     ensures { λ r. ⌜ NodeStepped (now (image .entry)) walk depth (now (name .entry)) size r ⌝ }
 {
     if walk.deep < depth {
@@ -130,13 +131,13 @@ fn node_step(image: &[u8], walk: Walk, depth: usize, name: &[u8], size: usize) -
         return refused(walk);
     }
     Step {
-        walk: walk.past_node(depth, size),
+        walk: walk.after_node(depth, size),
         ok: true,
     }
 }
 
 fn option_step(walk: Walk, size: usize) -> Step
-    requires { ⌜ Sound walk × (walk .at + size ≤ 32768) ⌝ }
+    requires { ⌜ Sound walk × (walk .at + size ≤ imageLimit) ⌝ }
     ensures { λ r. ⌜ ((image : List ℕ) → OptionStepped image walk size r) ⌝ }
 {
     if walk.deep == 0 {
@@ -146,13 +147,13 @@ fn option_step(walk: Walk, size: usize) -> Step
         return refused(walk);
     }
     Step {
-        walk: walk.past_option(size),
+        walk: walk.after_option(size),
         ok: true,
     }
 }
 
 fn flag_step(walk: Walk, size: usize) -> Step
-    requires { ⌜ Sound walk × (walk .at + size ≤ 32768) ⌝ }
+    requires { ⌜ Sound walk × (walk .at + size ≤ imageLimit) ⌝ }
     ensures { λ r. ⌜ ((image : List ℕ) → FlagStepped image walk size r) ⌝ }
 {
     if walk.deep == 0 {
@@ -162,14 +163,14 @@ fn flag_step(walk: Walk, size: usize) -> Step
         return refused(walk);
     }
     Step {
-        walk: walk.past_flag(size),
+        walk: walk.after_flag(size),
         ok: true,
     }
 }
 
-// The walk past the first of the frames that come next, if that may follow; the image needs to hold only the names before it.
+// The walk after the first of the frames that come next, if that may follow; the image needs to hold only the names before it.
 pub fn step_over(image: &[u8], walk: Walk, next: &[u8]) -> Step
-    requires { ⌜ Sound walk × (walk .at + length (now next) ≤ 32768) ⌝ }
+    requires { ⌜ Sound walk × (walk .at + length (now next) ≤ imageLimit) ⌝ }
     ensures { λ r. ⌜ r ≡ stepBy (seenBy (now (image .entry)) walk) walk (readFirst (now (next .entry))) ⌝ }
 {
     match frame_at(next, 0) {
@@ -188,9 +189,9 @@ pub fn step_over(image: &[u8], walk: Walk, next: &[u8]) -> Step
     }
 }
 
-// The walk past the frame at its place, if that is one that may follow.
+// The walk after the frame at its place, if that is one that may follow.
 pub fn step_at(image: &[u8], walk: Walk) -> Step
-    requires { ⌜ Sound walk × (length (now image) ≤ 32768) × (walk .at ≤ length (now image)) ⌝ }
+    requires { ⌜ Sound walk × (length (now image) ≤ imageLimit) × (walk .at ≤ length (now image)) ⌝ }
     ensures { λ r. ⌜ r ≡ stepBy (seenBy (now (image .entry)) walk) walk (readFirst (drop (walk .at) (now (image .entry)))) ⌝ }
 {
     step_over(image, walk, rest(image, walk.at))

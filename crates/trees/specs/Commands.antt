@@ -1,14 +1,10 @@
 -- The trees of the shell's base commands, with and without its file system, taken from the original's builders to the letter.
 use Prim.Native.Nat.{ℕ}
 use Prim.Native.Char.{Char, code}
-use Prim.Native.String.{String, [] as none, _∷_ as _then_}
+use Prim.Native.String.{String}
 use mathlib.Core.List.{List, [], _∷_}
+use Rattle.buffer.specs.Ascii.{ascii}
 use Rattle.image.specs.Frames.{Frame, node, flag, present}
-
--- the bytes of a text in ASCII
-unfoldable pub ascii : String → List ℕ
-ascii none = []
-ascii (c then s) = code c ∷ ascii s
 
 -- a command with its handler's number, name, description and usage
 unfoldable pub command : ℕ → String → String → String → Frame

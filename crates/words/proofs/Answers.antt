@@ -12,7 +12,7 @@ use Rattle.buffer.proofs.Choices.{then-is, else-is}
 use Rattle.text.specs.Decoding.{wellFormedLength}
 use Rattle.text.proofs.Prefix.{prefix-fits}
 use Rattle.words.specs.Answer.{written, answerFor, leavesBy, leavesFor, Tokenized}
-use Rattle.words.specs.Scan.{measured}
+use Rattle.words.specs.Inner.{measured}
 use Rattle.words.specs.declared.tokenizer.Tokens.{Tokens}
 use Rattle.words.specs.declared.tokenizer.Tokens.the-variants.{Words, LineTooLong, IllFormed, NoRoom}
 use Rattle.words.specs.declared.tokenizer.Measured.{Measured}

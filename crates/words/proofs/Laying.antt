@@ -1,4 +1,4 @@
--- What a scan has laid into the buffer: the ended words as frames, and the open word behind the place of its head.
+-- What a scan has laid into the buffer: the ended words as frames, and the open word after the place of its head.
 use Prim.Native.Nat.{ℕ, suc, _+_, _≤_}
 use mathlib.Core.Path.{_≡_, refl, sym, ap, _∙_}
 use mathlib.Core.Bool.{false}
@@ -19,11 +19,11 @@ use Rattle.words.specs.declared.role.Role.the-variants.{Take, Escape, To
 use Rattle.words.specs.declared.counting.Scan.{Scan}
 use Rattle.words.specs.Tokens.{wordFrames}
 use Rattle.words.specs.Answer.{written}
-use Rattle.words.specs.Scan.{closedAt, closedBy, advanced, headed, putBy, Reading}
-use Rattle.words.proofs.Steps.{closed-some, headed-none, headed-some, take-room, gap-room}
+use Rattle.words.specs.Inner.{closedAt, closedBy, advanced, headed, putBy, Reading}
+use Rattle.words.proofs.OpenWords.{closed-some, headed-none, headed-some, take-room, gap-room}
 use Rattle.words.proofs.Standing.{shown, Standing, standing-start, standing-turn, standing-room, word-none, all-ended, length-ended}
 
--- frames, and an open word behind them that leaves three bytes for its head
+-- frames, and an open word after them that leaves three bytes for its head
 unfoldable pub laid : List ℕ → List ℕ → List ℕ → ℕ → List ℕ
 laid frames word out done = overAt (encodeAll word) (over frames out) (done + 3)
 

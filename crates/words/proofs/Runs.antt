@@ -6,7 +6,7 @@ use mathlib.Core.List.{List, [], _∷_, _++_, append-nil, append-assoc}
 use native.Mathlib.Omega.{arith}
 use lib.Dec.{leb, eqb}
 use borrow.Author.Tests.{leb-false, ne-eqb, not-true}
-use Rattle.text.proofs.Rows.{decode-ascii}
+use Rattle.text.proofs.TableRows.{decode-ascii}
 use Rattle.text.proofs.Spaces.{allBelow, below-passes}
 use Rattle.text.proofs.Letters.{Letter, letter-told}
 use Rattle.text.proofs.Encoding.{below-or-not}
@@ -27,7 +27,8 @@ use Rattle.words.specs.declared.role.Role.{Role}
 use Rattle.words.specs.declared.role.Role.the-variants.{Take, Escape, Toggle, Gap}
 use Rattle.words.specs.declared.counting.Scan.{Scan}
 use Rattle.words.specs.Tokens.{backslash, quote, roleOf, tokensFrom}
-use Rattle.words.specs.Scan.{ordinary, ordinaryFirst, doneBy, isTake, runFirst, Reading, StepOf, Run, WholeRun}
+use Rattle.words.specs.Inner.{doneBy, isTake, runFirst, Reading, StepOf, Run, WholeRun}
+use Rattle.words.specs.Ordinary.{ordinary, ordinaryFirst}
 use Rattle.words.specs.declared.step.Step.{Step}
 use Rattle.words.specs.declared.step.Step.the-variants.{Go, IllFormed}
 use Rattle.words.proofs.role.Role.{the-type}
@@ -76,7 +77,7 @@ run-start line start quotes h =
       taken = refl;
     }
 
--- one run behind another
+-- one run after another
 runs-join : (quotes : Bool) (run more : List ℕ) → runFirst quotes run ≡ run → runFirst quotes more ≡ more → runFirst quotes (run ++ more) ≡ run ++ more
 unfolding runFirst
 runs-join quotes [] more h k = k
@@ -173,7 +174,7 @@ run-does : (run : List ℕ) (quotes : Bool) → runFirst quotes run ≡ run → 
 run-does [] quotes h word rest = ap (λ (l : List ℕ). tokensFrom l quotes false rest) (sym (append-nil word))
 run-does (c ∷ run) quotes h word rest = run-done word run rest quotes false c h
 
--- a character that is taken, and the run behind it
+-- a character that is taken, and the run after it
 pub reading-on : (line : List ℕ) (s : Scan) (n end : ℕ) → Reading line s Take n → WholeRun line (s .at + n) (s .quotes) end → Reading line s Take (end - s .at)
 reading-on line s n end h w =
     let r = w .reached in

@@ -18,21 +18,17 @@ use Rattle.words.specs.declared.role.Role.the-variants.{Take, Escape, To
 use Rattle.words.specs.declared.counting.Scan.{Scan}
 use Rattle.words.specs.Tokens.{roleOf, onRole, tokensFrom, tokens, wordsOf, wordFrames}
 use Rattle.words.specs.Answer.{written}
-use Rattle.words.specs.Scan.{closedAt, closedBy, advanced, measured, doneBy, Reading}
+use Rattle.words.specs.Inner.{closedAt, closedBy, advanced, measured, doneBy, Reading}
 use Rattle.words.specs.declared.tokenizer.Measured.the-variants.{Needs, IllFormed}
 use Rattle.buffer.proofs.Choices.{then-is, else-is}
 use borrow.Author.Tests.{lt-ltb, le-ltb}
 use mathlib.Core.Logic.{⊎-elim}
 use Rattle.text.proofs.Encoding.{below-or-not}
-use Rattle.words.proofs.Steps.{closed-none, closed-some}
+use Rattle.words.proofs.OpenWords.{closed-none, closed-some}
 
 -- the frames of words that are still lists of characters
 unfoldable pub shown : List (List ℕ) → List ℕ
 shown words = wordFrames (map encodeAll words)
-
-shown-more : (word : List ℕ) (words : List (List ℕ)) → shown (word ∷ words) ≡ frameOf 0x14 (encodeAll word) ++ shown words
-unfolding shown wordFrames
-shown-more word words = refl
 
 -- a word that ends stands in front of the rest
 pub shown-ended : (word : List ℕ) (words : List (List ℕ)) → shown (ended word words) ≡ shown (ended word []) ++ shown words

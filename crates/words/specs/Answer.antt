@@ -5,6 +5,7 @@ use mathlib.Core.Bool.{cond}
 use mathlib.Core.List.{List}
 use lib.Dec.{ltb}
 use lib.ListN.{length}
+use Rattle.frame.specs.Limits.{lineLimit, valueLimit}
 use Rattle.buffer.specs.Write.{over}
 use Rattle.text.specs.Decoding.{wellFormedLength}
 use Rattle.words.specs.Tokens.{wordsOf, wordFrames}
@@ -18,7 +19,7 @@ written line = wordFrames (wordsOf line)
 -- the answer for a line and a buffer of `room` bytes
 unfoldable pub answerFor : List ℕ → ℕ → Tokens
 answerFor line room =
-    cond (ltb 1024 (length line)) (LineTooLong (min (length line) 65535))
+    cond (ltb lineLimit (length line)) (LineTooLong (min (length line) valueLimit))
     (cond (ltb (wellFormedLength line) (length line)) (IllFormed (wellFormedLength line))
     (cond (ltb room (length (written line))) (NoRoom (length (written line)))
     (Words (length (written line)))))

@@ -2,7 +2,8 @@
 ghost use Prim.Native.Nat.{_+_, _*_, _≤_};
 ghost use mathlib.Core.Path.{_≡_};
 ghost use mathlib.Core.Bool.{false};
-ghost use Rattle.words.specs.Scan.{closedAt, closedBy, advanced};
+ghost use Rattle.words.specs.Inner.{closedAt, closedBy, advanced};
+ghost use Rattle.frame.specs.Limits.{framesLimit, lineLimit};
 use super::role::Role;
 
 pub struct Scan {
@@ -15,7 +16,7 @@ pub struct Scan {
 
 // How many bytes the frames take once the open word ends; an empty one does not exist.
 pub fn closed(done: usize, word: usize) -> usize
-    requires { ⌜ closedAt done word ≤ 4096 ⌝ }
+    requires { ⌜ closedAt done word ≤ framesLimit ⌝ }
     ensures { λ r. ⌜ r ≡ closedAt done word ⌝ }
 {
     if word == 0 {
@@ -40,7 +41,7 @@ impl Scan {
 
     // n bytes are read that together do what the role says.
     pub fn advance(self, role: Role, n: usize) -> Scan
-        requires { ⌜ (closedBy self ≤ 4 * self .at) × (self .at + n ≤ 1024) ⌝ }
+        requires { ⌜ (closedBy self ≤ 4 * self .at) × (self .at + n ≤ lineLimit) ⌝ }
         ensures { λ r. ⌜ r ≡ advanced self role n ⌝ }
     {
         let at = self.at + n;

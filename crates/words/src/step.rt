@@ -3,7 +3,8 @@ ghost use Prim.Native.Nat.{_≤_, _<_};
 ghost use mathlib.Core.Path.{_≡_};
 ghost use mathlib.Core.Bool.{Bool};
 ghost use lib.ListN.{length, drop};
-ghost use Rattle.words.specs.Scan.{StepOf, Run, WholeRun, ordinary, ordinaryFirst};
+ghost use Rattle.words.specs.Inner.{StepOf, Run, WholeRun};
+ghost use Rattle.words.specs.Ordinary.{ordinary, ordinaryFirst};
 use super::counting::Scan;
 use super::role::Role;
 use super::role::role_of;
@@ -47,7 +48,7 @@ pub fn ordinary_at(line: &[u8], at: usize) -> usize
     letter_at(line, at)
 }
 
-// The place behind the ordinary characters from a place on: most of a line.
+// The place after the ordinary characters from a place on: most of a line.
 fn ordinary_end(line: &[u8], start: usize) -> usize
     requires { ⌜ start ≤ length (now line) ⌝ }
     ensures { λ r. ⌜ ((quotes : Bool) → Run (now (line .entry)) start quotes r) ⌝ }
@@ -63,7 +64,7 @@ fn ordinary_end(line: &[u8], start: usize) -> usize
     at
 }
 
-// The place behind the characters that are taken from a place on, whatever stood before them.
+// The place after the characters that are taken from a place on, whatever stood before them.
 fn run_end(line: &[u8], start: usize, quotes: bool) -> usize
     requires { ⌜ start ≤ length (now line) ⌝ }
     ensures { λ r. ⌜ WholeRun (now (line .entry)) start quotes r ⌝ }
@@ -81,7 +82,7 @@ fn run_end(line: &[u8], start: usize, quotes: bool) -> usize
     at
 }
 
-// The step from where a scan stands in its line: what a character does, and those behind it that are taken with it.
+// The step from where a scan stands in its line: what a character does, and those after it that are taken with it.
 pub fn step_of(line: &[u8], scan: Scan) -> Step
     requires { ⌜ scan .at < length (now line) ⌝ }
     ensures { λ r. ⌜ StepOf (now (line .entry)) scan r ⌝ }

@@ -5,7 +5,8 @@ ghost use lib.ListN.{length};
 ghost use Rattle.buffer.specs.Write.{Written};
 ghost use Rattle.text.specs.Decoding.{wellFormedLength};
 ghost use Rattle.words.specs.Answer.{written, Tokenized};
-ghost use Rattle.words.specs.Scan.{closedAt, closedBy, advanced, headed, putBy, measured};
+ghost use Rattle.words.specs.Inner.{closedAt, closedBy, advanced, headed, putBy, measured};
+ghost use Rattle.frame.specs.Limits.{framesLimit, lineLimit};
 use super::counting::Scan;
 use super::counting::closed;
 use super::role::Role;
@@ -34,7 +35,7 @@ enum Measured {
 }
 
 fn measure(line: &[u8]) -> Measured
-    requires { ⌜ length (now line) ≤ 1024 ⌝ }
+    requires { ⌜ length (now line) ≤ lineLimit ⌝ }
     ensures { λ r. ⌜ r ≡ measured (now (line .entry)) ⌝ }
 {
     let mut scan = Scan::start();
@@ -49,7 +50,7 @@ fn measure(line: &[u8]) -> Measured
 
 // Writes the head of a word's frame in front of its bytes; an empty word has none.
 fn end_word(done: usize, word: usize, out: &mut [u8])
-    requires { ⌜ (closedAt done word ≤ length (now out)) × (word ≤ 4096) ⌝ }
+    requires { ⌜ (closedAt done word ≤ length (now out)) × (word ≤ framesLimit) ⌝ }
     ensures { λ _. ⌜ now (out .exit) ≡ headed done word (now (out .entry)) ⌝ }
 {
     if word == 0 {
@@ -63,7 +64,7 @@ fn end_word(done: usize, word: usize, out: &mut [u8])
 // Writes what a step of n bytes adds: its bytes, or the head of the word that it ends.
 fn put(line: &[u8], scan: Scan, role: Role, n: usize, out: &mut [u8])
     requires { ⌜ (0 < n) × (scan .at + n ≤ length (now line)) ⌝ }
-    requires { ⌜ (scan .word ≤ 4096) × (closedBy (advanced scan role n) ≤ length (now out)) ⌝ }
+    requires { ⌜ (scan .word ≤ framesLimit) × (closedBy (advanced scan role n) ≤ length (now out)) ⌝ }
     ensures { λ _. ⌜ now (out .exit) ≡ putBy (now (line .entry)) scan role n (now (out .entry)) ⌝ }
 {
     let from = scan.at;
@@ -80,7 +81,7 @@ fn put(line: &[u8], scan: Scan, role: Role, n: usize, out: &mut [u8])
 
 // Writes the frames of a well-formed line's words and returns their length.
 fn write(line: &[u8], out: &mut [u8]) -> usize
-    requires { ⌜ length (now line) ≤ 1024 ⌝ }
+    requires { ⌜ length (now line) ≤ lineLimit ⌝ }
     requires { ⌜ wellFormedLength (now line) ≡ length (now line) ⌝ }
     requires { ⌜ length (written (now line)) ≤ length (now out) ⌝ }
     ensures { λ r. ⌜ Written (written (now (line .entry))) (now (out .entry)) r (now (out .exit)) ⌝ }
@@ -99,7 +100,7 @@ fn write(line: &[u8], out: &mut [u8]) -> usize
 
 // The words of a line whose buffer may be too short for them: measured first.
 fn split_measured(line: &[u8], out: &mut [u8]) -> Tokens
-    requires { ⌜ length (now line) ≤ 1024 ⌝ }
+    requires { ⌜ length (now line) ≤ lineLimit ⌝ }
     ensures { λ r. ⌜ Tokenized (now (line .entry)) (now (out .entry)) r (now (out .exit)) ⌝ }
 {
     match measure(line) {
@@ -115,7 +116,7 @@ fn split_measured(line: &[u8], out: &mut [u8]) -> Tokens
 
 // The words of a line whose buffer has room for the words of any such line: one pass fewer.
 fn split_roomy(line: &[u8], out: &mut [u8]) -> Tokens
-    requires { ⌜ (length (now line) ≤ 1024) × (4 * length (now line) ≤ length (now out)) ⌝ }
+    requires { ⌜ (length (now line) ≤ lineLimit) × (4 * length (now line) ≤ length (now out)) ⌝ }
     ensures { λ r. ⌜ Tokenized (now (line .entry)) (now (out .entry)) r (now (out .exit)) ⌝ }
 {
     let place = well_formed_prefix(line);

@@ -1,4 +1,4 @@
--- `frame::read_frame` meets its contract: `End` at the end, else the kind with what `long_text` reads behind it.
+-- `frame::read_frame` meets its contract: `End` at the end, else the kind with what `long_text` reads after it.
 use Rattle.frame.proofs.Frames.{first-end, first-at}
 use borrow.Author.Needs.{needs}
 use mathlib.Core.Path.{sym, _∙_}

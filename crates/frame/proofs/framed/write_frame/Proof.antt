@@ -1,4 +1,4 @@
--- `frame::write_frame` meets its contract: the kind is one write, and the long text, written at the front of the rest, the write right behind it.
+-- `frame::write_frame` meets its contract: the kind is one write, and the long text, written at the front of the rest, the write right after it.
 use Rattle.frame.specs.Framed.{frameOf}
 use Rattle.frame.specs.Text.{textOf}
 use Rattle.frame.proofs.Texts.{length-textOf}

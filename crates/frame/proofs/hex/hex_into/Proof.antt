@@ -1,4 +1,4 @@
--- `frame::hex_into` meets its contract. The loop's invariant: the digits of the first i bytes stand in front of what out had behind them.
+-- `frame::hex_into` meets its contract. The loop's invariant: the digits of the first i bytes stand in front of what out had after them.
 use Rattle.frame.proofs.Digits.{hex-step, length-hexOf}
 use Rattle.frame.specs.Hex.{hexOf}
 use Rattle.buffer.proofs.Lending.{copy-end}

@@ -1,4 +1,4 @@
--- `frame::unhex_into` meets its contract. The loop's invariant: the first i bytes that the digits stand for stand in front of what out had behind them.
+-- `frame::unhex_into` meets its contract. The loop's invariant: the first i bytes that the digits stand for stand in front of what out had after them.
 use Rattle.frame.proofs.Digits.{length-unhex, unhex-at}
 use Rattle.frame.specs.Hex.{unhex}
 use Rattle.buffer.proofs.Lending.{copy-step, copy-end}

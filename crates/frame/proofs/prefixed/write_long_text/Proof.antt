@@ -1,4 +1,4 @@
--- `frame::write_long_text` meets its contract: three writes, each right behind the one before, are the write of the text behind its length.
+-- `frame::write_long_text` meets its contract: three writes, each right after the one before, are the write of the text after its length.
 use Rattle.buffer.proofs.Writing.{pushed-both, pushed-front}
 use Rattle.frame.proofs.Texts.{length-textOf, text-two}
 use borrow.Author.Needs.{needs}

@@ -1,4 +1,4 @@
--- `image::head::definition_lengths` meets its contract: three length bytes, each behind the text before it.
+-- `image::head::definition_lengths` meets its contract: three length bytes, each after the text before it.
 use Rattle.image.proofs.Heads.{span-least, definition-lengths-are}
 use borrow.Author.Needs.{needs}
 use native.Mathlib.Omega.{arith}

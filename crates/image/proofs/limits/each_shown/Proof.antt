@@ -1,6 +1,6 @@
 -- `image::limits::each_shown` meets its contract: the worst so far and the worst of what is left give the worst of the text.
 use Rattle.image.proofs.Blocks.{strangest-step, block-decides}
-use Rattle.image.specs.Blocks.{strangest}
+use Rattle.image.specs.Inner.{strangest}
 use borrow.Author.Needs.{needs}
 use native.Mathlib.Omega.{arith}
 use Prim.Native.Nat.{max, _≤_, _-_}

@@ -1,5 +1,5 @@
 -- `image::limits::frame_of` meets its contract: a head is kept where its frame is fair.
-use Rattle.image.proofs.Views.{view, node-small, definition-small, node-bytes, node-strict, option-refused, option-strict, flag-strict, rest-strict}
+use Rattle.image.proofs.HeadBytes.{view, node-small, definition-small, node-bytes, node-strict, option-refused, option-strict, flag-strict, rest-strict}
 use Rattle.frame.specs.Text.{Bytes}
 use borrow.Author.Needs.{needs}
 use native.Mathlib.Omega.{arith}

@@ -1,7 +1,7 @@
 -- `image::limits::is_definable` meets its contract: the first field outside its limits decides.
 use Rattle.image.proofs.Fields.{seen, short-bad, name-bad, long-bad, definable-by}
 use Rattle.image.proofs.Heads.{span-least}
-use Rattle.image.specs.Reading.{definedIn}
+use Rattle.image.specs.Inner.{definedIn}
 use Rattle.image.specs.Limits.{isName, isNote}
 use borrow.Author.Needs.{needs}
 use native.Mathlib.Omega.{arith}

@@ -1,6 +1,6 @@
 -- `lookup::definition::first_of` meets its contract: the one before, if there was one.
 use Rattle.lookup.specs.declared.seek.Spot.the-variants.{At}
-use Rattle.lookup.specs.Definitions.{orElse}
+use Rattle.lookup.specs.Inner.{orElse}
 use borrow.Author.Needs.{needs}
 use mathlib.Core.Path.{sym, ap}
 use Rattle.lookup.proofs.definition.first_of.Statement.{statement}

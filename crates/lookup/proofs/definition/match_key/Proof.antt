@@ -1,7 +1,7 @@
 -- `lookup::definition::match_key` meets its contract: the head tells the definition at the front, and the key decides.
 use Rattle.lookup.proofs.Matches.{matched-option, matched-flag, matched-none}
 use Rattle.lookup.specs.Definitions.{hasKey}
-use Rattle.image.proofs.Views.{view, definition-small}
+use Rattle.image.proofs.HeadBytes.{view, definition-small}
 use Rattle.image.specs.Reading.{optionIn, flagIn}
 use Rattle.frame.specs.Text.{Bytes}
 use borrow.Author.Needs.{needs}

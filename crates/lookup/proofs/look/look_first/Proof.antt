@@ -1,6 +1,6 @@
 -- `lookup::look::look_first` meets its contract: the head tells the frame at the front.
-use Rattle.lookup.proofs.Looks.{looked, looked-none}
-use Rattle.image.proofs.Views.{view, definition-small}
+use Rattle.lookup.proofs.Looks.{looked, looked-none, flag-passed-in}
+use Rattle.image.proofs.HeadBytes.{view, definition-small}
 use Rattle.frame.specs.Text.{Bytes}
 use borrow.Author.Needs.{needs}
 use mathlib.Core.Path.{refl, sym, _∙_}
@@ -28,9 +28,6 @@ look-option-requires c κs =
 enum-known-texts-2 : tie.Need-enum-known-texts-2
 enum-known-texts-2 c = search needs
 
-look-flag-requires : tie.Need-look-flag-requires
-look-flag-requires c κs = search needs
-
 returns : tie.Need-returns
 returns c = looked _ _ (c .before .before .before .before .before .before .before .args .s .now) _ _ _ _ (sym (c .before .before .depth .given .1) ∙ c .before .before .before .before .head-of .ensures) refl (c .look-node .ensures _)
 
@@ -38,7 +35,9 @@ returns-2 : tie.Need-returns-2
 returns-2 c = looked _ _ (c .before .before .before .before .before .before .before .args .s .now) _ _ _ _ (sym (c .before .before .texts .given .1) ∙ c .before .before .before .before .head-of .ensures) refl (c .look-option .ensures _ _)
 
 returns-3 : tie.Need-returns-3
-returns-3 c = looked _ _ (c .before .before .before .before .before .before .before .args .s .now) _ _ _ _ (sym (c .before .before .texts2 .given .1) ∙ c .before .before .before .before .head-of .ensures) refl (c .look-flag .ensures _ _ _)
+returns-3 c =
+    let s = c .before .before .before .before .before .before .args in
+    looked _ _ (s .s .now) _ _ _ _ (sym (c .before .texts2 .given .1) ∙ c .before .before .before .head-of .ensures) refl (flag-passed-in (s .sought) (s .key .now) _ (s .s .now) _ _)
 
 returns-4 : tie.Need-returns-4
 returns-4 c = looked-none _ _ (c .before .before .before .before .args .s .now) _ (c .before .head-of .ensures) (c .match .keys4)
@@ -53,7 +52,6 @@ look-first-spec =
     enum-known-texts
     look-option-requires
     enum-known-texts-2
-    look-flag-requires
     returns
     returns-2
     returns-3

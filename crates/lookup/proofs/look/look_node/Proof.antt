@@ -1,5 +1,5 @@
 -- `lookup::look::look_node` meets its contract: what is sought decides, then depth and name.
-use Rattle.lookup.proofs.Looks.{node-ends-in, node-other, node-named, node-upper}
+use Rattle.lookup.proofs.Looks.{node-ends, node-other, node-named, node-upper}
 use Rattle.image.specs.Reading.{nodeIn}
 use borrow.Author.Needs.{needs}
 use Rattle.lookup.proofs.look.look_node.Statement.{statement}
@@ -27,6 +27,9 @@ enum-known-sought-2 c = search needs
 hit-or-pass-requires-2 : tie.Need-hit-or-pass-requires-2
 hit-or-pass-requires-2 c κs = search needs
 
+enum-told : tie.Need-enum-told
+enum-told c = search needs
+
 returns-2 : tie.Need-returns-2
 unfolding nodeIn
 returns-2 c = λ h. node-named _ _ _ _ h _ _ _ _ _ _ _ (c .before .before .before .before .before .sought .given .1) (c .before .before .before .if1 .left) (c .hit-or-pass .ensures) (c .before .same .ensures) (c .before .before .part .ensures)
@@ -36,7 +39,8 @@ unfolding nodeIn
 returns-3 c = λ h. node-upper _ _ _ _ h _ _ _ _ _ (c .before .before .sought2 .given .1) (c .hit-or-pass2 .ensures)
 
 returns-4 : tie.Need-returns-4
-returns-4 c = λ h. node-ends-in (c .before .before .before .args .sought) (c .before .before .before .args .key .now) (c .before .before .before .args .texts .size) (c .before .before .before .args .s .now) (c .before .before .before .args .texts) (c .before .before .before .args .depth) h (c .match .keys3)
+unfolding nodeIn
+returns-4 c = λ h. node-ends _ _ _ _ h _ _ _ (c .enum-told .given .1)
 
 pub look-node-spec : {M : Type 1} → statement M
 look-node-spec =
@@ -49,6 +53,7 @@ look-node-spec =
     hit-or-pass-requires
     enum-known-sought-2
     hit-or-pass-requires-2
+    enum-told
     returns-2
     returns-3
     returns-4)

@@ -1,5 +1,5 @@
 -- `lookup::look::look_option` meets its contract: what is sought decides, then the key.
-use Rattle.lookup.proofs.Looks.{option-passed-in, option-any, option-keyed}
+use Rattle.lookup.proofs.Looks.{option-passed-in, option-keyed}
 use Rattle.image.specs.Reading.{optionIn}
 use borrow.Author.Needs.{needs}
 use native.Mathlib.Omega.{arith}
@@ -9,9 +9,6 @@ use Rattle.lookup.proofs.look.look_option.Tie as tie
 enum-told : tie.Need-enum-told
 enum-told c = search needs
 
-enum-told-2 : tie.Need-enum-told-2
-enum-told-2 c = search needs
-
 is-keyed-requires : tie.Need-is-keyed-requires
 is-keyed-requires c κs = (omega arith, c .before .before .before .before .pre)
 
@@ -20,23 +17,17 @@ hit-or-pass-requires c κs = search needs
 
 returns : tie.Need-returns
 unfolding optionIn
-returns c = λ q d. option-any _ _ _ q d _ _ _ (c .enum-told .given .1)
+returns c = λ q d. option-keyed _ _ _ q d _ _ _ _ _ (c .before .before .enum-told .given .1) (c .hit-or-pass .ensures) (c .before .is-keyed .ensures)
 
 returns-2 : tie.Need-returns-2
-unfolding optionIn
-returns-2 c = λ q d. option-keyed _ _ _ q d _ _ _ _ _ (c .before .before .enum-told2 .given .1) (c .hit-or-pass .ensures) (c .before .is-keyed .ensures)
-
-returns-3 : tie.Need-returns-3
-returns-3 c = λ q d. option-passed-in (c .before .before .before .args .sought) (c .before .before .before .args .key .now) (c .before .before .before .args .texts .size) (c .before .before .before .args .s .now) (c .before .before .before .args .texts) q d (c .match .keys3)
+returns-2 c = λ q d. option-passed-in (c .before .before .before .args .sought) (c .before .before .before .args .key .now) (c .before .before .before .args .texts .size) (c .before .before .before .args .s .now) (c .before .before .before .args .texts) q d (c .match .keys2)
 
 pub look-option-spec : {M : Type 1} → statement M
 look-option-spec =
     tie.close
     (tie.spec
     enum-told
-    enum-told-2
     is-keyed-requires
     hit-or-pass-requires
     returns
-    returns-2
-    returns-3)
+    returns-2)

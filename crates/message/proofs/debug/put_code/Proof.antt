@@ -1,7 +1,7 @@
 -- `message::debug::put_code` meets its contract: three texts in a row.
 use Rattle.message.specs.Debug.{codeText}
-use Rattle.ink.proofs.Inking.{inked-three}
-use Rattle.ink.specs.Ascii.{ascii}
+use Rattle.buffer.proofs.Inking.{inked-three}
+use Rattle.buffer.specs.Ascii.{ascii}
 use borrow.Author.Needs.{needs}
 use native.Mathlib.Omega.{arith}
 use Rattle.message.proofs.debug.put_code.Statement.{statement}

@@ -1,8 +1,8 @@
 -- `message::debug::put_debug` meets its contract: by the tests of the match.
 use Rattle.message.proofs.Debugging.{debug-control, debug-plain, debug-delete}
 use Rattle.message.specs.Debug.{debugByte}
-use Rattle.ink.proofs.Inking.{inked-as}
-use Rattle.ink.specs.Ascii.{ascii}
+use Rattle.buffer.proofs.Inking.{inked-as}
+use Rattle.buffer.specs.Ascii.{ascii}
 use mathlib.Core.Logic.{⊎-elim}
 use borrow.Author.Needs.{needs}
 use native.Mathlib.Omega.{arith}

@@ -2,7 +2,7 @@
 use borrow.Author.Needs.{needs}
 use native.Mathlib.Omega.{arith}
 use Rattle.message.proofs.Debugging.{one-digit, two-digits}
-use Rattle.ink.proofs.Inking.{inked-as, inked-both}
+use Rattle.buffer.proofs.Inking.{inked-as, inked-both}
 use Rattle.message.proofs.debug.put_digits.Statement.{statement}
 use Rattle.message.proofs.debug.put_digits.Tie as tie
 

@@ -1,7 +1,7 @@
 -- `message::debug::put_unknown_help` meets its contract: three texts in a row.
 use Rattle.message.specs.Debug.{unknownHelp}
-use Rattle.ink.proofs.Inking.{inked-three}
-use Rattle.ink.specs.Ascii.{ascii}
+use Rattle.buffer.proofs.Inking.{inked-three}
+use Rattle.buffer.specs.Ascii.{ascii}
 use borrow.Author.Needs.{needs}
 use Rattle.message.proofs.debug.put_unknown_help.Statement.{statement}
 use Rattle.message.proofs.debug.put_unknown_help.Tie as tie

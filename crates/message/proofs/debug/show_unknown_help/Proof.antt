@@ -1,5 +1,5 @@
 -- `message::debug::show_unknown_help` meets its contract: measured, then written if there is room.
-use Rattle.ink.proofs.Inking.{shown, no-room}
+use Rattle.buffer.proofs.Inking.{shown, no-room}
 use borrow.Author.Needs.{needs}
 use Rattle.message.proofs.debug.show_unknown_help.Statement.{statement}
 use Rattle.message.proofs.debug.show_unknown_help.Tie as tie

@@ -1,7 +1,7 @@
 -- `message::told::put_before` meets its contract: by what is told.
 use Rattle.message.proofs.Telling.{before-is}
-use Rattle.ink.proofs.Inking.{inked-as}
-use Rattle.ink.specs.Ascii.{ascii}
+use Rattle.buffer.proofs.Inking.{inked-as}
+use Rattle.buffer.specs.Ascii.{ascii}
 use borrow.Author.Needs.{needs}
 use Rattle.message.proofs.error.put_before.Statement.{statement}
 use Rattle.message.proofs.error.put_before.Tie as tie

@@ -1,7 +1,7 @@
 -- `message::told::put_message` meets its contract: three texts in a row.
 use Rattle.message.proofs.Telling.{before-most}
 use Rattle.message.specs.Messages.{message}
-use Rattle.ink.proofs.Inking.{inked-three}
+use Rattle.buffer.proofs.Inking.{inked-three}
 use borrow.Author.Needs.{needs}
 use native.Mathlib.Omega.{arith}
 use Rattle.message.proofs.error.put_message.Statement.{statement}

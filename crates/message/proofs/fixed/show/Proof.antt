@@ -1,5 +1,5 @@
 -- `message::fixed::show` meets its contract: copied if there is room.
-use Rattle.ink.proofs.Inking.{shown, no-room, inked-fits}
+use Rattle.buffer.proofs.Inking.{shown, no-room, inked-fits}
 use Rattle.buffer.proofs.Writing.{front-pushed}
 use borrow.Author.Needs.{needs}
 use native.Mathlib.Omega.{arith}

@@ -1,6 +1,6 @@
 -- `message::fixed::show_ill_formed` meets its contract: the text is that of the definition.
 use Rattle.message.specs.Messages.{illFormed}
-use Rattle.ink.specs.Ascii.{ascii}
+use Rattle.buffer.specs.Ascii.{ascii}
 use borrow.Author.Needs.{needs}
 use Rattle.message.proofs.fixed.show_ill_formed.Statement.{statement}
 use Rattle.message.proofs.fixed.show_ill_formed.Tie as tie

@@ -3,7 +3,7 @@ use mathlib.Core.Path.{refl, sym, _∙_}
 use native.Mathlib.Omega.{arith}
 use Rattle.frame.specs.Text.{Bytes}
 use Rattle.frame.proofs.Series.{texts-stop}
-use Rattle.tree.proofs.Reached.{reached-first}
+use Rattle.tree.proofs.CommandNodes.{reached-first}
 use Rattle.parse.proofs.Judgements.{good-short, first-unknown, first-judged, leads-as, judged-as, judged-without, no-words}
 use borrow.Author.Needs.{needs}
 use Rattle.parse.proofs.judging.judge.Statement.{statement}

@@ -5,7 +5,7 @@ use native.Mathlib.Omega.{arith}
 use lib.ListN.{length, take, length-take}
 use lib.Seq.{length-take-le}
 use Rattle.frame.specs.Series.{textsIn}
-use Rattle.tree.specs.Trails.{partAt}
+use Rattle.tree.specs.Trails.{imagePart}
 use Rattle.tree.proofs.Trails.{part-most}
 use Rattle.arguments.specs.Held.{foundOf}
 use Rattle.parse.specs.Held.{outcomeIn, textOf}
@@ -53,7 +53,7 @@ write-fault-requires c κs =
     let y = c .before .before .before .before .before .before .before .before .before .before .before .before .pre .4 in
     let w = c .before .before .before .before .before .before .before .before .before .before .before .before .pre .0 .inside in
     let m = part-most (c .before .before .before .before .before .before .before .before .before .before .before .before .args .image .now) (c .before .before .before .before .before .before .before .before .before .before .before .before .args .judged .place) in
-    let t : length (textOf (c .before .before .before .before .before .before .before .before .before .before .before .before .args .words .now) (partAt (c .before .before .before .before .before .before .before .before .before .before .before .before .args .image .now) (c .before .before .before .before .before .before .before .before .before .before .before .before .args .judged .place)) (c .before .before .before .before .before .before .before .before .before .before .before .before .args .judged .verdict)) ≤ 32768 = text-short (c .before .before .before .before .before .before .before .before .before .before .before .before .args .words .now) (partAt (c .before .before .before .before .before .before .before .before .before .before .before .before .args .image .now) (c .before .before .before .before .before .before .before .before .before .before .before .before .args .judged .place)) (c .before .before .before .before .before .before .before .before .before .before .before .before .args .judged .verdict) (omega arith) (omega arith) in
+    let t : length (textOf (c .before .before .before .before .before .before .before .before .before .before .before .before .args .words .now) (imagePart (c .before .before .before .before .before .before .before .before .before .before .before .before .args .image .now) (c .before .before .before .before .before .before .before .before .before .before .before .before .args .judged .place)) (c .before .before .before .before .before .before .before .before .before .before .before .before .args .judged .verdict)) ≤ 32768 = text-short (c .before .before .before .before .before .before .before .before .before .before .before .before .args .words .now) (imagePart (c .before .before .before .before .before .before .before .before .before .before .before .before .args .image .now) (c .before .before .before .before .before .before .before .before .before .before .before .before .args .judged .place)) (c .before .before .before .before .before .before .before .before .before .before .before .before .args .judged .verdict) (omega arith) (omega arith) in
     let e = ap length (c .before .text-of .ensures) in
     let d = c .before .before .before .dashes-of .ensures .1 in
     omega arith
@@ -66,7 +66,7 @@ same-length c = search needs
 
 returns : tie.Need-returns
 unfolding outcomeIn
-returns c = fault-telling (c .before .before .before .before .before .before .before .before .before .before .before .before .before .before .before .before .args .words .now) (partAt (c .before .before .before .before .before .before .before .before .before .before .before .before .before .before .before .before .args .image .now) (c .before .before .before .before .before .before .before .before .before .before .before .before .before .before .before .before .args .judged .place)) (textsIn (take (c .before .before .before .before .before .before .before .before .before .before .before .before .before .before .before .before .args .judged .place .at) (c .before .before .before .before .before .before .before .before .before .before .before .before .before .before .before .before .args .words .now))) (foundOf (c .before .before .before .before .before .before .before .before .before .before .before .before .before .before .before .before .args .words .now) (partAt (c .before .before .before .before .before .before .before .before .before .before .before .before .before .before .before .before .args .image .now) (c .before .before .before .before .before .before .before .before .before .before .before .before .before .before .before .before .args .judged .place)) (c .before .before .before .before .before .before .before .before .before .before .before .before .before .before .before .before .args .rest .now) (c .before .before .before .before .before .before .before .before .before .before .before .before .before .before .before .before .args .judged .scan)) (c .before .before .before .before .before .before .before .before .before .before .before .before .before .before .before .before .args .out .now) _ _ _ (c .before .before .before .before .before .before .before .before .before .before .before .before .before .before .before .before .args .judged .verdict) _ _ _ (c .before .before .before .before .before .before .before .before .before .number-of .ensures) (c .before .before .before .before .before .before .before .dashes-of .ensures .0) (c .before .before .before .before .before .text-of .ensures) (c .before .before .before .before .before .before .before .before .if1 .taken) (c .before .before .before .write-fault .ensures) (c .answer .ensures)
+returns c = fault-telling (c .before .before .before .before .before .before .before .before .before .before .before .before .before .before .before .before .args .words .now) (imagePart (c .before .before .before .before .before .before .before .before .before .before .before .before .before .before .before .before .args .image .now) (c .before .before .before .before .before .before .before .before .before .before .before .before .before .before .before .before .args .judged .place)) (textsIn (take (c .before .before .before .before .before .before .before .before .before .before .before .before .before .before .before .before .args .judged .place .at) (c .before .before .before .before .before .before .before .before .before .before .before .before .before .before .before .before .args .words .now))) (foundOf (c .before .before .before .before .before .before .before .before .before .before .before .before .before .before .before .before .args .words .now) (imagePart (c .before .before .before .before .before .before .before .before .before .before .before .before .before .before .before .before .args .image .now) (c .before .before .before .before .before .before .before .before .before .before .before .before .before .before .before .before .args .judged .place)) (c .before .before .before .before .before .before .before .before .before .before .before .before .before .before .before .before .args .rest .now) (c .before .before .before .before .before .before .before .before .before .before .before .before .before .before .before .before .args .judged .scan)) (c .before .before .before .before .before .before .before .before .before .before .before .before .before .before .before .before .args .out .now) _ _ _ (c .before .before .before .before .before .before .before .before .before .before .before .before .before .before .before .before .args .judged .verdict) _ _ _ (c .before .before .before .before .before .before .before .before .before .number-of .ensures) (c .before .before .before .before .before .before .before .dashes-of .ensures .0) (c .before .before .before .before .before .text-of .ensures) (c .before .before .before .before .before .before .before .before .if1 .taken) (c .before .before .before .write-fault .ensures) (c .answer .ensures)
 
 slice-aggregate-write-report : tie.Need-slice-aggregate-write-report
 slice-aggregate-write-report c = sym (length-take-le _ (c .before .before .before .before .before .before .before .before .before .before .before .before .args .words .now) (c .before .before .before .before .before .before .before .before .before .before .before .before .pre .0 .passed))
@@ -91,7 +91,7 @@ same-length-2 c = search needs
 
 returns-2 : tie.Need-returns-2
 unfolding outcomeIn foundOf
-returns-2 c = report-telling (c .before .before .before .before .before .before .before .before .before .before .before .before .before .before .before .before .before .before .args .words .now) (partAt (c .before .before .before .before .before .before .before .before .before .before .before .before .before .before .before .before .before .before .args .image .now) (c .before .before .before .before .before .before .before .before .before .before .before .before .before .before .before .before .before .before .args .judged .place)) (textsIn (take (c .before .before .before .before .before .before .before .before .before .before .before .before .before .before .before .before .before .before .args .judged .place .at) (c .before .before .before .before .before .before .before .before .before .before .before .before .before .before .before .before .before .before .args .words .now))) (foundOf (c .before .before .before .before .before .before .before .before .before .before .before .before .before .before .before .before .before .before .args .words .now) (partAt (c .before .before .before .before .before .before .before .before .before .before .before .before .before .before .before .before .before .before .args .image .now) (c .before .before .before .before .before .before .before .before .before .before .before .before .before .before .before .before .before .before .args .judged .place)) (c .before .before .before .before .before .before .before .before .before .before .before .before .before .before .before .before .before .before .args .rest .now) (c .before .before .before .before .before .before .before .before .before .before .before .before .before .before .before .before .before .before .args .judged .scan)) (c .before .before .before .before .before .before .before .before .before .before .before .before .before .before .before .before .before .before .args .out .now) _ _ _ (c .before .before .before .before .before .before .before .before .before .before .before .before .before .before .before .before .before .before .args .judged .verdict) _ (c .before .before .before .before .before .before .before .before .before .before .before .number-of .ensures) (c .before .before .before .before .before .before .before .before .before .before .if1 .left) (c .before .before .before .write-report .ensures) (c .answer2 .ensures)
+returns-2 c = report-telling (c .before .before .before .before .before .before .before .before .before .before .before .before .before .before .before .before .before .before .args .words .now) (imagePart (c .before .before .before .before .before .before .before .before .before .before .before .before .before .before .before .before .before .before .args .image .now) (c .before .before .before .before .before .before .before .before .before .before .before .before .before .before .before .before .before .before .args .judged .place)) (textsIn (take (c .before .before .before .before .before .before .before .before .before .before .before .before .before .before .before .before .before .before .args .judged .place .at) (c .before .before .before .before .before .before .before .before .before .before .before .before .before .before .before .before .before .before .args .words .now))) (foundOf (c .before .before .before .before .before .before .before .before .before .before .before .before .before .before .before .before .before .before .args .words .now) (imagePart (c .before .before .before .before .before .before .before .before .before .before .before .before .before .before .before .before .before .before .args .image .now) (c .before .before .before .before .before .before .before .before .before .before .before .before .before .before .before .before .before .before .args .judged .place)) (c .before .before .before .before .before .before .before .before .before .before .before .before .before .before .before .before .before .before .args .rest .now) (c .before .before .before .before .before .before .before .before .before .before .before .before .before .before .before .before .before .before .args .judged .scan)) (c .before .before .before .before .before .before .before .before .before .before .before .before .before .before .before .before .before .before .args .out .now) _ _ _ (c .before .before .before .before .before .before .before .before .before .before .before .before .before .before .before .before .before .before .args .judged .verdict) _ (c .before .before .before .before .before .before .before .before .before .before .before .number-of .ensures) (c .before .before .before .before .before .before .before .before .before .before .if1 .left) (c .before .before .before .write-report .ensures) (c .answer2 .ensures)
 
 pub tell-spec : {M : Type 1} → statement M
 tell-spec =

@@ -1,4 +1,4 @@
--- `quote::quoter::push_word` meets its contract: the space is one write, and the word the write right behind it.
+-- `quote::quoter::push_word` meets its contract: the space is one write, and the word the write right after it.
 use Rattle.quote.proofs.Counting.{gap-none, gap-some}
 use Rattle.quote.specs.Shown.{shown}
 use Rattle.buffer.proofs.Writing.{pushed-both}

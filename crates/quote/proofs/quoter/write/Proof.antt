@@ -1,10 +1,10 @@
--- `quote::quoter::write` meets its contract: each word is a write right behind those before it; a bad word does not come up.
+-- `quote::quoter::write` meets its contract: each word is a write right after those before it; a bad word does not come up.
 use Rattle.quote.proofs.Listing.{item-none}
 use Rattle.quote.proofs.Laying.{Laying, laying-start, laying-end, word-room, word-turn}
 use Rattle.quote.proofs.Counting.{fine-word, word-within, word-formed, restLine, rest-start, rest-bad, rest-end, fine-turn}
-use Rattle.quote.specs.Steps.{IsFine}
+use Rattle.quote.specs.Inner.{IsFine}
 use Rattle.quote.specs.Answer.{lineOf}
-use Rattle.quote.specs.Given.{listed, judge}
+use Rattle.quote.specs.Given.{listed, judgeWords}
 use Rattle.buffer.proofs.Lending.{overAt-front}
 use native.Mathlib.Omega.{arith}
 use Prim.Native.Nat.{_≤_, _-_}
@@ -14,7 +14,7 @@ use Rattle.quote.proofs.quoter.write.Statement.{statement}
 use Rattle.quote.proofs.quoter.write.Tie as tie
 
 abbrev Inv-loop : tie.InvT-loop
-Inv-loop words out₀ o₀ n₀ at₀ out o n at = (length out ≡ length out₀) × (n ≤ at) × IsFine (judge (listed (drop at words))) × Laying (lineOf words) (restLine n (judge (listed (drop at words)))) out₀ 0 o out
+Inv-loop words out₀ o₀ n₀ at₀ out o n at = (length out ≡ length out₀) × (n ≤ at) × IsFine (judgeWords (listed (drop at words))) × Laying (lineOf words) (restLine n (judgeWords (listed (drop at words)))) out₀ 0 o out
 
 abbrev μ-loop : tie.MeasureT-loop
 μ-loop words out₀ o₀ n₀ at₀ out o n at = length words - at

@@ -1,6 +1,6 @@
 -- `quote::word::escapes` meets its contract: what is counted and what is still to come make up the whole count, and what is still to come is well-formed.
 use Rattle.quote.proofs.Showing.{specials-more, specials-same, specials-none, formed-on}
-use Rattle.quote.specs.Steps.{specials}
+use Rattle.quote.specs.Inner.{specials}
 use Rattle.text.proofs.Pieces.{character-some, character-fits}
 use Rattle.text.proofs.Prefix.{codes-end, prefix-turn}
 use Rattle.text.specs.Decoding.{codesIn, wellFormedLength}

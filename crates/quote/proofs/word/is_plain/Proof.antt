@@ -1,6 +1,6 @@
 -- `quote::word::is_plain` meets its contract: the characters still to come decide it as all of them do, and the first that is not quiet ends it.
 use Rattle.quote.proofs.Showing.{quiet-fits, plain-turn, plain-stop, plain-end}
-use Rattle.quote.specs.Steps.{plainWord}
+use Rattle.quote.specs.Inner.{plainWord}
 use native.Mathlib.Omega.{arith}
 use Prim.Native.Nat.{_-_}
 use mathlib.Core.Path.{_≡_, refl, sym, _∙_}

@@ -1,4 +1,4 @@
--- `quote::word::push_character` meets its contract: `\` is one write, and the bytes the write right behind it.
+-- `quote::word::push_character` meets its contract: `\` is one write, and the bytes the write right after it.
 use Rattle.quote.proofs.Showing.{mark-room, bare-room}
 use Rattle.buffer.proofs.Writing.{pushed-both}
 use borrow.Author.Needs.{needs}

@@ -1,4 +1,4 @@
--- `quote::word::push_escaped` meets its contract: each character is a write right behind those before it.
+-- `quote::word::push_escaped` meets its contract: each character is a write right after those before it.
 use Rattle.quote.proofs.Laying.{Laying, laying-start, laying-end, character-room, character-turn}
 use Rattle.quote.proofs.Showing.{escaped-none, formed-on}
 use Rattle.quote.specs.Shown.{escaped}

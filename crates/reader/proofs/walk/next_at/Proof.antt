@@ -1,6 +1,6 @@
 -- `reader::walk::next_at` meets its contract: a frame ends within the image.
 use Rattle.reader.proofs.Steps.{next-within}
-use Rattle.reader.specs.Places.{sizeBy, nextPlace}
+use Rattle.reader.specs.Places.{sizeFirst, nextPlace}
 use native.Mathlib.Omega.{arith}
 use mathlib.Core.Path.{refl, ap, _∙_}
 use borrow.Author.Needs.{needs}
@@ -17,7 +17,7 @@ add-result : tie.Need-add-result
 unfolding nextPlace
 add-result c =
     let w = next-within (c .before .before .before .args .image .now) (c .before .before .before .args .at) in
-    let e = c .size-of .ensures ∙ ap sizeBy (c .before .head-at .ensures) in
+    let e = c .size-of .ensures ∙ ap sizeFirst (c .before .head-at .ensures) in
     omega (arith, w, e)
 
 returns : tie.Need-returns

@@ -3,7 +3,7 @@ use borrow.Author.Needs.{needs}
 use native.Mathlib.Omega.{arith}
 use mathlib.Core.Path.{_≡_, sym, _∙_}
 use Rattle.rows.proofs.Lists.{titled-none, titled-some}
-use Rattle.ink.proofs.Inking.{inked-nothing, inked-both, inked-as}
+use Rattle.buffer.proofs.Inking.{inked-nothing, inked-both, inked-as}
 use Rattle.rows.proofs.list.put_titled.Statement.{statement}
 use Rattle.rows.proofs.list.put_titled.Tie as tie
 

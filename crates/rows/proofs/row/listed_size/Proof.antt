@@ -1,5 +1,5 @@
 -- `rows::row::listed_size` meets its contract: by the head of the frame.
-use Rattle.rows.proofs.Rowing.{size-read, size-none, definition-goes-on}
+use Rattle.rows.proofs.OneRow.{size-read, size-none, definition-goes-on}
 use Rattle.image.specs.Reading.{nodeIn, optionIn, flagIn}
 use borrow.Author.Needs.{needs}
 use mathlib.Core.Path.{refl, sym, _∙_}

@@ -1,5 +1,5 @@
 -- `rows::row::node_ends` meets its contract: by what is listed.
-use Rattle.rows.proofs.Rowing.{ends-definitions, ends-not}
+use Rattle.rows.proofs.OneRow.{ends-definitions, ends-not}
 use Rattle.rows.proofs.row.node_ends.Statement.{statement}
 use Rattle.rows.proofs.row.node_ends.Tie as tie
 

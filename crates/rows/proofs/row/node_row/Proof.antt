@@ -1,8 +1,8 @@
 -- `rows::row::node_row` meets its contract: by what is listed and the depth.
 use types.Run.{hit}
-use Rattle.rows.proofs.Rowing.{row-child, row-top, row-second, row-other, row-deeper, row-definitions}
-use Rattle.ink.proofs.Inking.{counts-as, inked-as, inked-nothing}
-use Rattle.ink.specs.Ascii.{ascii}
+use Rattle.rows.proofs.OneRow.{row-child, row-top, row-second, row-other, row-deeper, row-definitions}
+use Rattle.buffer.proofs.Inking.{counts-as, inked-as, inked-nothing}
+use Rattle.buffer.specs.Ascii.{ascii}
 use Rattle.image.specs.Reading.{nodeIn}
 use borrow.Author.Needs.{needs}
 use native.Mathlib.Omega.{arith}

@@ -1,6 +1,6 @@
 -- `rows::row::pad` meets its contract: as many of twenty spaces as are missing.
-use Rattle.rows.proofs.Rowing.{blanks-none, blanks-some, blanks-length}
-use Rattle.ink.proofs.Inking.{inked-nothing, inked-as, counts-as}
+use Rattle.rows.proofs.OneRow.{blanks-none, blanks-some, blanks-length}
+use Rattle.buffer.proofs.Inking.{inked-nothing, inked-as, counts-as}
 use borrow.Author.Needs.{needs}
 use mathlib.Core.Path.{sym, ap, _∙_}
 use lib.ListN.{length}

@@ -1,7 +1,7 @@
 -- `rows::row::put_definition` meets its contract: an entry, whose description ends the frame.
-use Rattle.rows.proofs.Rowing.{entry-1, entry-2, entry-3, entry-put, note-place}
-use Rattle.rows.specs.Steps.{labelIn}
-use Rattle.ink.specs.Ascii.{ascii}
+use Rattle.rows.proofs.OneRow.{entry-1, entry-2, entry-3, entry-put, note-place}
+use Rattle.rows.specs.Inner.{labelIn}
+use Rattle.buffer.specs.Ascii.{ascii}
 use borrow.Author.Needs.{needs}
 use native.Mathlib.Omega.{arith}
 use mathlib.Core.Path.{_∙_}

@@ -1,8 +1,8 @@
 -- `rows::row::put_flag` meets its contract: its entry and the end of the line.
-use Rattle.ink.proofs.Inking.{counts-first, counts-then, inked-both}
+use Rattle.buffer.proofs.Inking.{counts-first, counts-then, inked-both}
 use Rattle.rows.specs.Rows.{entry, flagRow}
-use Rattle.rows.specs.Steps.{labelIn}
-use Rattle.ink.specs.Ascii.{ascii}
+use Rattle.rows.specs.Inner.{labelIn}
+use Rattle.buffer.specs.Ascii.{ascii}
 use Rattle.image.specs.Reading.{flagIn, noteIn}
 use borrow.Author.Needs.{needs}
 use native.Mathlib.Omega.{arith}

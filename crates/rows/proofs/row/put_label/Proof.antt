@@ -1,10 +1,10 @@
 -- `rows::row::put_label` meets its contract: by whether there is a long and a short.
 use borrow.Author.Needs.{needs}
 use mathlib.Core.Path.{refl, sym}
-use Rattle.rows.proofs.Rowing.{label-long, label-name, label-short}
-use Rattle.ink.proofs.Inking.{inked-as, counts-as, counts-1, counts-2, counts-3, inked-three}
+use Rattle.rows.proofs.OneRow.{label-long, label-name, label-short}
+use Rattle.buffer.proofs.Inking.{inked-as, counts-as, counts-1, counts-2, counts-3, inked-three}
 use Rattle.rows.specs.Rows.{shortThen}
-use Rattle.ink.specs.Ascii.{ascii}
+use Rattle.buffer.specs.Ascii.{ascii}
 use Rattle.rows.proofs.row.put_label.Statement.{statement}
 use Rattle.rows.proofs.row.put_label.Tie as tie
 

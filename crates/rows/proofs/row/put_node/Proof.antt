@@ -1,8 +1,8 @@
 -- `rows::row::put_node` meets its contract: its entry and the end of the line.
-use Rattle.rows.proofs.Rowing.{entry-1, entry-2, entry-3, entry-put}
-use Rattle.ink.proofs.Inking.{counts-first, counts-then, inked-both}
+use Rattle.rows.proofs.OneRow.{entry-1, entry-2, entry-3, entry-put}
+use Rattle.buffer.proofs.Inking.{counts-first, counts-then, inked-both}
 use Rattle.rows.specs.Rows.{entry, nodeRow}
-use Rattle.ink.specs.Ascii.{ascii}
+use Rattle.buffer.specs.Ascii.{ascii}
 use borrow.Author.Needs.{needs}
 use mathlib.Core.Path.{refl}
 use Rattle.rows.proofs.row.put_node.Statement.{statement}

@@ -1,7 +1,7 @@
 -- `rows::row::put_note` meets its contract: three texts in a row.
-use Rattle.ink.proofs.Inking.{counts-1, counts-2, counts-3, inked-three}
+use Rattle.buffer.proofs.Inking.{counts-1, counts-2, counts-3, inked-three}
 use Rattle.rows.specs.Rows.{blanks}
-use Rattle.ink.specs.Ascii.{ascii}
+use Rattle.buffer.specs.Ascii.{ascii}
 use borrow.Author.Needs.{needs}
 use Rattle.rows.proofs.row.put_note.Statement.{statement}
 use Rattle.rows.proofs.row.put_note.Tie as tie

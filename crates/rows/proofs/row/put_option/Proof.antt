@@ -4,11 +4,11 @@ use native.Mathlib.Omega.{arith}
 use Prim.Native.Nat.{ℕ}
 use mathlib.Core.Path.{_≡_, sym}
 use mathlib.Core.List.{List, _++_}
-use Rattle.rows.proofs.Rowing.{option-marked, option-plain}
-use Rattle.ink.proofs.Inking.{counts-first, counts-then, counts-as, inked-both, inked-as}
+use Rattle.rows.proofs.OneRow.{option-marked, option-plain}
+use Rattle.buffer.proofs.Inking.{counts-first, counts-then, counts-as, inked-both, inked-as}
 use Rattle.rows.specs.Rows.{entry, optionRow, requiredMark}
-use Rattle.rows.specs.Steps.{labelIn}
-use Rattle.ink.specs.Ascii.{ascii}
+use Rattle.rows.specs.Inner.{labelIn}
+use Rattle.buffer.specs.Ascii.{ascii}
 use Rattle.image.specs.Reading.{optionIn, noteIn}
 use Rattle.rows.proofs.row.put_option.Statement.{statement}
 use Rattle.rows.proofs.row.put_option.Tie as tie

@@ -1,7 +1,7 @@
 -- `rows::row::put_row` meets its contract: by the head of the frame.
-use Rattle.rows.proofs.Rowing.{row-read, row-none, row-handler, option-told, flag-told, option-unlisted, flag-unlisted}
-use Rattle.ink.proofs.Inking.{counts-as, inked-as, inked-nothing}
-use Rattle.image.proofs.Views.{view, node-small}
+use Rattle.rows.proofs.OneRow.{row-read, row-none, row-handler, option-told, flag-told, option-unlisted, flag-unlisted}
+use Rattle.buffer.proofs.Inking.{counts-as, inked-as, inked-nothing}
+use Rattle.image.proofs.HeadBytes.{view, node-small}
 use Rattle.image.specs.Reading.{nodeIn}
 use Rattle.frame.specs.Text.{Bytes}
 use borrow.Author.Needs.{needs}

@@ -1,7 +1,7 @@
--- `rows::row::put_short` meets its contract: nothing, or a dash, the short and what stands behind it.
-use Rattle.rows.proofs.Rowing.{short-none, short-some}
-use Rattle.ink.proofs.Inking.{inked-nothing, inked-as, counts-as, counts-1, counts-2, counts-3, inked-three}
-use Rattle.ink.specs.Ascii.{ascii}
+-- `rows::row::put_short` meets its contract: nothing, or a dash, the short and what stands after it.
+use Rattle.rows.proofs.OneRow.{short-none, short-some}
+use Rattle.buffer.proofs.Inking.{inked-nothing, inked-as, counts-as, counts-1, counts-2, counts-3, inked-three}
+use Rattle.buffer.specs.Ascii.{ascii}
 use borrow.Author.Needs.{needs}
 use mathlib.Core.Path.{sym}
 use mathlib.Core.List.{[], _∷_}

@@ -1,4 +1,4 @@
--- `screen::decimal::push_decimal` meets its contract: the last digit stands behind those of the tenth. The measure is the number.
+-- `screen::decimal::push_decimal` meets its contract: the last digit stands after those of the tenth. The measure is the number.
 use Rattle.screen.proofs.Numerals.{decimal-some, decimal-length, pushed-one, pushed-more}
 use native.Mathlib.Omega.{arith}
 use borrow.Author.Needs.{needs}

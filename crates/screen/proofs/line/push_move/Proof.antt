@@ -1,4 +1,4 @@
--- `screen::line::push_move` meets its contract: nothing, or the three parts one behind the other.
+-- `screen::line::push_move` meets its contract: nothing, or the three parts one after the other.
 use Rattle.screen.proofs.Drawing.{move-length, pushed-none, pushed-move}
 use borrow.Author.Needs.{needs}
 use native.Mathlib.Omega.{arith}

@@ -1,6 +1,6 @@
 -- `session::pressing::press_with` meets its contract: what the editor answered is printed.
 use mathlib.Core.Path.{sym, _∙_}
-use Rattle.ink.specs.Ascii.{ascii}
+use Rattle.buffer.specs.Ascii.{ascii}
 use Rattle.session.specs.Prints.{prompt}
 use Rattle.session.proofs.Turns.{press-ready, press-back, press-done}
 use lib.ListN.{length-set}

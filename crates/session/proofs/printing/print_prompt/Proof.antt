@@ -1,6 +1,6 @@
 -- `session::printing::print_prompt` meets its contract: the constant is the prompt behind its kind.
 use Rattle.session.specs.Prints.{prompt}
-use Rattle.ink.specs.Ascii.{ascii}
+use Rattle.buffer.specs.Ascii.{ascii}
 use borrow.Author.Needs.{needs}
 use Rattle.session.proofs.printing.print_prompt.Statement.{statement}
 use Rattle.session.proofs.printing.print_prompt.Tie as tie

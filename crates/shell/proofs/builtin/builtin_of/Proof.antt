@@ -2,7 +2,7 @@
 use mathlib.Core.Path.{sym, _∙_}
 use borrow.Author.Needs.{needs}
 use Rattle.buffer.proofs.Choices.{then-is, else-is}
-use Rattle.ink.specs.Ascii.{ascii}
+use Rattle.buffer.specs.Ascii.{ascii}
 use Rattle.shell.specs.Lines.{builtinOf}
 use Rattle.shell.proofs.builtin.builtin_of.Statement.{statement}
 use Rattle.shell.proofs.builtin.builtin_of.Tie as tie

@@ -5,7 +5,7 @@ use native.Mathlib.Omega.{arith}
 use borrow.Author.Needs.{needs}
 use lib.ListN.{length}
 use Rattle.frame.proofs.Series.{texts-stop, word-within}
-use Rattle.ink.specs.Ascii.{ascii}
+use Rattle.buffer.specs.Ascii.{ascii}
 use Rattle.shell.proofs.Faults.{word-counts, OnPath, sets-out, stops, arrives, goes-on}
 use Rattle.shell.proofs.fault.put_path.Statement.{statement}
 use Rattle.shell.proofs.fault.put_path.Tie as tie

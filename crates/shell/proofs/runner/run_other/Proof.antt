@@ -3,7 +3,7 @@ use mathlib.Core.Path.{sym, ap, _∙_}
 use native.Mathlib.Omega.{arith}
 use lib.ListN.{length-drop, length}
 use Rattle.tree.specs.Images.{framesOf}
-use Rattle.ink.specs.Ascii.{ascii}
+use Rattle.buffer.specs.Ascii.{ascii}
 use Rattle.shell.proofs.Answering.{said-same, said-nothing}
 use Rattle.shell.proofs.Lines.{begins-is, other-help, other-blank, other-command}
 use borrow.Author.Needs.{needs}

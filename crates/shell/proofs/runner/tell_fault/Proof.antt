@@ -5,7 +5,7 @@ use native.Mathlib.Omega.{arith}
 use borrow.Author.Needs.{needs}
 use lib.ListN.{length}
 use Rattle.tree.proofs.Trails.{part-most}
-use Rattle.tree.specs.Trails.{partAt}
+use Rattle.tree.specs.Trails.{imagePart}
 use Rattle.parse.proofs.Tellings.{text-short}
 use Rattle.parse.specs.Held.{textOf}
 use Rattle.shell.proofs.Answering.{said-same}
@@ -46,7 +46,7 @@ show-message-requires c κs =
     let y = c .before .before .before .before .before .before .before .before .before .before .before .before .pre .2 in
     let w = c .before .before .before .before .before .before .before .before .before .before .before .before .pre .0 .inside in
     let m = part-most (c .before .before .before .before .before .before .before .before .before .before .before .before .args .image .now) (c .before .before .before .before .before .before .before .before .before .before .before .before .args .judged .place) in
-    let t : length (textOf (c .before .before .before .before .before .before .before .before .before .before .before .before .args .words .now) (partAt (c .before .before .before .before .before .before .before .before .before .before .before .before .args .image .now) (c .before .before .before .before .before .before .before .before .before .before .before .before .args .judged .place)) (c .before .before .before .before .before .before .before .before .before .before .before .before .args .judged .verdict)) ≤ 32768 = text-short (c .before .before .before .before .before .before .before .before .before .before .before .before .args .words .now) (partAt (c .before .before .before .before .before .before .before .before .before .before .before .before .args .image .now) (c .before .before .before .before .before .before .before .before .before .before .before .before .args .judged .place)) (c .before .before .before .before .before .before .before .before .before .before .before .before .args .judged .verdict) (omega arith) (omega arith) in
+    let t : length (textOf (c .before .before .before .before .before .before .before .before .before .before .before .before .args .words .now) (imagePart (c .before .before .before .before .before .before .before .before .before .before .before .before .args .image .now) (c .before .before .before .before .before .before .before .before .before .before .before .before .args .judged .place)) (c .before .before .before .before .before .before .before .before .before .before .before .before .args .judged .verdict)) ≤ 32768 = text-short (c .before .before .before .before .before .before .before .before .before .before .before .before .args .words .now) (imagePart (c .before .before .before .before .before .before .before .before .before .before .before .before .args .image .now) (c .before .before .before .before .before .before .before .before .before .before .before .before .args .judged .place)) (c .before .before .before .before .before .before .before .before .before .before .before .before .args .judged .verdict) (omega arith) (omega arith) in
     let e = ap length (c .before .before .before .text-of .ensures) in
     omega arith
 
@@ -66,7 +66,7 @@ show-dashed-requires : tie.Need-show-dashed-requires
 show-dashed-requires c κs =
     let d = c .before .before .before .before .before .before .dashes-of .ensures in
     let z = c .before .before .before .before .before .before .before .before .before .before .before .before .pre .1 in
-    let k = dashed-short (c .before .before .before .before .before .before .before .before .before .before .before .before .args .words .now) (partAt (c .before .before .before .before .before .before .before .before .before .before .before .before .args .image .now) (c .before .before .before .before .before .before .before .before .before .before .before .before .args .judged .place)) (c .before .before .before .before .before .before .before .before .before .before .before .before .args .judged .verdict) (λ q. c .before .before .if1 .left (d .0 ∙ q)) in
+    let k = dashed-short (c .before .before .before .before .before .before .before .before .before .before .before .before .args .words .now) (imagePart (c .before .before .before .before .before .before .before .before .before .before .before .before .args .image .now) (c .before .before .before .before .before .before .before .before .before .before .before .before .args .judged .place)) (c .before .before .before .before .before .before .before .before .before .before .before .before .args .judged .verdict) (λ q. c .before .before .if1 .left (d .0 ∙ q)) in
     let e = ap length (c .before .before .before .text-of .ensures) in
     (d .1, omega arith)
 

@@ -1,5 +1,5 @@
 -- `text::apart::last_solid` meets its contract. The end found so far, or the last solid piece of what is left, gives the end.
-use Rattle.text.proofs.Sights.{Sees, seen-here, seen-end, sees-fits, reach, reach-here, solidLength, solid-turn, white-turn, solid-none}
+use Rattle.text.proofs.WhiteRuns.{Sees, seen-here, seen-end, sees-fits, reach, reach-here, solidLength, solid-turn, white-turn, solid-none}
 use Rattle.buffer.proofs.Lists.{drop-end}
 use native.Mathlib.Omega.{arith}
 use Prim.Native.Nat.{_+_, _≤_, _<_, _-_}

@@ -1,5 +1,5 @@
 -- `text::apart::run_end` meets its contract. The place reached and the length of the run there give the end of the run.
-use Rattle.text.proofs.Sights.{Sees, seen-here, seen-end, sees-fits, run-turn, run-stop, run-none}
+use Rattle.text.proofs.WhiteRuns.{Sees, seen-here, seen-end, sees-fits, run-turn, run-stop, run-none}
 use Rattle.buffer.proofs.Lists.{drop-end}
 use Rattle.text.specs.Apart.{runOf}
 use Rattle.text.specs.Decoding.{piecesOf, bytesAll}

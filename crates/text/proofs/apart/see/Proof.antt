@@ -1,5 +1,5 @@
 -- `text::apart::see` meets its contract.
-use Rattle.text.proofs.Sights.{see-character, see-stray, see-end}
+use Rattle.text.proofs.WhiteRuns.{see-character, see-stray, see-end}
 use borrow.Author.Needs.{needs}
 use mathlib.Core.Path.{sym, _∙_}
 use lib.ListN.{drop}

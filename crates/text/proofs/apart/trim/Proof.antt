@@ -1,6 +1,6 @@
 -- `text::apart::trim` meets its contract.
 use Rattle.text.proofs.Splits.{run-fits, trim-fits, trim-is}
-use Rattle.text.proofs.Sights.{solidLength}
+use Rattle.text.proofs.WhiteRuns.{solidLength}
 use borrow.Author.Needs.{needs}
 use native.Mathlib.Omega.{arith}
 use mathlib.Core.Bool.{true}

@@ -1,6 +1,6 @@
 -- `text::space::is_in_a_gap` meets its contract.
 use Rattle.buffer.proofs.Choices.{then-is, else-is}
-use Rattle.text.specs.Space.{gap}
+use Rattle.text.specs.Inner.{gap}
 use mathlib.Core.Path.{sym}
 use borrow.Author.Tests.{lt-ltb, le-ltb}
 use Rattle.text.proofs.space.is_in_a_gap.Statement.{statement}

@@ -1,6 +1,6 @@
 -- `text::space::is_low_white` meets its contract.
 use Rattle.buffer.proofs.Choices.{then-is, else-is}
-use Rattle.text.specs.Space.{lowWhite}
+use Rattle.text.specs.Inner.{lowWhite}
 use mathlib.Core.Path.{sym}
 use borrow.Author.Tests.{lt-ltb, le-ltb}
 use Rattle.text.proofs.space.is_low_white.Statement.{statement}

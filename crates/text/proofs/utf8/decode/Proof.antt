@@ -1,5 +1,5 @@
 -- `text::utf8::decode` meets its contract.
-use Rattle.text.proofs.Rows.{decode-end, decode-ascii}
+use Rattle.text.proofs.TableRows.{decode-end, decode-ascii}
 use borrow.Author.Needs.{needs}
 use mathlib.Core.Path.{sym}
 use Rattle.text.proofs.utf8.decode.Statement.{statement}

@@ -1,5 +1,5 @@
 -- `text::utf8::decode_longer` meets its contract.
-use Rattle.text.proofs.Rows.{decode-at}
+use Rattle.text.proofs.TableRows.{decode-at}
 use borrow.Author.Needs.{needs}
 use mathlib.Core.Path.{_∙_}
 use Rattle.text.proofs.utf8.decode_longer.Statement.{statement}

@@ -1,5 +1,5 @@
 -- `text::utf8::four` meets its contract.
-use Rattle.text.proofs.Rows.{four-is, four-not, four-cut, four-cut-last}
+use Rattle.text.proofs.TableRows.{four-is, four-not, four-cut, four-cut-last}
 use borrow.Author.Needs.{needs}
 use mathlib.Core.Path.{sym, _∙_}
 use Rattle.text.proofs.utf8.four.Statement.{statement}

@@ -1,6 +1,6 @@
 -- `text::utf8::is_letter_head` meets its contract.
 use Rattle.buffer.proofs.Choices.{then-is, else-is}
-use Rattle.text.specs.Decoding.{letterHead}
+use Rattle.text.specs.Inner.{letterHead}
 use borrow.Author.Tests.{eq-eqb, ne-eqb}
 use mathlib.Core.Path.{sym, _∙_}
 use borrow.Author.Needs.{needs}

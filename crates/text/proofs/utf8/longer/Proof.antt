@@ -1,5 +1,5 @@
 -- `text::utf8::longer` meets its contract.
-use Rattle.text.proofs.Rows.{row-none, row-two, row-three, row-four, row-past}
+use Rattle.text.proofs.TableRows.{row-none, row-two, row-three, row-four, row-past}
 use borrow.Author.Needs.{needs}
 use mathlib.Core.Path.{sym, _∙_}
 use Rattle.text.proofs.utf8.longer.Statement.{statement}

@@ -1,5 +1,5 @@
 -- `text::utf8::three` meets its contract.
-use Rattle.text.proofs.Rows.{three-is, three-not, three-cut}
+use Rattle.text.proofs.TableRows.{three-is, three-not, three-cut}
 use borrow.Author.Needs.{needs}
 use mathlib.Core.Path.{sym, _∙_}
 use Rattle.text.proofs.utf8.three.Statement.{statement}

@@ -1,5 +1,5 @@
 -- `text::utf8::two` meets its contract.
-use Rattle.text.proofs.Rows.{two-is, two-not}
+use Rattle.text.proofs.TableRows.{two-is, two-not}
 use borrow.Author.Needs.{needs}
 use mathlib.Core.Path.{sym, _∙_}
 use Rattle.text.proofs.utf8.two.Statement.{statement}

@@ -1,7 +1,7 @@
 -- `text::utf8::well_formed_prefix` meets its contract. The place reached and the well-formed length of what is left give that of the whole.
 use Rattle.text.proofs.Prefix.{prefix-turn, prefix-none, codes-end, ascii-whole}
 use Rattle.text.proofs.Letters.{length-fits, prefix-more, prefix-stop}
-use Rattle.text.proofs.Rows.{decode-ascii}
+use Rattle.text.proofs.TableRows.{decode-ascii}
 use Rattle.text.specs.Decoding.{wellFormedLength}
 use native.Mathlib.Omega.{arith}
 use Prim.Native.Nat.{_+_, _≤_, _-_}

@@ -5,14 +5,14 @@ use native.Mathlib.Omega.{arith}
 use borrow.Author.Tests.{not-true, not-false}
 use borrow.Author.Needs.{needs}
 use lib.ListN.{length}
-use Rattle.tree.specs.Trails.{Ahead, Followed}
+use Rattle.tree.specs.Inner.{Ahead, Trailed}
 use Rattle.tree.proofs.Items.{OnWay, goes-on, stops, sets-out, arrives, check-long, check-judged}
 use Rattle.tree.proofs.Trails.{follows-start, follows-end, follows-turn, found-bad, found-good}
 use Rattle.tree.proofs.check.find_command.Statement.{statement}
 use Rattle.tree.proofs.check.find_command.Tie as tie
 
 abbrev Inv-loop : tie.InvT-loop
-Inv-loop words image walk₀ trail₀ n₀ walk trail n = OnWay image walk n × Followed words image (walk .at) trail × Ahead words trail
+Inv-loop words image walk₀ trail₀ n₀ walk trail n = OnWay image walk n × Trailed words image (walk .at) trail × Ahead words trail
 
 abbrev μ-loop : tie.MeasureT-loop
 μ-loop words image walk₀ trail₀ n₀ walk trail n = length image - walk .at
@@ -41,8 +41,8 @@ bad-requires-2 c κs = search needs
 returns-2 : tie.Need-returns-2 Inv-loop μ-loop
 returns-2 c = found-bad _ _ _ _ (c .bad2 .ensures) (stops _ _ _ (c .before .before .before .before .before .before .loop .inv .0) _ _ refl (c .before .before .before .step-at .ensures) (not-true _ (c .before .if3 .taken)) (c .before .before .before .before .if2 .taken) ∙ check-judged _ (c .before .before .before .before .before .before .before .before .before .if1 .left))
 
-past-requires : tie.Need-past-requires Inv-loop μ-loop
-past-requires c κs = (c .before .before .before .before .before .before .before .before .before .before .before .pre, c .before .before .before .before .before .before .before .before .if1 .left, c .before .before .before .if2 .taken, c .before .before .before .before .before .loop .inv .2)
+after-requires : tie.Need-after-requires Inv-loop μ-loop
+after-requires c κs = (c .before .before .before .before .before .before .before .before .before .before .before .pre, c .before .before .before .before .before .before .before .before .if1 .left, c .before .before .before .if2 .taken, c .before .before .before .before .before .loop .inv .2)
 
 add-n : tie.Need-add-n Inv-loop μ-loop
 add-n c = omega (arith, c .before .before .before .before .before .before .before .loop .inv .0 .count, c .before .before .before .before .before .before .before .loop .inv .0 .within, c .before .before .before .before .before .before .before .before .before .before .if1 .left)
@@ -51,7 +51,7 @@ loop-less : tie.Need-loop-less Inv-loop μ-loop
 loop-less c = let t = goes-on _ _ _ (c .before .before .before .before .before .before .before .loop .inv .0) (c .before .before .before .before .step-at .result) _ refl (c .before .before .before .before .step-at .ensures) (not-false _ (c .before .before .if3 .left)) in omega (arith, t .0, t .1 .within)
 
 loop-again : tie.Need-loop-again Inv-loop μ-loop
-loop-again c = let o = not-false _ (c .before .before .if3 .left) in (goes-on _ _ _ (c .before .before .before .before .before .before .before .loop .inv .0) (c .before .before .before .before .step-at .result) _ refl (c .before .before .before .before .step-at .ensures) o .1, follows-turn (c .before .before .before .before .before .before .before .before .before .before .before .before .before .args .words .now) (c .before .before .before .before .before .before .before .before .before .before .before .before .before .args .image .now) (c .before .before .before .before .before .before .before .loop .walk) (c .before .before .before .before .step-at .result) (c .before .before .before .before .before .before .before .loop .trail) _ _ refl (c .before .before .before .before .step-at .ensures) o (c .before .past .ensures .0) (c .before .before .before .before .before .before .before .loop .inv .1), c .before .past .ensures .1)
+loop-again c = let o = not-false _ (c .before .before .if3 .left) in (goes-on _ _ _ (c .before .before .before .before .before .before .before .loop .inv .0) (c .before .before .before .before .step-at .result) _ refl (c .before .before .before .before .step-at .ensures) o .1, follows-turn (c .before .before .before .before .before .before .before .before .before .before .before .before .before .args .words .now) (c .before .before .before .before .before .before .before .before .before .before .before .before .before .args .image .now) (c .before .before .before .before .before .before .before .loop .walk) (c .before .before .before .before .step-at .result) (c .before .before .before .before .before .before .before .loop .trail) _ _ refl (c .before .before .before .before .step-at .ensures) o (c .before .after .ensures .0) (c .before .before .before .before .before .before .before .loop .inv .1), c .before .after .ensures .1)
 
 found-requires : tie.Need-found-requires Inv-loop μ-loop
 found-requires c κs = search needs
@@ -73,7 +73,7 @@ find-command-spec =
     step-at-requires
     bad-requires-2
     returns-2
-    past-requires
+    after-requires
     add-n
     loop-less
     loop-again

@@ -18,13 +18,13 @@ refused-requires-2 c κs = search needs
 returns-2 : tie.Need-returns-2
 returns-2 c = λ image d n l ds. step-refused _ _ _ _ (c .refused2 .ensures) (flag-decides image _ (c .before .before .before .before .before .pre .0) d n l ds (c .before .before .before .if1 .left) false (le-ltb _ _ (c .before .if2 .taken)))
 
-past-flag-requires : tie.Need-past-flag-requires
-past-flag-requires c κs = search needs
+after-flag-requires : tie.Need-after-flag-requires
+after-flag-requires c κs = search needs
 
 returns-3 : tie.Need-returns-3
-returns-3 c = λ image d n l ds. step-taken _ _ _ _ (c .past-flag .ensures) (flag-decides image _ (c .before .before .before .before .before .pre .0) d n l ds (c .before .before .before .if1 .left) true (lt-ltb _ _ (c .before .if2 .left)))
+returns-3 c = λ image d n l ds. step-taken _ _ _ _ (c .after-flag .ensures) (flag-decides image _ (c .before .before .before .before .before .pre .0) d n l ds (c .before .before .before .if1 .left) true (lt-ltb _ _ (c .before .if2 .left)))
 
 pub flag-step-spec : {M : Type 1} → statement M
 flag-step-spec =
     tie.close
-    (tie.spec refused-requires returns refused-requires-2 returns-2 past-flag-requires returns-3)
+    (tie.spec refused-requires returns refused-requires-2 returns-2 after-flag-requires returns-3)

@@ -1,4 +1,4 @@
--- `tree::walk::name_at` meets its contract: the rest of the image, its first byte, and as many bytes behind that.
+-- `tree::walk::name_at` meets its contract: the rest of the image, its first byte, and as many bytes after that.
 use Rattle.tree.proofs.Walks.{name-lent}
 use borrow.Author.Needs.{needs}
 use Rattle.tree.proofs.walk.name_at.Statement.{statement}

@@ -31,14 +31,14 @@ returns-3 c =
     let rises = sym (not-true _ (c .before .if3 .taken)) ∙ c .before .before .rises-at .ensures in
     step-refused _ _ _ _ (c .refused3 .ensures) (node-decides (c .before .before .before .before .before .before .before .before .before .args .image .now) _ (c .before .before .before .before .before .before .before .before .before .pre .1) _ h _ ds u (c .before .before .before .before .before .if1 .left) (c .before .before .before .if2 .left) false rises)
 
-past-node-requires : tie.Need-past-node-requires
-past-node-requires c κs = search needs
+after-node-requires : tie.Need-after-node-requires
+after-node-requires c κs = search needs
 
 returns-4 : tie.Need-returns-4
 returns-4 c =
     λ h ds u.
     let rises = sym (not-false _ (c .before .if3 .left)) ∙ c .before .before .rises-at .ensures in
-    step-taken _ _ _ _ (c .past-node .ensures) (node-decides (c .before .before .before .before .before .before .before .before .before .args .image .now) _ (c .before .before .before .before .before .before .before .before .before .pre .1) _ h _ ds u (c .before .before .before .before .before .if1 .left) (c .before .before .before .if2 .left) true rises)
+    step-taken _ _ _ _ (c .after-node .ensures) (node-decides (c .before .before .before .before .before .before .before .before .before .args .image .now) _ (c .before .before .before .before .before .before .before .before .before .pre .1) _ h _ ds u (c .before .before .before .before .before .if1 .left) (c .before .before .before .if2 .left) true rises)
 
 pub node-step-spec : {M : Type 1} → statement M
 node-step-spec =
@@ -51,5 +51,5 @@ node-step-spec =
     rises-at-requires
     refused-requires-3
     returns-3
-    past-node-requires
+    after-node-requires
     returns-4)

@@ -18,13 +18,13 @@ refused-requires-2 c κs = search needs
 returns-2 : tie.Need-returns-2
 returns-2 c = λ image q d n l ds. step-refused _ _ _ _ (c .refused2 .ensures) (option-decides image _ (c .before .before .before .before .before .pre .0) q d n l ds (c .before .before .before .if1 .left) false (le-ltb _ _ (c .before .if2 .taken)))
 
-past-option-requires : tie.Need-past-option-requires
-past-option-requires c κs = search needs
+after-option-requires : tie.Need-after-option-requires
+after-option-requires c κs = search needs
 
 returns-3 : tie.Need-returns-3
-returns-3 c = λ image q d n l ds. step-taken _ _ _ _ (c .past-option .ensures) (option-decides image _ (c .before .before .before .before .before .pre .0) q d n l ds (c .before .before .before .if1 .left) true (lt-ltb _ _ (c .before .if2 .left)))
+returns-3 c = λ image q d n l ds. step-taken _ _ _ _ (c .after-option .ensures) (option-decides image _ (c .before .before .before .before .before .pre .0) q d n l ds (c .before .before .before .if1 .left) true (lt-ltb _ _ (c .before .if2 .left)))
 
 pub option-step-spec : {M : Type 1} → statement M
 option-step-spec =
     tie.close
-    (tie.spec refused-requires returns refused-requires-2 returns-2 past-option-requires returns-3)
+    (tie.spec refused-requires returns refused-requires-2 returns-2 after-option-requires returns-3)

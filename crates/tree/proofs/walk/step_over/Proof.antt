@@ -1,5 +1,5 @@
 -- `tree::walk::step_over` meets its contract: what `frame_at` answers tells the frame at the front.
-use Rattle.tree.proofs.Told.{frame-told, node-least, node-depth, by-node, by-option, by-flag, by-nothing}
+use Rattle.tree.proofs.PassedFrames.{frame-told, node-least, node-depth, by-node, by-option, by-flag, by-nothing}
 use borrow.Author.Needs.{needs}
 use native.Mathlib.Omega.{arith}
 use mathlib.Core.Path.{refl, sym, _∙_}

@@ -1,5 +1,5 @@
 -- `words::scan::closed` meets its contract.
-use Rattle.words.proofs.Steps.{closed-none, closed-some}
+use Rattle.words.proofs.OpenWords.{closed-none, closed-some}
 use native.Mathlib.Omega.{arith}
 use mathlib.Core.Path.{sym}
 use Rattle.words.proofs.counting.closed.Statement.{statement}

@@ -1,6 +1,6 @@
 -- `words::step::is_ordinary` meets its contract.
 use Rattle.buffer.proofs.Choices.{then-is, else-is}
-use Rattle.words.specs.Scan.{ordinary}
+use Rattle.words.specs.Ordinary.{ordinary}
 use mathlib.Core.Path.{sym, _∙_}
 use borrow.Author.Tests.{le-leb, lt-leb, eq-eqb, ne-eqb}
 use Rattle.words.proofs.step.is_ordinary.Statement.{statement}

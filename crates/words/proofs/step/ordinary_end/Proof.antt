@@ -1,6 +1,6 @@
 -- `words::step::ordinary_end` meets its contract. What is passed is a run, inside quotes or not.
 use Rattle.words.proofs.Runs.{run-start, run-ordinary, ordinary-told, ordinary-fits}
-use Rattle.words.specs.Scan.{Run}
+use Rattle.words.specs.Inner.{Run}
 use native.Mathlib.Omega.{arith}
 use Prim.Native.Nat.{_≤_, _-_}
 use mathlib.Core.Bool.{Bool}

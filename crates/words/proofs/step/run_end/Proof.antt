@@ -1,6 +1,6 @@
 -- `words::step::run_end` meets its contract. What is passed is a run; it stops where the next character is not taken.
 use Rattle.words.proofs.Runs.{run-on, run-one, run-stop, run-other}
-use Rattle.words.specs.Scan.{Run}
+use Rattle.words.specs.Inner.{Run}
 use Rattle.text.proofs.Prefix.{codes-stop, codes-end}
 use Rattle.text.proofs.Pieces.{character-some, character-fits}
 use borrow.Author.Needs.{needs}

@@ -1,5 +1,5 @@
 -- `words::tokenizer::end_word` meets its contract.
-use Rattle.words.proofs.Steps.{closed-some, headed-none, headed-some}
+use Rattle.words.proofs.OpenWords.{closed-some, headed-none, headed-some}
 use Rattle.frame.proofs.Texts.{number-two}
 use Rattle.buffer.proofs.Writing.{pushed-both}
 use borrow.Author.Needs.{needs}

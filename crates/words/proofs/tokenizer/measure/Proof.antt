@@ -1,6 +1,6 @@
 -- `words::tokenizer::measure` meets its contract. The scan stands in its line: `Standing`.
 use Rattle.words.proofs.Standing.{Standing, standing-start, standing-turn, measured-whole, measured-broken}
-use Rattle.words.proofs.Steps.{step-less}
+use Rattle.words.proofs.OpenWords.{step-less}
 use Rattle.words.proofs.Runs.{step-goes, step-stops}
 use native.Mathlib.Omega.{arith}
 use Prim.Native.Nat.{_-_}

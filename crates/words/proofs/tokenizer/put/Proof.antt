@@ -1,7 +1,7 @@
 -- `words::tokenizer::put` meets its contract.
 use lib.ListN.{length-take, length, take, drop}
-use Rattle.words.proofs.Steps.{take-room, gap-room}
-use Rattle.words.specs.Scan.{putBy}
+use Rattle.words.proofs.OpenWords.{take-room, gap-room}
+use Rattle.words.specs.Inner.{putBy}
 use Rattle.buffer.specs.Write.{overAt}
 use borrow.Author.Needs.{needs}
 use native.Mathlib.Omega.{arith}

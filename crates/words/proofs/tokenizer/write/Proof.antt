@@ -1,7 +1,7 @@
 -- `words::tokenizer::write` meets its contract. The scan stands in its line, and what it has read lies in the buffer: `Laid`.
 use Rattle.words.proofs.Laying.{Laid, laid-start, laid-turn, laid-whole, step-room, end-room}
 use Rattle.words.proofs.Standing.{prefix-ends}
-use Rattle.words.proofs.Steps.{step-less, closed-least}
+use Rattle.words.proofs.OpenWords.{step-less, closed-least}
 use Rattle.words.proofs.Runs.{step-goes, step-stops}
 use native.Mathlib.Omega.{arith}
 use Prim.Native.Nat.{_-_}

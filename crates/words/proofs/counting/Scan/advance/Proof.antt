@@ -1,5 +1,5 @@
 -- `words::scan::Scan::advance` meets its contract.
-use Rattle.words.proofs.Steps.{closed-least}
+use Rattle.words.proofs.OpenWords.{closed-least}
 use borrow.Author.Needs.{needs}
 use native.Mathlib.Omega.{arith}
 use Rattle.words.proofs.counting.Scan.advance.Statement.{statement}

@@ -1,0 +1,14 @@
+-- The limits of 01 that several crates cite.
+use Prim.Native.Nat.{ℕ, _*_}
+
+-- the bytes of a line
+abbrev pub lineLimit : ℕ
+lineLimit = 1024
+
+-- the bytes of the frames of a line's words: at most four for each of the line's
+abbrev pub framesLimit : ℕ
+framesLimit = 4 * 1024
+
+-- the greatest value that goes with 2: a longer line is given as this one
+abbrev pub valueLimit : ℕ
+valueLimit = 65535

@@ -1,4 +1,0 @@
--- The laws of the crate `growth` that belong to no one function, and that later crates cite.
-pub mod Adding
-pub mod Standing
-pub mod Examples

@@ -1,0 +1,26 @@
+-- `tree::command::Trail::after_child` meets its contract: where no word is next, no child is followed.
+use Rattle.frame.specs.Text.{Bytes}
+use Rattle.tree.proofs.Trails.{after-no-word}
+use borrow.Author.Needs.{needs}
+use Rattle.tree.proofs.command.Trail.after_child.Statement.{statement}
+use Rattle.tree.proofs.command.Trail.after_child.Tie as tie
+
+enum-known-next : tie.Need-enum-known-next
+enum-known-next c = search needs
+
+after-name-requires : tie.Need-after-name-requires
+after-name-requires c κs = (c .before .before .before .before .before .pre .0, (c .before .before .before .before .before .pre .1, c .before .next .given .1))
+
+enum-told : tie.Need-enum-told
+enum-told c = search needs
+
+returns : tie.Need-returns
+returns c = search needs
+
+returns-2 : tie.Need-returns-2
+unfolding Bytes
+returns-2 c = (after-no-word (c .before .before .before .before .args .words .now) (c .before .before .before .before .args .image .now) (λ i. c .before .before .shared-slice-known2 .given i .fits) (c .before .before .before .before .args .at) (c .before .before .before .before .pre .0 .2) (c .before .before .before .before .args .self) (c .before .before .before .before .pre .1 .0) (c .before .before .before .before .pre .1 .1) (c .before .before .before .before .pre .1 .2) (c .before .before .before .before .pre .0 .3) (c .enum-told .given .1), c .before .before .before .before .pre .0 .3)
+
+pub after-child-spec : {M : Type 1} → statement M
+after-child-spec =
+    tie.close (tie.spec enum-known-next after-name-requires enum-told returns returns-2)

@@ -1,0 +1,95 @@
+-- `tree::command::Trail::after_name` meets its contract: a child is followed exactly if the next word is its name.
+use mathlib.Core.Path.{sym, _∙_}
+use native.Mathlib.Omega.{arith}
+use borrow.Author.Tests.{not-true, not-false}
+use Rattle.frame.specs.Text.{Bytes}
+use Rattle.frame.proofs.Series.{word-within}
+use Rattle.tree.proofs.Trails.{next-framed, after-longer, after-last, after-other, after-named}
+use borrow.Author.Needs.{needs}
+use Rattle.tree.proofs.command.Trail.after_name.Statement.{statement}
+use Rattle.tree.proofs.command.Trail.after_name.Tie as tie
+
+add-byte-at : tie.Need-add-byte-at
+add-byte-at c = search needs
+
+byte-at-requires : tie.Need-byte-at-requires
+byte-at-requires c κs = search needs
+
+returns : tie.Need-returns
+unfolding Bytes
+returns c = let w = next-framed _ _ (sym (c .before .before .before .before .pre .1 .1) ∙ c .before .before .before .before .pre .0 .3) in (after-longer (c .before .before .before .before .args .words .now) (c .before .before .before .before .args .image .now) (λ i. c .before .before .shared-slice-known2 .given i .fits) (c .before .before .before .before .args .at) (c .before .before .before .before .pre .0 .2) (c .before .before .before .before .args .self) (c .before .before .before .before .pre .1 .0 .0) (c .before .before .before .before .pre .1 .0 .1) (c .before .before .before .before .pre .1 .0 .2) (w .0) _ (w .1) (λ z. c .if1 .taken (c .before .byte-at .ensures .byte ∙ z)), c .before .before .before .before .pre .0 .3)
+
+add-name : tie.Need-add-name
+add-name c = let w = next-framed _ _ (sym (c .before .before .before .before .before .pre .1 .1) ∙ c .before .before .before .before .before .pre .0 .3) in let h = word-within (c .before .before .before .before .before .args .words .now) (c .before .before .before .before .before .args .self .place .at) (w .0) (c .before .before .before .before .before .args .bytes) (w .1) in let s = c .before .before .before .before .before .pre .0 .0 in omega arith
+
+add-behind : tie.Need-add-behind
+add-behind c = let w = next-framed _ _ (sym (c .before .before .before .before .before .pre .1 .1) ∙ c .before .before .before .before .before .pre .0 .3) in let h = word-within (c .before .before .before .before .before .args .words .now) (c .before .before .before .before .before .args .self .place .at) (w .0) (c .before .before .before .before .before .args .bytes) (w .1) in let s = c .before .before .before .before .before .pre .0 .0 in omega arith
+
+add-byte-at-2 : tie.Need-add-byte-at-2
+add-byte-at-2 c = search needs
+
+add-byte-at-3 : tie.Need-add-byte-at-3
+add-byte-at-3 c = search needs
+
+byte-at-requires-2 : tie.Need-byte-at-requires-2
+byte-at-requires-2 c κs = search needs
+
+sub-byte-at : tie.Need-sub-byte-at
+sub-byte-at c = search needs
+
+byte-at-requires-3 : tie.Need-byte-at-requires-3
+byte-at-requires-3 c κs = search needs
+
+returns-2 : tie.Need-returns-2
+unfolding Bytes
+returns-2 c = let w = next-framed _ _ (sym (c .before .before .before .before .before .before .before .before .pre .1 .1) ∙ c .before .before .before .before .before .before .before .before .pre .0 .3) in (after-last (c .before .before .before .before .before .before .before .before .args .words .now) (c .before .before .before .before .before .before .before .before .args .image .now) (λ i. c .before .before .before .before .before .before .shared-slice-known2 .given i .fits) (c .before .before .before .before .before .before .before .before .args .at) (c .before .before .before .before .before .before .before .before .pre .0 .2) (c .before .before .before .before .before .before .before .before .args .self) (c .before .before .before .before .before .before .before .before .pre .1 .0 .0) (c .before .before .before .before .before .before .before .before .pre .1 .0 .1) (c .before .before .before .before .before .before .before .before .pre .1 .0 .2) (w .0) _ (w .1) (λ z. c .if2 .taken (c .before .before .byte-at2 .ensures .byte ∙ z ∙ sym (c .before .byte-at3 .ensures .byte))), c .before .before .before .before .before .before .before .before .pre .0 .3)
+
+add-name-at : tie.Need-add-name-at
+add-name-at c = search needs
+
+name-at-requires : tie.Need-name-at-requires
+name-at-requires c κs = search needs
+
+part-requires : tie.Need-part-requires
+part-requires c κs = search needs
+
+same-requires : tie.Need-same-requires
+same-requires c κs = search needs
+
+returns-3 : tie.Need-returns-3
+unfolding Bytes
+returns-3 c = let w = next-framed _ _ (sym (c .before .before .before .before .before .before .before .before .before .before .before .before .pre .1 .1) ∙ c .before .before .before .before .before .before .before .before .before .before .before .before .pre .0 .3) in (after-other (c .before .before .before .before .before .before .before .before .before .before .before .before .args .words .now) (c .before .before .before .before .before .before .before .before .before .before .before .before .args .image .now) (λ i. c .before .before .before .before .before .before .before .before .before .before .shared-slice-known2 .given i .fits) (c .before .before .before .before .before .before .before .before .before .before .before .before .args .at) (c .before .before .before .before .before .before .before .before .before .before .before .before .pre .0 .2) (c .before .before .before .before .before .before .before .before .before .before .before .before .args .self) (c .before .before .before .before .before .before .before .before .before .before .before .before .pre .1 .0 .0) (c .before .before .before .before .before .before .before .before .before .before .before .before .pre .1 .0 .1) (c .before .before .before .before .before .before .before .before .before .before .before .before .pre .1 .0 .2) (w .0) _ (w .1) _ _ _ (c .before .before .before .name-at .ensures) (c .before .before .part .ensures) (c .before .same .ensures) (not-true _ (c .if3 .taken)), c .before .before .before .before .before .before .before .before .before .before .before .before .pre .0 .3)
+
+add-t9 : tie.Need-add-t9
+add-t9 c = search needs
+
+next-word-requires : tie.Need-next-word-requires
+next-word-requires c κs = search needs
+
+returns-4 : tie.Need-returns-4
+unfolding Bytes
+returns-4 c = let w = next-framed _ _ (sym (c .before .before .before .before .before .before .before .before .before .before .before .before .before .before .pre .1 .1) ∙ c .before .before .before .before .before .before .before .before .before .before .before .before .before .before .pre .0 .3) in (rw (c .next-word .ensures) (after-named (c .before .before .before .before .before .before .before .before .before .before .before .before .before .before .args .words .now) (c .before .before .before .before .before .before .before .before .before .before .before .before .before .before .args .image .now) (λ i. c .before .before .before .before .before .before .before .before .before .before .before .before .shared-slice-known2 .given i .fits) (c .before .before .before .before .before .before .before .before .before .before .before .before .before .before .args .at) (c .before .before .before .before .before .before .before .before .before .before .before .before .before .before .pre .0 .2) (c .before .before .before .before .before .before .before .before .before .before .before .before .before .before .args .self) (c .before .before .before .before .before .before .before .before .before .before .before .before .before .before .pre .1 .0 .0) (c .before .before .before .before .before .before .before .before .before .before .before .before .before .before .pre .1 .0 .1) (c .before .before .before .before .before .before .before .before .before .before .before .before .before .before .pre .1 .0 .2) (w .0) _ (w .1) _ _ _ (c .before .before .before .before .before .name-at .ensures) (c .before .before .before .before .part .ensures) (c .before .before .before .same .ensures) (λ i. c .before .before .before .before .before .before .before .before .before .before .before .before .before .shared-slice-known .given i .fits) (c .before .before .before .before .before .before .before .before .before .before .before .before .before .before .pre .0 .0) (not-false _ (c .before .before .if3 .left))), c .next-word .ensures)
+
+pub after-name-spec : {M : Type 1} → statement M
+after-name-spec =
+    tie.close
+    (tie.spec
+    add-byte-at
+    byte-at-requires
+    returns
+    add-name
+    add-behind
+    add-byte-at-2
+    add-byte-at-3
+    byte-at-requires-2
+    sub-byte-at
+    byte-at-requires-3
+    returns-2
+    add-name-at
+    name-at-requires
+    part-requires
+    same-requires
+    returns-3
+    add-t9
+    next-word-requires
+    returns-4)
