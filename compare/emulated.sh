@@ -9,7 +9,8 @@ fail() {
 }
 [ $# -eq 1 ] || fail 'it takes the name of a program'
 [ -x "target/bin/$1" ] || fail "no program target/bin/$1: run rt check $1"
-tools=$(dirname "$(dirname "$(rt doc)")")/on/$(uname -m)/toolchain
+guide=$(rt doc)
+tools=$(dirname "$(dirname "$guide")")/on/$(uname -m)/toolchain
 emulator=$tools/bin/qemu-x86_64
 if [ "$(uname -m)" = x86_64 ]; then
     emulator=
