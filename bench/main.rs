@@ -1,4 +1,5 @@
-// Times the proved library against the original shell, both from this one driver, and prints seven tables.
+// Times the proved library against the original shell, both from this one driver, and prints seven tables, or five where
+// the program `console` runs under an emulator.
 mod help;
 mod keys;
 mod lines;
@@ -20,6 +21,10 @@ fn main() {
     parse::rows();
     table::help_heading();
     help::rows();
+    if std::env::var_os("RISSEMAT_EMULATED").is_some() {
+        println!("\nThe program console runs under an emulator here, so that a session is not timed.");
+        return;
+    }
     table::session_heading();
     session::key_rows();
     table::tree_lines_heading();

@@ -1,5 +1,6 @@
 #!/bin/sh
-# Compares the proved library with the original shell: builds both, runs the parts named, or all, and ends with status 1 on a difference.
+# Compares the proved library with the original shell: builds both, runs the parts named, or all, and ends with status 1
+# on a difference.
 set -eu
 cd "$(dirname "$0")/.."
 . compare/build.sh
