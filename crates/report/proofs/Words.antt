@@ -11,7 +11,7 @@ use borrow.Rule.Slice.PartMut.{putMid}
 use Rattle.buffer.specs.Write.{Written}
 use Rattle.frame.specs.Text.{readText}
 use Rattle.frame.specs.Framed.{frameOf, frameFirst}
-use Rattle.frame.specs.Series.{textsIn, runs}
+use Rattle.frame.specs.Series.{textsIn, runs, AllFrames}
 use Rattle.frame.specs.declared.prefixed.Text.{Text}
 use Rattle.frame.specs.declared.prefixed.Text.the-variants.{Whole, Broken as NoText}
 use Rattle.frame.specs.declared.framed.Framed.{Framed}
@@ -30,10 +30,19 @@ wordsAt kind words at = runs (frameOf kind) (textsIn (drop at words))
 abbrev pub partAt : List ℕ → ℕ → ℕ → List ℕ
 partAt words at n = take (at + 3 + n - (at + 3)) (drop (at + 3) words)
 
--- no word more
-pub words-stop : (kind : ℕ) (words : List ℕ) (at : ℕ) (d : Framed) → d ≡ frameFirst (drop at words) → OneOf (1 ∷ 2 ∷ []) (tagOf the-type d) → wordsAt kind words at ≡ []
+-- before the end there is a word more
+words-stop : (kind : ℕ) (words : List ℕ) (at : ℕ) (d : Framed) → d ≡ frameFirst (drop at words) → OneOf (1 ∷ 2 ∷ []) (tagOf the-type d) → wordsAt kind words at ≡ []
 words-stop kind words at d e k = runs-none (frameOf kind) (textsIn (drop at words)) (texts-stop (drop at words) d (sym e) k)
 
+pub words-begin : (kind : ℕ) (words : List ℕ) (at : ℕ) (d : Framed) → AllFrames words → at + length (wordsAt kind words at) ≡ length (runs (frameOf kind) (textsIn words))
+    → at < length words → d ≡ frameFirst (drop at words) → OneOf (1 ∷ 2 ∷ []) (tagOf the-type d) → ⊥
+unfolding AllFrames
+words-begin kind words at d a c h e k =
+    let z : length (wordsAt kind words at) ≡ 0 = ap length (words-stop kind words at d e k) in
+    let w = a kind in
+    omega arith
+
+-- no word more
 pub words-end : (kind : ℕ) (words : List ℕ) (at : ℕ) → length words ≤ at → wordsAt kind words at ≡ []
 words-end kind words at h = runs-none (frameOf kind) (textsIn (drop at words)) (texts-end words at h)
 
