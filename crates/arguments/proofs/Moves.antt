@@ -7,6 +7,7 @@ use lib.ListN.{length, take, drop, length-append}
 use lib.Seq.{take-append-seam, length-take-le}
 use Rattle.buffer.specs.Write.{over, overAt, Pushed}
 use Rattle.buffer.proofs.Lending.{length-overAt}
+use Rattle.frame.proofs.Series.{all-none}
 use Rattle.frame.specs.Series.{textsFrom, textsIn, Whole}
 use Rattle.table.specs.Map.{Map, putWithin}
 use Rattle.table.specs.Held.{partOf, bitOf, sourceOf, packed, keyOf, valueOf, entries, mapOf, tabled, capacity, Fit, putEntry}
@@ -31,7 +32,7 @@ module _ (words image rest : List ℕ) (o f : Table) where
 
   pub apt-starts : Apt rest (record { options = o; flags = f; kept = 0; progress = Going })
   unfolding Whole textsIn textsFrom
-  apt-starts = record { small = tt; whole = λ more. refl }
+  apt-starts = record { small = tt; whole = λ more. refl; frames = all-none }
 
 -- the same with lent tables
 none-held : (words image o : List ℕ) → mapOf words image (tabled 0 o) ≡ []

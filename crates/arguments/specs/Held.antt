@@ -4,7 +4,8 @@ use Prim.Native.Nat.{ℕ, _+_, _<_, _≤_}
 use mathlib.Core.Path.{_≡_}
 use mathlib.Core.List.{List, _++_}
 use lib.ListN.{length, take, replicate}
-use Rattle.frame.specs.Series.{textsIn, Whole}
+use Rattle.frame.specs.Series.{textsIn, Whole, AllFrames}
+use Rattle.words.proofs.Kept.{Each, Good}
 use Rattle.table.specs.Map.{putWithin}
 use Rattle.table.specs.Held.{partOf, sourceOf, mapOf, tabled, capacity}
 use Rattle.arguments.specs.Meanings.{Means, aFlag, anOption, nothing}
@@ -68,10 +69,16 @@ NameSmall (Flag name) = (name .start < 0x10000) × (name .length < 0x10000)
 NameSmall (Option name) = (name .start < 0x10000) × (name .length < 0x10000)
 NameSmall Unknown = Unit
 
+-- words as they are split: frames up to the end, each of a text that is well-formed
+pub record WellSplit (words : List ℕ) : Type 0 where
+  pub frames : AllFrames words
+  pub good : Each Good (textsIn words)
+
 -- a state that can go on
 pub record Apt (rest : List ℕ) (s : Scan) : Type 0 where
   pub small : KeySmall (s .progress)
   pub whole : Whole (take (s .kept) rest)
+  pub frames : AllFrames (take (s .kept) rest)
 
 -- the code's sizes: a line's words, and an image
 abbrev pub Sizes : List ℕ → List ℕ → Type 0

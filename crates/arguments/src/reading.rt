@@ -21,7 +21,7 @@ ghost use mathlib.Core.Path.{_≡_};
 ghost use mathlib.Core.List.{List};
 ghost use Prim.Native.Nat.{ℕ, _+_, _-_, _≤_, _<_};
 ghost use lib.ListN.{length, take, drop};
-ghost use Rattle.text.specs.Unicode.{encode};
+ghost use Rattle.text.specs.Unicode.{encode, WellFormed};
 ghost use Rattle.text.specs.Decoding.{codesIn};
 ghost use Rattle.frame.specs.Framed.{frameFirst};
 ghost use Rattle.frame.specs.declared.framed.Framed.the-variants.{Frame};
@@ -30,7 +30,7 @@ ghost use Rattle.table.specs.Held.{partOf, capacity, Fit};
 ghost use Rattle.arguments.specs.Meanings.{definitionsAt};
 ghost use Rattle.arguments.specs.Forms.{longForm, formOf};
 ghost use Rattle.arguments.specs.Arguments.{noneFound, go, shortStep, shortSteps, formStep, wordStep, args};
-ghost use Rattle.arguments.specs.Held.{stored, foundOf, standOf, held, Sizes, KeySmall, Apt, Moved, Stepped, Scanned};
+ghost use Rattle.arguments.specs.Held.{stored, foundOf, standOf, held, Sizes, WellSplit, KeySmall, Apt, Moved, Stepped, Scanned};
 ghost use Rattle.arguments.specs.declared.standing.Progress.the-variants.{Going};
 
 impl Stage {
@@ -129,7 +129,7 @@ impl Stage {
         start: usize,
         end: usize,
     ) -> Self
-        requires { ⌜ Sizes (now words) (now image) × (start ≤ end) × (end ≤ length (now words)) × KeySmall (self .progress) × Fit (self .flags) (now flags) ⌝ }
+        requires { ⌜ Sizes (now words) (now image) × (start ≤ end) × (end ≤ length (now words)) × KeySmall (self .progress) × Fit (self .flags) (now flags) × WellFormed (take (end - start) (drop start (now words))) ⌝ }
         ensures { λ r. ⌜ ((o : List ℕ) → Moved (now (words .entry)) (now (image .entry)) (held o (now (flags .entry)) self) (held o (now (flags .exit)) r) (λ rest. shortSteps stored (definitionsAt (now (image .entry)) from) (standOf (now (words .entry)) (now (image .entry)) rest (held o (now (flags .entry)) self)) (codesIn (take (end - start) (drop start (now (words .entry))))))) × Fit (r .flags) (now (flags .exit)) × (r .options ≡ self .options) ⌝ }
     {
         let letters = &words[start..end];
@@ -137,7 +137,12 @@ impl Stage {
         let mut at = 0;
         while at < letters.len() {
             let Decoded::Character { code, length } = decode(letters, at) else {
-                return stage;
+                let told = FaultText {
+                    dashes: 1,
+                    start,
+                    length: end - start,
+                };
+                return stage.at(Progress::UnknownOption(told));
             };
             stage = stage.short(words, image, flags, from, start + at, code, length);
             at += length;
@@ -157,7 +162,7 @@ impl Stage {
         bytes: usize,
         rest: &mut [u8],
     ) -> Self
-        requires { ⌜ Sizes (now words) (now image) × ((kind : ℕ) × (frameFirst (drop at (now words)) ≡ Frame kind bytes)) ⌝ }
+        requires { ⌜ Sizes (now words) (now image) × ((kind : ℕ) × (frameFirst (drop at (now words)) ≡ Frame kind bytes)) × WellFormed (partOf (now words) (at + 3) bytes) ⌝ }
         requires { ⌜ Apt (now rest) (held (now options) (now flags) self) × (self .progress ≡ Going) × (self .kept + 3 + bytes ≤ length (now rest)) × Fit (self .options) (now options) × Fit (self .flags) (now flags) ⌝ }
         ensures { λ r. ⌜ Stepped (now (words .entry)) (now (image .entry)) (now (rest .entry)) (now (rest .exit)) (held (now (options .entry)) (now (flags .entry)) self) (held (now (options .exit)) (now (flags .exit)) r) (3 + bytes) (formStep stored (definitionsAt (now (image .entry)) from) (foundOf (now (words .entry)) (now (image .entry)) (now (rest .entry)) (held (now (options .entry)) (now (flags .entry)) self)) (partOf (now (words .entry)) (at + 3) bytes) (formOf (partOf (now (words .entry)) (at + 3) bytes))) × Fit (r .options) (now (options .exit)) × Fit (r .flags) (now (flags .exit)) ⌝ }
     {
@@ -187,7 +192,7 @@ impl Stage {
         bytes: usize,
         rest: &mut [u8],
     ) -> Self
-        requires { ⌜ Sizes (now words) (now image) × ((kind : ℕ) × (frameFirst (drop at (now words)) ≡ Frame kind bytes)) ⌝ }
+        requires { ⌜ Sizes (now words) (now image) × ((kind : ℕ) × (frameFirst (drop at (now words)) ≡ Frame kind bytes)) × WellFormed (partOf (now words) (at + 3) bytes) ⌝ }
         requires { ⌜ Apt (now rest) (held (now options) (now flags) self) × (self .kept + 3 + bytes ≤ length (now rest)) × Fit (self .options) (now options) × Fit (self .flags) (now flags) ⌝ }
         ensures { λ r. ⌜ Stepped (now (words .entry)) (now (image .entry)) (now (rest .entry)) (now (rest .exit)) (held (now (options .entry)) (now (flags .entry)) self) (held (now (options .exit)) (now (flags .exit)) r) (3 + bytes) (wordStep stored (definitionsAt (now (image .entry)) from) (standOf (now (words .entry)) (now (image .entry)) (now (rest .entry)) (held (now (options .entry)) (now (flags .entry)) self)) (partOf (now (words .entry)) (at + 3) bytes)) × Fit (r .options) (now (options .exit)) × Fit (r .flags) (now (flags .exit)) ⌝ }
     {
@@ -220,14 +225,19 @@ fn read_args<'a>(
     flags: &mut [usize],
     rest: &mut [u8],
 ) -> Stage
-    requires { ⌜ Sizes (now words) (now image) × (length (now words) ≤ length (now rest)) × (length (now options) ≡ capacity) × (length (now flags) ≡ capacity) ⌝ }
+    requires { ⌜ Sizes (now words) (now image) × (length (now words) ≤ length (now rest)) × (length (now options) ≡ capacity) × (length (now flags) ≡ capacity) × WellSplit (drop start (now words)) ⌝ }
     ensures { λ r. ⌜ Scanned (now (words .entry)) (now (image .entry)) (now (rest .entry)) (now (rest .exit)) (held (now (options .exit)) (now (flags .exit)) r) (args stored (definitionsAt (now (image .entry)) from) (go noneFound) (textsIn (drop start (now (words .entry))))) × Fit (r .options) (now (options .exit)) × Fit (r .flags) (now (flags .exit)) ⌝ }
 {
     let mut stage = Stage::start();
     let mut at = start;
     while at < words.len() {
         let Framed::Frame { kind: _, length } = read_frame(words, at) else {
-            return stage;
+            let told = FaultText {
+                dashes: 0,
+                start: at,
+                length: words.len() - at,
+            };
+            return stage.at(Progress::UnknownOption(told));
         };
         stage = stage.word(words, image, options, flags, from, at, length, rest);
         at += 3 + length;
@@ -243,7 +253,7 @@ pub fn parse_args<'a>(
     start: usize,
     rest: &mut [u8],
 ) -> Scan
-    requires { ⌜ Sizes (now words) (now image) × (length (now words) ≤ length (now rest)) ⌝ }
+    requires { ⌜ Sizes (now words) (now image) × (length (now words) ≤ length (now rest)) × WellSplit (drop start (now words)) ⌝ }
     ensures { λ r. ⌜ Scanned (now (words .entry)) (now (image .entry)) (now (rest .entry)) (now (rest .exit)) r (args stored (definitionsAt (now (image .entry)) from) (go noneFound) (textsIn (drop start (now (words .entry))))) ⌝ }
 {
     let mut options = [0usize; 64];

@@ -14,7 +14,7 @@ use Rattle.arguments.specs.Arguments.{Stand, go, formStep, shortSteps}
 use Rattle.arguments.specs.Held.{stored, foundOf, held}
 use Rattle.arguments.specs.declared.standing.Progress.the-variants.{Going}
 use Rattle.arguments.proofs.Steps.{stand-by}
-use Rattle.arguments.proofs.Walks.{word-behind, form-short, form-plain, form-long, form-shorts, kept-as, stepped-as, kept-stepped, moved-stepped}
+use Rattle.arguments.proofs.Walks.{word-behind, letters-formed, form-short, form-plain, form-long, form-shorts, kept-as, stepped-as, kept-stepped, moved-stepped}
 use borrow.Author.Needs.{needs}
 use Rattle.arguments.proofs.Moves.{fit-as}
 use Rattle.arguments.proofs.standing.Stage.argument.Statement.{statement}
@@ -141,7 +141,7 @@ add-shorts c =
 shorts-requires : tie.Need-shorts-requires
 shorts-requires c κs =
     let h = word-within (c .before .before .before .before .before .before .before .before .before .before .before .args .words .now) (c .before .before .before .before .before .before .before .before .before .before .before .args .at) (c .before .before .before .before .before .before .before .before .before .before .before .pre .0 .1 .0) (c .before .before .before .before .before .before .before .before .before .before .before .args .bytes) (c .before .before .before .before .before .before .before .before .before .before .before .pre .0 .1 .1) in
-    (c .before .before .before .before .before .before .before .before .before .before .before .pre .0 .0, omega arith, omega arith, c .before .before .before .before .before .before .before .before .before .before .before .pre .1 .0 .small, c .before .before .before .before .before .before .before .before .before .before .before .pre .1 .4)
+    (c .before .before .before .before .before .before .before .before .before .before .before .pre .0 .0, omega arith, omega arith, c .before .before .before .before .before .before .before .before .before .before .before .pre .1 .0 .small, c .before .before .before .before .before .before .before .before .before .before .before .pre .1 .4, letters-formed (c .before .before .before .before .before .before .before .before .before .before .before .args .words .now) (c .before .before .before .before .before .before .before .before .before .before .before .args .at) (c .before .before .before .before .before .before .before .before .before .before .before .pre .0 .1 .0) (c .before .before .before .before .before .before .before .before .before .before .before .args .bytes) (c .before .before .before .before .before .before .before .before .before .before .before .pre .0 .1 .1) (c .before .before .before .before .before .before .before .before .before .before .before .pre .0 .2) (c .before .before .before .before .before .if1 .left) (c .before .before .before .if2 .left))
 
 same-length-5 : tie.Need-same-length-5
 same-length-5 c = search needs
