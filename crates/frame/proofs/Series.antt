@@ -229,8 +229,8 @@ module _ (words : List ℕ) (at : ℕ) where
   -- all frames, parted where their texts are
   pub all-parted : AllFrames words → textsIn words ≡ textsIn (take at words) ++ textsIn (drop at words) → AllFrames (take at words) × AllFrames (drop at words)
   unfolding AllFrames
-  all-parted a e =
-      (λ kind.
+  all-parted a e = (
+    λ kind.
         let j = runs-join kind (textsIn (take at words)) (textsIn (drop at words)) in
         let x = sym (ap (λ (l : List (List ℕ)). length (runs (frameOf kind) l)) e) ∙ a kind in
         let p = texts-size kind (take at words) in
@@ -238,11 +238,12 @@ module _ (words : List ℕ) (at : ℕ) where
         let l = length-take at words in
         let m = length-drop at words in
         omega arith,
-      λ kind.
+    λ kind.
         let j = runs-join kind (textsIn (take at words)) (textsIn (drop at words)) in
         let x = sym (ap (λ (l : List (List ℕ)). length (runs (frameOf kind) l)) e) ∙ a kind in
         let p = texts-size kind (take at words) in
         let q = texts-size kind (drop at words) in
         let l = length-take at words in
         let m = length-drop at words in
-        omega arith)
+        omega arith,
+  )

@@ -3,14 +3,14 @@ use Prim.Native.Nat.{ℕ, _*_, _≤_}
 use mathlib.Core.Path.{_≡_}
 use mathlib.Core.List.{List, []}
 use mathlib.Core.Option.{Option, none, some}
-use lib.ListN.{length, take}
-use Rattle.frame.specs.Series.{textsIn}
+use lib.ListN.{length, take, drop}
+use Rattle.frame.specs.Series.{textsIn, AllFrames}
 use Rattle.table.specs.Held.{partOf}
 use Rattle.image.specs.Frames.{Frame}
 use Rattle.tree.specs.Images.{framesOf}
 use Rattle.tree.specs.Trails.{partAt, Within}
 use Rattle.arguments.specs.Arguments.{Found}
-use Rattle.arguments.specs.Held.{toldOf, foundOf}
+use Rattle.arguments.specs.Held.{toldOf, foundOf, WellSplit}
 use Rattle.parse.specs.Commands.{Outcome, parsed, fault, emptyCommand}
 use Rattle.parse.specs.declared.required.Required.{Required}
 use Rattle.parse.specs.declared.required.Required.the-variants.{Fine as AllThere, Missing}
@@ -65,10 +65,21 @@ textOf words part (UnknownOption told) = partOf words (told .start) (told .lengt
 textOf words part (MissingValue told) = partOf words (told .start) (told .length)
 textOf words part (MissingRequired name) = partOf part (name .start) (name .length)
 
+-- words parted at a place: frames before it, and from it on words as they are split
+pub record Parted (words : List ℕ) (at : ℕ) : Type 0 where
+  pub path : AllFrames (take at words)
+  pub later : WellSplit (drop at words)
+
+-- what a report is lent of a judgement is frames up to the end: the words of the path, and the positional ones
+pub record Lent (words rest : List ℕ) (j : Judged) : Type 0 where
+  pub path : AllFrames (take (j .place .at) words)
+  pub positionals : AllFrames (take (j .scan .kept) rest)
+
 -- what was judged, what can be lent of it, and the frames of the command that was reached
 pub record Judging (words image rest left : List ℕ) (j : Judged) (o : Outcome) (frames : List Frame) : Type 0 where
   pub outcome : outcomeIn words image left j ≡ o
   pub within : Within words image (j .place)
   pub kept : j .scan .kept ≤ length left
   pub room : length left ≡ length rest
+  pub lent : numberOf (j .verdict) ≡ 0 → Lent words left j
   pub command : numberOf (j .verdict) ≡ 0 → framesOf (partAt image (j .place)) ≡ frames

@@ -23,9 +23,9 @@ ghost use Rattle.tree.specs.declared.check.Checked.the-variants.{Good};
 ghost use Rattle.tree.specs.Commands.{Reached, reachedBy, NodeFirst};
 ghost use Rattle.tree.specs.Trails.{partAt, Within, Descended, Leads};
 ghost use Rattle.arguments.specs.Meanings.{definitionsAt};
-ghost use Rattle.arguments.specs.Held.{stored, foundOf, standOf};
+ghost use Rattle.arguments.specs.Held.{stored, foundOf, standOf, WellSplit};
 ghost use Rattle.parse.specs.Commands.{outcomeOf, concluded, parseWords};
-ghost use Rattle.parse.specs.Held.{outcomeBy, Judging};
+ghost use Rattle.parse.specs.Held.{outcomeBy, Parted, Judging};
 
 // Texts are told by where they stand: a word in the words, a name in the command's part of the image.
 pub enum Verdict {
@@ -89,7 +89,7 @@ fn judge_arguments<'a>(
     first: Span,
     rest: &mut [u8],
 ) -> Judged
-    requires { ⌜ (length (now words) ≤ 4096) × (length (now image) ≤ 32768) × (length (now words) ≤ length (now rest)) × Within (now words) (now image) place × NodeFirst (framesOf (partAt (now image) place)) ⌝ }
+    requires { ⌜ (length (now words) ≤ 4096) × (length (now image) ≤ 32768) × (length (now words) ≤ length (now rest)) × Within (now words) (now image) place × NodeFirst (framesOf (partAt (now image) place)) × Parted (now words) (place .at) ⌝ }
     ensures { λ r. ⌜ ((to : Reached) → Descended (now (words .entry)) (now (image .entry)) place to → Judging (now (words .entry)) (now (image .entry)) (now (rest .entry)) (now (rest .exit)) r (concluded stored to) (to .frames)) ⌝ }
 {
     let start = place.start;
@@ -114,7 +114,7 @@ fn judge_arguments<'a>(
 
 // What the words of a line say under a well-formed tree, in which they lead to what was found; positional words are kept in `rest`.
 pub fn judge<'a>(words: &'a [u8], image: &'a [u8], found: Found, rest: &mut [u8]) -> Judged
-    requires { ⌜ (length (now words) ≤ 4096) × (length (now words) ≤ length (now rest)) × (checkTree (now image) ≡ Good) × Leads (now words) (now image) found (reachedBy (now image) (now words)) ⌝ }
+    requires { ⌜ (length (now words) ≤ 4096) × (length (now words) ≤ length (now rest)) × (checkTree (now image) ≡ Good) × Leads (now words) (now image) found (reachedBy (now image) (now words)) × WellSplit (now words) ⌝ }
     ensures { λ r. ⌜ Judging (now (words .entry)) (now (image .entry)) (now (rest .entry)) (now (rest .exit)) r (parseWords (framesOf (now (image .entry))) (textsIn (now (words .entry)))) (reachedBy (now (image .entry)) (now (words .entry)) .frames) ⌝ }
 {
     let Framed::Frame { kind: _, length } = read_frame(words, 0) else {

@@ -9,6 +9,7 @@ use Rattle.text.specs.Decoding.{wellFormedLength}
 use Rattle.text.specs.Apart.{trimmed}
 use Rattle.frame.specs.Series.{textsIn}
 use Rattle.words.specs.Tokens.{wordsOf}
+use Rattle.arguments.specs.Held.{WellSplit}
 use Rattle.tree.specs.Rules.{checkTree}
 use Rattle.tree.specs.Commands.{reachedBy}
 use Rattle.tree.specs.Trails.{Leads}
@@ -28,6 +29,7 @@ pub record Ready (image line words : List ℕ) (found : Found) : Type 0 where
   pub whole : wellFormedLength line ≡ length line
   pub room : length words ≤ 4096
   pub split : textsIn words ≡ wordsOf (trimmed line)
+  pub well : WellSplit words
   pub leads : Leads words image found (reachedBy image words)
 
 -- the handler of a number, which 0 is not

@@ -10,7 +10,7 @@ use report::write_fault;
 ghost use mathlib.Core.Path.{_≡_};
 ghost use Prim.Native.Nat.{_≤_, _<_};
 ghost use lib.ListN.{length};
-ghost use Rattle.frame.specs.Series.{textsIn};
+ghost use Rattle.frame.specs.Series.{textsIn, AllFrames};
 ghost use Rattle.report.specs.Report.{dashed};
 ghost use Rattle.ink.specs.Inks.{Inked};
 ghost use Rattle.ink.specs.Answer.{Showing};
@@ -44,14 +44,14 @@ pub fn show_dashed(told: ParseError, dashes: usize, text: &[u8], out: &mut [u8])
 
 // Writes the words of a path, which come as frames, each behind a space, and returns the place behind them.
 fn put_path(path: &[u8], out: &mut [u8]) -> usize
-    requires { ⌜ length (now path) ≤ 4096 ⌝ }
+    requires { ⌜ (length (now path) ≤ 4096) × AllFrames (now path) ⌝ }
     ensures { λ r. ⌜ Inked (spaced (textsIn (now (path .entry)))) (now (out .entry)) 0 r (now (out .exit)) × (r ≤ length (now (path .entry))) ⌝ }
 {
     let mut at = 0;
     let mut end = 0;
     while at < path.len() {
         let Framed::Frame { kind: _, length } = read_frame(path, at) else {
-            return end;
+            return 0;
         };
         let start = at + 3;
         let stop = start + length;
@@ -64,7 +64,7 @@ fn put_path(path: &[u8], out: &mut [u8]) -> usize
 
 // The message of a command without a handler, which names its path joined by spaces.
 pub fn show_no_handler(path: &[u8], out: &mut [u8]) -> Shown
-    requires { ⌜ length (now path) ≤ 4096 ⌝ }
+    requires { ⌜ (length (now path) ≤ 4096) × AllFrames (now path) ⌝ }
     ensures { λ r. ⌜ Showing (message NoHandler (joined (textsIn (now (path .entry))))) (now (out .entry)) r (now (out .exit)) ⌝ }
 {
     let mut words = [0u8; 4096];
