@@ -21,14 +21,14 @@ use Rattle.text.proofs.Prefix.{codes-step, codes-stop, prefix-step, prefix-none
 use Rattle.words.proofs.Kept.{Each, also, Good}
 use Rattle.frame.specs.Framed.{frameOf, frameFirst}
 use Rattle.frame.specs.declared.framed.Framed.the-variants.{Frame as Framed}
-use Rattle.frame.specs.Series.{textsIn, Whole, AllFrames}
+use Rattle.frame.specs.Series.{textsIn, Whole}
 use Rattle.frame.proofs.Frames.{length-frameOf}
-use Rattle.frame.proofs.Series.{texts-more, word-within, word-length, one-text, whole-frame, whole-both, all-none, all-frame, all-both, all-next, words-more}
-use Rattle.table.specs.Held.{partOf}
+use Rattle.frame.proofs.Series.{texts-more, word-within, word-length, one-text, whole-frame, whole-both, all-frame, all-both, all-next, words-more}
+use Rattle.table.specs.Inner.{partOf}
 use Rattle.image.specs.Frames.{Frame}
 use Rattle.arguments.specs.Forms.{positional, shorts, longForm, formOf, dash}
 use Rattle.arguments.specs.Arguments.{noneFound, Stand, go, withPositional, shortStep, shortSteps, wordStep, args}
-use Rattle.arguments.specs.Held.{stored, foundOf, standOf, WellSplit, KeySmall, Apt, Moved, Kept, Stepped, Scanned}
+use Rattle.arguments.specs.Inner.{stored, foundOf, standOf, WellSplit, KeySmall, Apt, Moved, Kept, Stepped, Scanned}
 use Rattle.arguments.specs.declared.standing.Progress.the-variants.{Going}
 use Rattle.arguments.specs.declared.standing.Scan.{Scan}
 use Rattle.arguments.proofs.Steps.{stand-by, drop-take}
@@ -72,14 +72,14 @@ pub letter-begins : (letters : List ℕ) (at : ℕ) (d : Decoded) → at + wellF
     → decodeFirst (drop at letters) ≡ d → OneOf (1 ∷ 2 ∷ []) (tagOf the-type d) → ⊥
 letter-begins letters at d w h e k = let z = prefix-none (drop at letters) (codes-stop (drop at letters) d e k) in omega arith
 
--- what stands behind a dash of a text that is well-formed is well-formed
+-- what stands after a dash of a text that is well-formed is well-formed
 dash-first : (w : List ℕ) → 0 < length w → getD w 0 0 ≡ dash → decodeFirst w ≡ Character dash 1
 unfolding decodeFirst table
 dash-first [] h e = absurd (omega arith)
 dash-first (a ∷ s) h e = rw e refl
 
-behind-dash : (w : List ℕ) → WellFormed w → 0 < length w → getD w 0 0 ≡ dash → WellFormed (drop 1 w)
-behind-dash w f h e =
+after-dash : (w : List ℕ) → WellFormed w → 0 < length w → getD w 0 0 ≡ dash → WellFormed (drop 1 w)
+after-dash w f h e =
     let a = whole-is w f in
     let b = prefix-step w dash 1 (dash-first w h e) in
     let l = length-drop 1 w in
@@ -102,8 +102,8 @@ module _ (words : List ℕ) (at kind n : ℕ) (e : frameFirst (drop at words) �
   pub word-byte : (i : ℕ) → i < n → getD (partOf words (at + 3) n) i 0 ≡ getD words (at + 3 + i) 0
   word-byte i h = getD-take n (drop (at + 3) words) i 0 h ∙ getD-drop (at + 3) words i 0
 
-  pub word-behind : (j : ℕ) → take (at + 3 + n - (at + 3 + j)) (drop (at + 3 + j) words) ≡ drop j (partOf words (at + 3) n)
-  word-behind j =
+  pub word-after : (j : ℕ) → take (at + 3 + n - (at + 3 + j)) (drop (at + 3 + j) words) ≡ drop j (partOf words (at + 3) n)
+  word-after j =
       let k : at + 3 + n - (at + 3 + j) ≡ n - j = omega arith in
       ap (λ (m : ℕ). take m (drop (at + 3 + j) words)) k ∙ ap (take (n - j)) (sym (drop-drop j (at + 3) words)) ∙ sym (drop-take j n (drop (at + 3) words))
 
@@ -112,7 +112,7 @@ module _ (words : List ℕ) (at kind n : ℕ) (e : frameFirst (drop at words) �
   letters-formed f h d =
       let l = word-length words at kind n e in
       let k : at + 3 + 0 ≡ at + 3 = omega arith in
-      rw (word-behind 1) (behind-dash (partOf words (at + 3) n) f (omega arith) (word-byte 0 (omega arith) ∙ ap (λ (i : ℕ). getD words i 0) k ∙ d))
+      rw (word-after 1) (after-dash (partOf words (at + 3) n) f (omega arith) (word-byte 0 (omega arith) ∙ ap (λ (i : ℕ). getD words i 0) k ∙ d))
 
   -- its form
   pub form-short : n < 2 → formOf (partOf words (at + 3) n) ≡ positional
@@ -188,7 +188,7 @@ pub record ArgsAt (words image : List ℕ) (defs : List Frame) (start : ℕ) (re
   pub room : length rest ≡ length rest₀
   pub ahead : WellSplit (drop at words)
 
--- a word that was split, and those behind it
+-- a word that was split, and those after it
 each-first : (w : List ℕ) (l : List (List ℕ)) → Each Good (w ∷ l) → Good w
 each-first w l (also g e) = g
 

@@ -14,7 +14,7 @@ use Rattle.frame.specs.Framed.{frameFirst}
 use Rattle.frame.specs.declared.framed.Framed.the-variants.{Frame as Framed}
 use Rattle.frame.specs.Series.{textsIn}
 use Rattle.frame.proofs.Series.{words-more, all-parted}
-use Rattle.table.specs.Held.{partOf, mapOf}
+use Rattle.table.specs.Inner.{partOf, mapOf}
 use Rattle.table.specs.Map.{put}
 use Rattle.image.specs.Frames.{Perhaps, Frame, node, option, flag}
 use Rattle.image.specs.Limits.{fair}
@@ -33,9 +33,9 @@ use Rattle.tree.specs.declared.command.Found.{Found as Command}
 use Rattle.lookup.specs.Searches.{isNode}
 use Rattle.lookup.specs.Subtrees.{treeNamed}
 use Rattle.lookup.proofs.Lookups.{subtree-named, child-named, named-orderly}
-use Rattle.arguments.specs.Meanings.{definitionsOf, definitionsAt}
+use Rattle.arguments.specs.Meanings.{definitionsOf}
+use Rattle.arguments.specs.Inner.{definitionsAt, stored, foundOf, standBy, standOf, WellSplit, Scanned}
 use Rattle.arguments.specs.Arguments.{Found, noneFound, Stand, go, args}
-use Rattle.arguments.specs.Held.{stored, foundOf, standBy, standOf, WellSplit, Scanned}
 use Rattle.arguments.specs.declared.standing.Progress.{Progress}
 use Rattle.arguments.specs.declared.standing.Progress.the-variants.{Going}
 use Rattle.arguments.specs.declared.standing.Scan.{Scan}
@@ -44,7 +44,7 @@ use Rattle.arguments.proofs.Room.{options-few, flags-few, args-same}
 use Rattle.words.proofs.Kept.{Each, also, Good as Worthy}
 use Rattle.parse.proofs.Answers.{descent-keeps}
 use Rattle.parse.specs.Commands.{missingRequired, Outcome, parsed, fault, onMissing, outcomeOf, concluded, parseIn, parseWords, emptyCommand}
-use Rattle.parse.specs.Held.{outcomeBy, outcomeIn, numberOf, Parted, Lent, Judging}
+use Rattle.parse.specs.Inner.{outcomeBy, outcomeIn, numberOf, Parted, Judging}
 use Rattle.parse.specs.declared.judging.Verdict.{Verdict}
 use Rattle.parse.specs.declared.judging.Judged.{Judged}
 
@@ -279,7 +279,7 @@ module _ (words image : List ℕ) (kind n : ℕ) (e : frameFirst words ≡ Frame
 pub leads-as : (words image : List ℕ) (x y : Command) (r : Reached) → x ≡ y → Leads words image x r → Leads words image y r
 leads-as words image x y r e l = rw e at l
 
--- THE WORDS that lead to a command are parted behind its path
+-- THE WORDS that lead to a command are parted after its path
 each-later : (l m : List (List ℕ)) → Each Worthy (l ++ m) → Each Worthy m
 each-later [] m e = e
 each-later (w ∷ l) m (also g e) = each-later l m e

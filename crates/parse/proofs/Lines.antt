@@ -22,14 +22,14 @@ use Rattle.words.specs.declared.tokenizer.Tokens.{Tokens}
 use Rattle.words.specs.declared.tokenizer.Tokens.the-variants.{Words, LineTooLong as TooLong, IllFormed as Ill, NoRoom as TooShort}
 use Rattle.words.proofs.Standing.{written-most}
 use Rattle.words.proofs.Kept.{words-good}
-use Rattle.arguments.specs.Held.{WellSplit}
+use Rattle.arguments.specs.Inner.{WellSplit}
 use Rattle.tree.specs.Images.{framesOf}
 use Rattle.tree.specs.Rules.{checkTree}
 use Rattle.tree.specs.declared.check.Checked.{Checked}
 use Rattle.tree.specs.declared.check.Checked.the-variants.{Good, BadFrame}
 use Rattle.parse.specs.Commands.{Outcome, parseWords, parseLine}
-use Rattle.parse.specs.Held.{Enough}
-use Rattle.parse.specs.Answer.{outcomeAnswer, outcomeLeaves, Telling, onChecked, Worded, parseAnswer, parseLeaves, Parsing}
+use Rattle.parse.specs.Inner.{Enough, Telling, Worded}
+use Rattle.parse.specs.Answer.{outcomeAnswer, outcomeLeaves, onChecked, parseAnswer, parseLeaves, Parsing}
 use Rattle.parse.specs.declared.answer.Parsed.{Parsed}
 use Rattle.parse.specs.declared.answer.Parsed.the-variants.{BadTree, LineTooLong, IllFormed}
 

@@ -26,7 +26,7 @@ use Rattle.report.proofs.Ahead.{Ahead, ahead-lent, ahead-turn, runs-mor
 abbrev pub wordsAt : ℕ → List ℕ → ℕ → List ℕ
 wordsAt kind words at = runs (frameOf kind) (textsIn (drop at words))
 
--- the n bytes behind a head of three, as the code cuts them out
+-- the n bytes after a head of three, as the code cuts them out
 abbrev pub partAt : List ℕ → ℕ → ℕ → List ℕ
 partAt words at n = take (at + 3 + n - (at + 3)) (drop (at + 3) words)
 

@@ -13,7 +13,7 @@ ghost use Prim.Native.Nat.{_+_, _≤_, _<_};
 ghost use lib.ListN.{length};
 ghost use Rattle.buffer.specs.Write.{over};
 ghost use Rattle.frame.specs.Series.{AllFrames};
-ghost use Rattle.report.specs.Report.{reportHeld, Reporting};
+ghost use Rattle.report.specs.Inner.{reportHeld, Reporting};
 
 // How many bytes the report takes. A table comes to at most 8 MiB, so with slices that are in memory together the sum is in range.
 fn report_size<'a>(

@@ -1,4 +1,4 @@
--- Laws of the messages: a text behind its dashes, and the words of a path joined by spaces.
+-- Laws of the messages: a text after its dashes, and the words of a path joined by spaces.
 use Prim.Native.Nat.{ℕ, _+_, _-_, _≤_}
 use mathlib.Core.Path.{_≡_, refl, sym, ap, _∙_}
 use mathlib.Core.List.{List, [], _∷_, _++_}
@@ -14,8 +14,9 @@ use Rattle.frame.specs.Series.{textsIn, AllFrames}
 use Rattle.frame.specs.declared.framed.Framed.the-variants.{Frame}
 use Rattle.frame.proofs.Frames.{length-frameOf, frame-found}
 use Rattle.frame.proofs.Series.{texts-end, word-within, word-length, words-more, all-next}
-use Rattle.table.specs.Held.{partOf}
-use Rattle.report.specs.Report.{faultOf, dashed, reportAnswer, reportLeaves, Reporting}
+use Rattle.table.specs.Inner.{partOf}
+use Rattle.report.specs.Report.{faultOf}
+use Rattle.report.specs.Inner.{dashed, reportAnswer, reportLeaves, Reporting}
 use Rattle.report.specs.declared.answer.Reported.{Reported}
 use Rattle.ink.specs.Ascii.{ascii}
 use Rattle.ink.specs.Inks.{Inked, Countable}
@@ -29,7 +30,7 @@ pub last-message : (number : ℕ) → (number ≡ 4 → ⊥) → (number ≡ 5 �
 unfolding faultMessage
 last-message number a b c = sym (else-is _ _ _ (ne-eqb number 4 a) ∙ else-is _ _ _ (ne-eqb number 5 b) ∙ else-is _ _ _ (ne-eqb number 6 c))
 
--- A TEXT BEHIND ITS DASHES, lent from the frame of a fault
+-- A TEXT AFTER ITS DASHES, lent from the frame of a fault
 module _ (dashes : ℕ) (text : List ℕ) where
   length-dashed : length (dashed dashes text) ≡ dashes + length text
   unfolding dashed
@@ -73,7 +74,7 @@ module _ (path out₀ out : List ℕ) (at end : ℕ) (way : OnPath path out₀ o
       let w = way .within in
       omega arith
 
-  -- a word more, behind a space
+  -- a word more, after a space
   pub goes-on : (kind n : ℕ) → frameFirst (drop at path) ≡ Frame kind n
       → (p : ℕ) (mid : List ℕ) (r : ℕ) (left : List ℕ) → Inked (ascii " ") out end p mid → Inked (take (at + 3 + n - (at + 3)) (drop (at + 3) path)) mid p r left
       → OnPath path out₀ left (at + 3 + n) r
@@ -94,7 +95,7 @@ module _ (path out₀ out : List ℕ) (at end : ℕ) (way : OnPath path out₀ o
         finish = λ z last x. way .finish z last (inked-as _ _ _ _ _ _ (ap spaced (sym (words-more path at kind n e))) (inked-both _ _ _ _ _ _ _ _ i x));
       }
 
--- the words joined are what stands behind the first space
+-- the words joined are what stands after the first space
 join-spaced : (words : List (List ℕ)) → drop 1 (spaced words) ≡ joined words
 unfolding spaced joined ascii
 join-spaced [] = refl

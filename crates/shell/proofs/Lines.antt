@@ -21,7 +21,7 @@ use Rattle.frame.specs.Series.{textsFrom, textsIn}
 use Rattle.frame.proofs.Series.{all-none}
 use Rattle.words.specs.Tokens.{wordsOf}
 use Rattle.words.proofs.Kept.{nothing}
-use Rattle.arguments.specs.Held.{WellSplit}
+use Rattle.arguments.specs.Inner.{WellSplit}
 use Rattle.words.specs.declared.tokenizer.Tokens.{Tokens}
 use Rattle.words.specs.declared.tokenizer.Tokens.the-variants.{Words, LineTooLong as TooLong, IllFormed as Ill, NoRoom as TooShort}
 use Rattle.words.proofs.tokenizer.Tokens.{the-type}
@@ -41,12 +41,12 @@ use Rattle.help.proofs.Answers.{reply-none, reply-found, reply-lost}
 use Rattle.parse.specs.Answer.{onChecked}
 use Rattle.parse.proofs.Lines.{LineTold}
 use Rattle.shell.specs.Lines.{Said, silence, text, farewell, builtinOf, onBuiltin, beginsHelp, helpWords, helpSaid, execute, otherSaid, lineSaid, saidOf}
-use Rattle.shell.specs.Answer.{Answered, runAnswer, runLeaves, Running}
-use Rattle.shell.specs.Held.{Splits}
+use Rattle.shell.specs.Answer.{runAnswer, runLeaves, Running}
+use Rattle.shell.specs.Inner.{Answered, Splits}
 use Rattle.shell.specs.declared.builtin.Builtin.{Builtin}
 use Rattle.shell.specs.declared.answer.Ran.{Ran}
 use Rattle.shell.specs.declared.answer.Ran.the-variants.{Nothing, BadTree, LineTooLong}
-use Rattle.shell.proofs.Answering.{said-nothing, said-same}
+use Rattle.shell.proofs.WrittenAnswers.{said-nothing, said-same}
 
 -- A TRIMMED LINE: all pieces of a well-formed text are characters, and so are those that are kept
 abbrev Whole : List Piece → Type 0

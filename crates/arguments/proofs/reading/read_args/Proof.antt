@@ -5,10 +5,9 @@ use native.Mathlib.Omega.{arith}
 use borrow.Author.Needs.{needs}
 use lib.ListN.{length}
 use Rattle.frame.proofs.Series.{all-begin, texts-end, word-within}
-use Rattle.table.specs.Held.{Fit}
-use Rattle.arguments.specs.Meanings.{definitionsAt}
+use Rattle.table.specs.Inner.{Fit}
+use Rattle.arguments.specs.Inner.{definitionsAt, held}
 use Rattle.arguments.proofs.Walks.{ArgsAt, args-start, args-turn, args-end, split-word}
-use Rattle.arguments.specs.Held.{held}
 use Rattle.arguments.specs.declared.standing.Stage.{Stage}
 use Rattle.arguments.proofs.Moves.{fit-as, stage-starts, stage-apt}
 use Rattle.arguments.proofs.reading.read_args.Statement.{statement}

@@ -7,9 +7,9 @@ use lib.Seq.{length-take-le}
 use Rattle.frame.specs.Series.{textsIn}
 use Rattle.tree.specs.Trails.{partAt}
 use Rattle.tree.proofs.Trails.{part-most}
-use Rattle.arguments.specs.Held.{foundOf}
-use Rattle.parse.specs.Held.{outcomeIn, textOf}
-use Rattle.parse.proofs.Tellings.{text-short, fault-telling, report-telling}
+use Rattle.arguments.specs.Inner.{foundOf}
+use Rattle.parse.specs.Inner.{outcomeIn, textOf}
+use Rattle.parse.proofs.OutcomesTold.{text-short, fault-telling, report-telling}
 use borrow.Author.Needs.{needs}
 use Rattle.parse.proofs.parser.tell.Statement.{statement}
 use Rattle.parse.proofs.parser.tell.Tie as tie

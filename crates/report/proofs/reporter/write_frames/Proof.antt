@@ -1,4 +1,4 @@
--- `report::reporter::write_frames` meets its contract: four parts, each into the rest behind the one before.
+-- `report::reporter::write_frames` meets its contract: four parts, each into the rest after the one before.
 use Rattle.report.proofs.Reports.{report-length, path-written, options-lent, options-written, flags-lent, flags-written, rest-lent, rest-written}
 use borrow.Author.Needs.{needs}
 use native.Mathlib.Omega.{arith}

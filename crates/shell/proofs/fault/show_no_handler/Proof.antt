@@ -1,4 +1,4 @@
--- `shell::fault::show_no_handler` meets its contract: the words joined are what stands behind the first space.
+-- `shell::fault::show_no_handler` meets its contract: the words joined are what stands after the first space.
 use mathlib.Core.Path.{sym, _∙_}
 use native.Mathlib.Omega.{arith}
 use borrow.Author.Needs.{needs}

@@ -6,9 +6,9 @@ use Rattle.frame.specs.Text.{Bytes}
 use Rattle.parse.proofs.Judgements.{good-short}
 use Rattle.image.specs.Frames.{Frame}
 use Rattle.shell.specs.Lines.{handlerOf}
-use Rattle.shell.specs.Held.{handlerBy}
-use Rattle.shell.proofs.Answering.{said-same}
-use Rattle.shell.proofs.Telling.{words-carried}
+use Rattle.shell.specs.Inner.{handlerBy}
+use Rattle.shell.proofs.WrittenAnswers.{said-same}
+use Rattle.shell.proofs.JudgedCarried.{words-carried}
 use borrow.Author.Needs.{needs}
 use Rattle.shell.proofs.runner.execute_command.Statement.{statement}
 use Rattle.shell.proofs.runner.execute_command.Tie as tie

@@ -4,7 +4,7 @@ use native.Mathlib.Omega.{arith}
 use lib.ListN.{length-drop, length}
 use Rattle.tree.specs.Images.{framesOf}
 use Rattle.ink.specs.Ascii.{ascii}
-use Rattle.shell.proofs.Answering.{said-same, said-nothing}
+use Rattle.shell.proofs.WrittenAnswers.{said-same, said-nothing}
 use Rattle.shell.proofs.Lines.{begins-is, other-help, other-blank, other-command}
 use borrow.Author.Needs.{needs}
 use Rattle.shell.proofs.runner.run_other.Statement.{statement}

@@ -2,7 +2,7 @@
 use mathlib.Core.Path.{sym, _∙_}
 use native.Mathlib.Omega.{arith}
 use Rattle.text.proofs.Prefix.{prefix-fits}
-use Rattle.shell.specs.Held.{Splits}
+use Rattle.shell.specs.Inner.{Splits}
 use Rattle.shell.proofs.Lines.{bad-tree, too-long, ill-formed, well-formed}
 use borrow.Author.Needs.{needs}
 use Rattle.shell.proofs.runner.run_words.Statement.{statement}

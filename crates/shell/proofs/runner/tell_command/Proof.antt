@@ -5,9 +5,9 @@ use native.Mathlib.Omega.{arith}
 use borrow.Author.Needs.{needs}
 use lib.ListN.{length-take, length, take}
 use lib.Seq.{length-take-le}
-use Rattle.arguments.specs.Held.{foundOf}
-use Rattle.shell.proofs.Answering.{said-same}
-use Rattle.shell.proofs.Telling.{lacking-carried, handed-carried}
+use Rattle.arguments.specs.Inner.{foundOf}
+use Rattle.shell.proofs.WrittenAnswers.{said-same}
+use Rattle.shell.proofs.JudgedCarried.{lacking-carried, handed-carried}
 use Rattle.shell.proofs.runner.tell_command.Statement.{statement}
 use Rattle.shell.proofs.runner.tell_command.Tie as tie
 

@@ -3,14 +3,13 @@ use Prim.Native.Nat.{_+_, _-_, _≤_, ℕ}
 use mathlib.Core.Path.{sym, _∙_, _≡_, refl}
 use native.Mathlib.Omega.{arith}
 use mathlib.Core.List.{List}
-use Rattle.table.specs.Held.{Fit}
-use Rattle.arguments.specs.Held.{held}
+use Rattle.table.specs.Inner.{Fit}
+use Rattle.arguments.specs.Inner.{held, definitionsAt}
 use borrow.Author.Needs.{needs}
 use lib.ListN.{length, take, drop}
 use Rattle.text.proofs.Pieces.{character-fits, character-some}
 use Rattle.text.specs.Decoding.{wellFormedLength}
 use Rattle.text.proofs.Prefix.{codes-end, prefix-turn}
-use Rattle.arguments.specs.Meanings.{definitionsAt}
 use Rattle.arguments.proofs.Steps.{piece-length}
 use Rattle.arguments.proofs.Walks.{ShortsAt, shorts-start, shorts-turn, shorts-end, letters-start, letter-begins, letter-part}
 use Rattle.arguments.proofs.standing.Stage.shorts.Statement.{statement}

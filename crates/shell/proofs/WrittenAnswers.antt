@@ -12,11 +12,12 @@ use Rattle.buffer.proofs.Choices.{else-is}
 use Rattle.ink.specs.Answer.{showAnswer, leavesBy as showLeavesBy, showLeaves, Showing}
 use Rattle.ink.specs.declared.show.Shown.{Shown}
 use Rattle.ink.specs.declared.show.Shown.the-variants.{Text as ShownText, NoRoom as ShownShort}
-use Rattle.report.specs.Report.{reportAnswer, leavesBy as reportLeavesBy, reportLeaves, Reporting}
+use Rattle.report.specs.Inner.{reportAnswer, leavesBy as reportLeavesBy, reportLeaves, Reporting}
 use Rattle.report.specs.declared.answer.Reported.{Reported}
 use Rattle.report.specs.declared.answer.Reported.the-variants.{Report, NoRoom as ReportShort}
 use Rattle.shell.specs.Lines.{Said, silence}
-use Rattle.shell.specs.Answer.{bytesOf, named, saidAnswer, saidLeaves, Answered}
+use Rattle.shell.specs.Answer.{bytesOf, named, saidAnswer, saidLeaves}
+use Rattle.shell.specs.Inner.{Answered}
 use Rattle.shell.specs.declared.answer.Ran.{Ran}
 use Rattle.shell.specs.declared.answer.Ran.the-variants.{Nothing, NoRoom}
 
