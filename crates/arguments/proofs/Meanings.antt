@@ -11,7 +11,7 @@ use lib.ListN.{length, take, drop, length-drop}
 use lib.Seq.{drop-drop}
 use Rattle.frame.specs.Text.{Bytes}
 use Rattle.frame.proofs.Texts.{bytes-drop}
-use Rattle.table.specs.Held.{partOf}
+use Rattle.table.specs.Inner.{partOf}
 use Rattle.image.specs.Frames.{Frame, node, option, flag}
 use Rattle.image.specs.Reading.{Read, read, broken, ended, headFirst, readBy, readFirst, definitionLengths, nodeIn, optionIn, flagIn}
 use Rattle.image.specs.declared.head.Lengths.{Lengths}
@@ -29,7 +29,8 @@ use Rattle.lookup.specs.declared.seek.Spot.the-variants.{At, Nothing}
 use Rattle.lookup.specs.declared.look.Sought.the-variants.{OptionKeyed}
 use Rattle.lookup.specs.declared.definition.Defined.the-variants.{Flag, Option as Opt, Unknown}
 use Rattle.lookup.proofs.FoundFrames.{FrameAt, spot-first, spot-none}
-use Rattle.arguments.specs.Meanings.{definitionsAt, nameOf, firstName, Means, aFlag, anOption, nothing, flagElse, meaning, isSome, isOption}
+use Rattle.arguments.specs.Meanings.{nameOf, firstName, Means, aFlag, anOption, nothing, flagElse, meaning, isSome, isOption}
+use Rattle.arguments.specs.Inner.{definitionsAt}
 
 -- the name of a frame, if there is one
 abbrev named : Option Frame → Option (List ℕ)
@@ -59,7 +60,7 @@ module _ (test : Frame → Bool) (image : List ℕ) (at : ℕ) where
   unfolding definitionsAt
   spot-nameless e = first-named test (framesOf (drop at image)) ∙ ap named (spot-none test isNode image at e)
 
--- the two searches behind a definition
+-- the two searches for a definition
 flag-found : (x y : Spot) (p : ℕ) → flagOr x y ≡ Flag p → x ≡ At p
 flag-found (At q) y p e = cc
 flag-found Nothing (At q) p e = absurd (let z : _≡_ {A = ℕ} 0 1 = cc in omega arith)

@@ -7,14 +7,15 @@ use lib.ListN.{length, take, drop, length-append}
 use lib.Seq.{take-append-seam, length-take-le}
 use Rattle.buffer.specs.Write.{over, overAt, Pushed}
 use Rattle.buffer.proofs.Lending.{length-overAt}
+use Rattle.frame.proofs.Series.{all-none}
 use Rattle.frame.specs.Series.{textsFrom, textsIn, Whole}
 use Rattle.table.specs.Map.{Map, putWithin}
-use Rattle.table.specs.Held.{partOf, bitOf, sourceOf, packed, keyOf, valueOf, entries, mapOf, tabled, capacity, Fit, putEntry}
+use Rattle.table.specs.Inner.{partOf, bitOf, sourceOf, packed, keyOf, valueOf, entries, mapOf, tabled, capacity, Fit, putEntry}
 use Rattle.table.specs.declared.packing.Source.{Source}
 use Rattle.table.specs.declared.sorted.Table.{Table}
-use Rattle.table.proofs.Parts.{entry-key, entry-value}
+use Rattle.table.proofs.PackedPlaces.{entry-key, entry-value}
 use Rattle.arguments.specs.Arguments.{noneFound, go, withOption, withFlag}
-use Rattle.arguments.specs.Held.{stored, foundOf, standBy, standOf, fresh, held, KeySmall, Apt, Moved, Kept}
+use Rattle.arguments.specs.Inner.{stored, foundOf, standBy, standOf, fresh, held, KeySmall, Apt, Moved, Kept}
 use Rattle.arguments.specs.declared.standing.Progress.{Progress}
 use Rattle.arguments.specs.declared.standing.Progress.the-variants.{Going}
 use Rattle.arguments.specs.declared.standing.Scan.{Scan}
@@ -31,7 +32,7 @@ module _ (words image rest : List ℕ) (o f : Table) where
 
   pub apt-starts : Apt rest (record { options = o; flags = f; kept = 0; progress = Going })
   unfolding Whole textsIn textsFrom
-  apt-starts = record { small = tt; whole = λ more. refl }
+  apt-starts = record { small = tt; whole = λ more. refl; frames = all-none }
 
 -- the same with lent tables
 none-held : (words image o : List ℕ) → mapOf words image (tabled 0 o) ≡ []
@@ -95,10 +96,10 @@ module _ (words image : List ℕ) (source : Source) (key size value len e : ℕ)
       }
 
 -- a frame kept
-pub kept-behind : (frame rest left : List ℕ) (s : Scan) (r : ℕ) → s .kept + length frame ≤ length rest → Pushed frame rest (s .kept) r left
+pub kept-after : (frame rest left : List ℕ) (s : Scan) (r : ℕ) → s .kept + length frame ≤ length rest → Pushed frame rest (s .kept) r left
     → Kept frame rest left s (record { options = s .options; flags = s .flags; kept = r; progress = s .progress })
 unfolding overAt over
-kept-behind frame rest left s r h p =
+kept-after frame rest left s r h p =
     record {
       options = refl;
       flags = refl;

@@ -22,7 +22,7 @@ use Rattle.text.specs.Decoding.{codesIn}
 use Rattle.arguments.specs.Meanings.{nameOf, firstName, Means, aFlag, anOption, nothing, flagElse, meaning, onMeans, isSome, isOption}
 use Rattle.arguments.specs.Forms.{Form, valued, long as longOnly, shorts, positional, formOf, dash}
 use Rattle.arguments.specs.Arguments.{Found, noneFound, Stand, go, wait, unknownOption, missingValue, withOption, withFlag, withPositional, shortStep, shortSteps, formStep, wordStep, args}
-use Rattle.arguments.specs.Held.{stored}
+use Rattle.arguments.specs.Inner.{stored}
 
 -- the name and the long of a definition
 abbrev pub namesOf : List ℕ → Perhaps → List (List ℕ)
@@ -67,7 +67,7 @@ flags-few (node d h name ds u ∷ l) = flags-few l
 flags-few (option r c name x ds ∷ l) = flags-few l
 flags-few (flag c name x ds ∷ l) = let a = names-few name x (flagKeys l) in let b = flags-few l in omega arith
 
--- a key among these or behind them
+-- a key among these or after them
 among-front : (k : List ℕ) (a b : List (List ℕ)) → among k a ≡ true → among k (a ++ b) ≡ true
 unfolding among
 among-front k [] b e = absurd (true-is-not-false (sym e))
@@ -77,10 +77,10 @@ among-front k (j ∷ a) b e = by (sameBytes k j) e (among-front k a b)
     by true q more = refl
     by false q more = more q
 
-among-behind : (k : List ℕ) (a b : List (List ℕ)) → among k b ≡ true → among k (a ++ b) ≡ true
+among-after : (k : List ℕ) (a b : List (List ℕ)) → among k b ≡ true → among k (a ++ b) ≡ true
 unfolding among
-among-behind k [] b e = e
-among-behind k (j ∷ a) b e = by (sameBytes k j) (among-behind k a b e)
+among-after k [] b e = e
+among-after k (j ∷ a) b e = by (sameBytes k j) (among-after k a b e)
   where
     by : (t : Bool) → among k (a ++ b) ≡ true → cond t true (among k (a ++ b)) ≡ true
     by true more = refl
@@ -132,7 +132,7 @@ first-in test is wide (f ∷ l) x e = by (test f) refl (is f) refl e (first-in t
     by true p false q s more = absurd (true-is-not-false (sym (wide f p) ∙ q))
     by false p true q s more =
         let m = more s in
-        record { frame = m .frame; passes = m .passes; named = m .named; within = λ k a. among-behind k (namesIn f) (keysWith is l) (m .within k a) }
+        record { frame = m .frame; passes = m .passes; named = m .named; within = λ k a. among-after k (namesIn f) (keysWith is l) (m .within k a) }
     by false p false q s more = more s
 
 -- what the two kinds ask of a frame
@@ -188,7 +188,7 @@ flag-name has defs x e =
     let f = first-in (flagWith has) (flagWith any) (flag-wide has) defs x e in
     rw (f .named) (f .within (nameOf (f .frame)) (own-name (f .frame) (flag-node has (f .frame) (f .passes))))
 
--- what a meaning tells of the searches behind it
+-- what a meaning tells of the two searches
 abbrev MeansIn : (Frame → Bool) → List Frame → Means → Type 0
 MeansIn has defs (aFlag x) = firstName (flagWith has) defs ≡ some x
 MeansIn has defs (anOption x) = firstName (optionWith has) defs ≡ some x

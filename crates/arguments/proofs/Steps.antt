@@ -13,14 +13,14 @@ use Rattle.buffer.proofs.Choices.{then-is, else-is}
 use Rattle.text.specs.Unicode.{encode}
 use Rattle.image.specs.Frames.{Frame}
 use Rattle.lookup.specs.Definitions.{hasKey, hasShort}
-use Rattle.table.specs.Held.{partOf}
+use Rattle.table.specs.Inner.{partOf}
 use Rattle.table.specs.declared.packing.Span.{Span}
 use Rattle.table.specs.declared.packing.Source.{Source}
 use Rattle.table.specs.declared.packing.Source.the-variants.{Image}
 use Rattle.arguments.specs.Meanings.{Means, aFlag, anOption, nothing, meaning, onMeans, isOption}
 use Rattle.arguments.specs.Forms.{Form, valued, long, beforeEquals, longForm, dash}
 use Rattle.arguments.specs.Arguments.{Stand, go, wait, unknownOption, missingValue, withOption, withFlag, shortStep, formStep}
-use Rattle.arguments.specs.Held.{stored, toldOf, foundOf, standBy, standOf, meansOf, KeySmall, NameSmall, Moved}
+use Rattle.arguments.specs.Inner.{stored, toldOf, foundOf, standBy, standOf, meansOf, KeySmall, NameSmall, Moved}
 use Rattle.arguments.specs.declared.standing.FaultText.{FaultText}
 use Rattle.arguments.specs.declared.standing.Progress.{Progress}
 use Rattle.arguments.specs.declared.standing.Progress.the-variants.{Going, Waiting, UnknownOption, MissingValue}
@@ -94,7 +94,7 @@ module _ (words image : List ℕ) (s r : Scan) (defs : List Frame) (code : ℕ) 
   short-missing source key told e o =
       moved-as words image s r _ _ o (λ rest. sym (ap (λ (a : Stand). shortStep stored defs a code) (stand-by words image rest s (Waiting source key told) e)))
 
--- THE FORM behind `--`
+-- THE FORM after `--`
 long-with : (k : List ℕ) (e : ℕ) → e ≡ beforeEquals k → e < length k → longForm k ≡ valued (take e k) (drop (suc e) k)
 unfolding longForm
 long-with k e q h = rw (← q) (then-is _ _ _ (lt-ltb e (length k) h))
@@ -163,8 +163,8 @@ module _ (words : List ℕ) (start end : ℕ) (o : start ≤ end) (l : end ≤ l
   pub piece-whole : (e : ℕ) → e ≤ length piece → length piece ≤ e → partOf words start e ≡ piece
   piece-whole e h g = let k = piece-length in let q : e ≡ end - start = omega arith in ap (λ (n : ℕ). take n (drop start words)) q
 
-  pub piece-behind : (e : ℕ) → e < length piece → partOf words (start + e + 1) (length piece - e - 1) ≡ drop (suc e) piece
-  piece-behind e h =
+  pub piece-after : (e : ℕ) → e < length piece → partOf words (start + e + 1) (length piece - e - 1) ≡ drop (suc e) piece
+  piece-after e h =
       let k = piece-length in
       let q : length piece - e - 1 ≡ end - start - suc e = omega arith in
       let p : start + e + 1 ≡ start + suc e = omega arith in

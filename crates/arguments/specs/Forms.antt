@@ -22,7 +22,7 @@ unfoldable pub beforeEquals : List ℕ → ℕ
 beforeEquals [] = 0
 beforeEquals (b ∷ s) = cond (eqb b equals) 0 (suc (beforeEquals s))
 
--- what stands behind `--`: with a `=`, a key and a value; else a key
+-- what stands after `--`: with a `=`, a key and a value; else a key
 unfoldable pub longForm : List ℕ → Form
 longForm k =
     cond (ltb (beforeEquals k) (length k)) (valued (take (beforeEquals k) k) (drop (suc (beforeEquals k)) k)) (long k)

@@ -3,23 +3,17 @@ use Prim.Native.Nat.{ℕ}
 use mathlib.Core.Bool.{Bool, true, false, cond}
 use mathlib.Core.List.{List, [], _∷_}
 use mathlib.Core.Option.{Option, none, some}
-use lib.ListN.{drop}
 use Rattle.image.specs.Frames.{Frame, node, option, flag}
-use Rattle.tree.specs.Images.{framesOf}
 use Rattle.tree.specs.Subtrees.{upTo}
 use Rattle.lookup.specs.Searches.{isNode}
 use Rattle.lookup.specs.Definitions.{hasKey, flagWith, optionWith}
 
--- the definitions of a node, given its subtree: the frames behind it up to the next node of any depth
+-- the definitions of a node, given its subtree: the frames after it up to the next node of any depth
 unfoldable pub definitionsOf : List Frame → List Frame
 definitionsOf [] = []
 definitionsOf (node depth handler name description usage ∷ l) = upTo isNode l
 definitionsOf (option required short name long description ∷ l) = []
 definitionsOf (flag short name long description ∷ l) = []
-
--- those that stand in bytes from a place on
-unfoldable pub definitionsAt : List ℕ → ℕ → List Frame
-definitionsAt image at = upTo isNode (framesOf (drop at image))
 
 abbrev pub nameOf : Frame → List ℕ
 nameOf (node depth handler name description usage) = name

@@ -8,8 +8,8 @@ ghost use mathlib.Core.Path.{_≡_};
 ghost use Prim.Native.Nat.{_≤_};
 ghost use lib.ListN.{length};
 ghost use Rattle.lookup.specs.Definitions.{hasShort};
-ghost use Rattle.arguments.specs.Meanings.{definitionsAt, meaning};
-ghost use Rattle.arguments.specs.Held.{meansOf, NameSmall};
+ghost use Rattle.arguments.specs.Meanings.{meaning};
+ghost use Rattle.arguments.specs.Inner.{definitionsAt, meansOf, NameSmall};
 
 // A flag or an option, with the place of its name in the image; or nothing that the node knows.
 pub enum Meaning {

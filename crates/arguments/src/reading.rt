@@ -18,23 +18,16 @@ use table::Table;
 use text::Decoded;
 use text::decode;
 ghost use mathlib.Core.Path.{_≡_};
-ghost use mathlib.Core.List.{List};
-ghost use Prim.Native.Nat.{ℕ, _+_, _-_, _≤_, _<_};
-ghost use lib.ListN.{length, take, drop};
-ghost use Rattle.text.specs.Unicode.{encode};
-ghost use Rattle.text.specs.Decoding.{codesIn};
+ghost use Prim.Native.Nat.{ℕ, _+_, _≤_};
+ghost use lib.ListN.{length, drop};
+ghost use Rattle.text.specs.Unicode.{encode, WellFormed};
 ghost use Rattle.frame.specs.Framed.{frameFirst};
 ghost use Rattle.frame.specs.declared.framed.Framed.the-variants.{Frame};
-ghost use Rattle.frame.specs.Series.{textsIn};
-ghost use Rattle.table.specs.Held.{partOf, capacity, Fit};
-ghost use Rattle.arguments.specs.Meanings.{definitionsAt};
-ghost use Rattle.arguments.specs.Forms.{longForm, formOf};
-ghost use Rattle.arguments.specs.Arguments.{noneFound, go, shortStep, shortSteps, formStep, wordStep, args};
-ghost use Rattle.arguments.specs.Held.{stored, foundOf, standOf, held, Sizes, KeySmall, Apt, Moved, Stepped, Scanned};
-ghost use Rattle.arguments.specs.declared.standing.Progress.the-variants.{Going};
+ghost use Rattle.table.specs.Inner.{partOf, capacity, Fit};
+ghost use Rattle.arguments.specs.Inner.{held, Sizes, WellSplit, Apt, LongRead, ShortRead, ShortsAsk, ShortsRead, ArgumentAsks, ArgumentRead, WordRead, ArgsRead, ArgsScanned};
 
 impl Stage {
-    // What stands behind `--`, from one place of the words to another.
+    // What stands after `--`, from one place of the words to another.
     fn long<'a>(
         self,
         words: &'a [u8],
@@ -46,7 +39,7 @@ impl Stage {
         end: usize,
     ) -> Self
         requires { ⌜ Sizes (now words) (now image) × (start ≤ end) × (end ≤ length (now words)) × Fit (self .options) (now options) × Fit (self .flags) (now flags) ⌝ }
-        ensures { λ r. ⌜ ((w : List ℕ) → Moved (now (words .entry)) (now (image .entry)) (held (now (options .entry)) (now (flags .entry)) self) (held (now (options .exit)) (now (flags .exit)) r) (λ rest. formStep stored (definitionsAt (now (image .entry)) from) (foundOf (now (words .entry)) (now (image .entry)) rest (held (now (options .entry)) (now (flags .entry)) self)) w (longForm (take (end - start) (drop start (now (words .entry))))))) × Fit (r .options) (now (options .exit)) × Fit (r .flags) (now (flags .exit)) ⌝ }
+        ensures { λ r. ⌜ LongRead (now (words .entry)) (now (image .entry)) from start end (now (options .entry)) (now (flags .entry)) self (now (options .exit)) (now (flags .exit)) r ⌝ }
     {
         let name = &words[start..end];
         let equals = before_equals(name);
@@ -92,7 +85,7 @@ impl Stage {
         length: usize,
     ) -> Self
         requires { ⌜ Sizes (now words) (now image) × (partOf (now words) place length ≡ encode code) × Fit (self .flags) (now flags) ⌝ }
-        ensures { λ r. ⌜ ((o : List ℕ) → Moved (now (words .entry)) (now (image .entry)) (held o (now (flags .entry)) self) (held o (now (flags .exit)) r) (λ rest. shortStep stored (definitionsAt (now (image .entry)) from) (standOf (now (words .entry)) (now (image .entry)) rest (held o (now (flags .entry)) self)) code)) × Fit (r .flags) (now (flags .exit)) × (r .options ≡ self .options) ⌝ }
+        ensures { λ r. ⌜ ShortRead (now (words .entry)) (now (image .entry)) from code (now (flags .entry)) self (now (flags .exit)) r ⌝ }
     {
         let told = FaultText {
             dashes: 1,
@@ -119,7 +112,7 @@ impl Stage {
         }
     }
 
-    // A word of shorts, behind its dash, from one place of the words to another.
+    // A word of shorts, after its dash, from one place of the words to another.
     fn shorts<'a>(
         self,
         words: &'a [u8],
@@ -129,15 +122,20 @@ impl Stage {
         start: usize,
         end: usize,
     ) -> Self
-        requires { ⌜ Sizes (now words) (now image) × (start ≤ end) × (end ≤ length (now words)) × KeySmall (self .progress) × Fit (self .flags) (now flags) ⌝ }
-        ensures { λ r. ⌜ ((o : List ℕ) → Moved (now (words .entry)) (now (image .entry)) (held o (now (flags .entry)) self) (held o (now (flags .exit)) r) (λ rest. shortSteps stored (definitionsAt (now (image .entry)) from) (standOf (now (words .entry)) (now (image .entry)) rest (held o (now (flags .entry)) self)) (codesIn (take (end - start) (drop start (now (words .entry))))))) × Fit (r .flags) (now (flags .exit)) × (r .options ≡ self .options) ⌝ }
+        requires { ⌜ ShortsAsk (now words) (now image) start end (now flags) self ⌝ }
+        ensures { λ r. ⌜ ShortsRead (now (words .entry)) (now (image .entry)) from start end (now (flags .entry)) self (now (flags .exit)) r ⌝ }
     {
         let letters = &words[start..end];
         let mut stage = self;
         let mut at = 0;
         while at < letters.len() {
             let Decoded::Character { code, length } = decode(letters, at) else {
-                return stage;
+                let told = FaultText {
+                    dashes: 1,
+                    start,
+                    length: end - start,
+                };
+                return stage.at(Progress::UnknownOption(told));
             };
             stage = stage.short(words, image, flags, from, start + at, code, length);
             at += length;
@@ -157,9 +155,9 @@ impl Stage {
         bytes: usize,
         rest: &mut [u8],
     ) -> Self
-        requires { ⌜ Sizes (now words) (now image) × ((kind : ℕ) × (frameFirst (drop at (now words)) ≡ Frame kind bytes)) ⌝ }
-        requires { ⌜ Apt (now rest) (held (now options) (now flags) self) × (self .progress ≡ Going) × (self .kept + 3 + bytes ≤ length (now rest)) × Fit (self .options) (now options) × Fit (self .flags) (now flags) ⌝ }
-        ensures { λ r. ⌜ Stepped (now (words .entry)) (now (image .entry)) (now (rest .entry)) (now (rest .exit)) (held (now (options .entry)) (now (flags .entry)) self) (held (now (options .exit)) (now (flags .exit)) r) (3 + bytes) (formStep stored (definitionsAt (now (image .entry)) from) (foundOf (now (words .entry)) (now (image .entry)) (now (rest .entry)) (held (now (options .entry)) (now (flags .entry)) self)) (partOf (now (words .entry)) (at + 3) bytes) (formOf (partOf (now (words .entry)) (at + 3) bytes))) × Fit (r .options) (now (options .exit)) × Fit (r .flags) (now (flags .exit)) ⌝ }
+        requires { ⌜ Sizes (now words) (now image) × ((kind : ℕ) × (frameFirst (drop at (now words)) ≡ Frame kind bytes)) × WellFormed (partOf (now words) (at + 3) bytes) ⌝ }
+        requires { ⌜ ArgumentAsks bytes (now options) (now flags) self (now rest) ⌝ }
+        ensures { λ r. ⌜ ArgumentRead (now (words .entry)) (now (image .entry)) from at bytes (now (options .entry)) (now (flags .entry)) self (now (rest .entry)) (now (options .exit)) (now (flags .exit)) r (now (rest .exit)) ⌝ }
     {
         let start = at + 3;
         let end = start + bytes;
@@ -187,9 +185,9 @@ impl Stage {
         bytes: usize,
         rest: &mut [u8],
     ) -> Self
-        requires { ⌜ Sizes (now words) (now image) × ((kind : ℕ) × (frameFirst (drop at (now words)) ≡ Frame kind bytes)) ⌝ }
+        requires { ⌜ Sizes (now words) (now image) × ((kind : ℕ) × (frameFirst (drop at (now words)) ≡ Frame kind bytes)) × WellFormed (partOf (now words) (at + 3) bytes) ⌝ }
         requires { ⌜ Apt (now rest) (held (now options) (now flags) self) × (self .kept + 3 + bytes ≤ length (now rest)) × Fit (self .options) (now options) × Fit (self .flags) (now flags) ⌝ }
-        ensures { λ r. ⌜ Stepped (now (words .entry)) (now (image .entry)) (now (rest .entry)) (now (rest .exit)) (held (now (options .entry)) (now (flags .entry)) self) (held (now (options .exit)) (now (flags .exit)) r) (3 + bytes) (wordStep stored (definitionsAt (now (image .entry)) from) (standOf (now (words .entry)) (now (image .entry)) (now (rest .entry)) (held (now (options .entry)) (now (flags .entry)) self)) (partOf (now (words .entry)) (at + 3) bytes)) × Fit (r .options) (now (options .exit)) × Fit (r .flags) (now (flags .exit)) ⌝ }
+        ensures { λ r. ⌜ WordRead (now (words .entry)) (now (image .entry)) from at bytes (now (options .entry)) (now (flags .entry)) self (now (rest .entry)) (now (options .exit)) (now (flags .exit)) r (now (rest .exit)) ⌝ }
     {
         let progress = self.progress;
         match progress {
@@ -220,14 +218,19 @@ fn read_args<'a>(
     flags: &mut [usize],
     rest: &mut [u8],
 ) -> Stage
-    requires { ⌜ Sizes (now words) (now image) × (length (now words) ≤ length (now rest)) × (length (now options) ≡ capacity) × (length (now flags) ≡ capacity) ⌝ }
-    ensures { λ r. ⌜ Scanned (now (words .entry)) (now (image .entry)) (now (rest .entry)) (now (rest .exit)) (held (now (options .exit)) (now (flags .exit)) r) (args stored (definitionsAt (now (image .entry)) from) (go noneFound) (textsIn (drop start (now (words .entry))))) × Fit (r .options) (now (options .exit)) × Fit (r .flags) (now (flags .exit)) ⌝ }
+    requires { ⌜ Sizes (now words) (now image) × (length (now words) ≤ length (now rest)) × (length (now options) ≡ capacity) × (length (now flags) ≡ capacity) × WellSplit (drop start (now words)) ⌝ }
+    ensures { λ r. ⌜ ArgsRead (now (words .entry)) (now (image .entry)) from start (now (rest .entry)) (now (options .exit)) (now (flags .exit)) r (now (rest .exit)) ⌝ }
 {
     let mut stage = Stage::start();
     let mut at = start;
     while at < words.len() {
         let Framed::Frame { kind: _, length } = read_frame(words, at) else {
-            return stage;
+            let told = FaultText {
+                dashes: 0,
+                start: at,
+                length: words.len() - at,
+            };
+            return stage.at(Progress::UnknownOption(told));
         };
         stage = stage.word(words, image, options, flags, from, at, length, rest);
         at += 3 + length;
@@ -243,8 +246,8 @@ pub fn parse_args<'a>(
     start: usize,
     rest: &mut [u8],
 ) -> Scan
-    requires { ⌜ Sizes (now words) (now image) × (length (now words) ≤ length (now rest)) ⌝ }
-    ensures { λ r. ⌜ Scanned (now (words .entry)) (now (image .entry)) (now (rest .entry)) (now (rest .exit)) r (args stored (definitionsAt (now (image .entry)) from) (go noneFound) (textsIn (drop start (now (words .entry))))) ⌝ }
+    requires { ⌜ Sizes (now words) (now image) × (length (now words) ≤ length (now rest)) × WellSplit (drop start (now words)) ⌝ }
+    ensures { λ r. ⌜ ArgsScanned (now (words .entry)) (now (image .entry)) from start (now (rest .entry)) r (now (rest .exit)) ⌝ }
 {
     let mut options = [0usize; 64];
     let mut flags = [0usize; 64];

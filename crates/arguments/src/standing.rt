@@ -9,9 +9,9 @@ ghost use mathlib.Core.Path.{_≡_};
 ghost use mathlib.Core.List.{List};
 ghost use Prim.Native.Nat.{ℕ, _+_, _≤_, _<_};
 ghost use lib.ListN.{length};
-ghost use Rattle.table.specs.Held.{partOf, sourceOf, Fit};
-ghost use Rattle.arguments.specs.Arguments.{noneFound, go, withOption, withFlag};
-ghost use Rattle.arguments.specs.Held.{stored, foundOf, standBy, standOf, fresh, held, KeySmall, Apt, Moved, Kept};
+ghost use Rattle.table.specs.Inner.{Fit};
+ghost use Rattle.arguments.specs.Arguments.{noneFound, go};
+ghost use Rattle.arguments.specs.Inner.{standOf, fresh, held, KeySmall, Apt, Turned, OptionTaken, FlagTaken, Kept};
 
 // The text that a fault tells: dashes, and a part of the words.
 pub struct FaultText {
@@ -76,7 +76,7 @@ impl Stage {
     // The same finds, with another progress.
     pub fn at(self, progress: Progress) -> Self
         requires { ⌜ KeySmall progress ⌝ }
-        ensures { λ r. ⌜ ((words image o f : List ℕ) → Moved words image (held o f self) (held o f r) (λ rest. standBy words image (foundOf words image rest (held o f self)) progress)) × (r .options ≡ self .options) × (r .flags ≡ self .flags) ⌝ }
+        ensures { λ r. ⌜ Turned progress self r ⌝ }
     {
         Self {
             options: self.options,
@@ -97,7 +97,7 @@ impl Stage {
         value: Span,
     ) -> Self
         requires { ⌜ (key .start < 0x10000) × (key .length < 0x10000) × (value .start < 0x2000) × (value .length < 0x2000) × Fit (self .options) (now options) ⌝ }
-        ensures { λ r. ⌜ ((f : List ℕ) → Moved (now (words .entry)) (now (image .entry)) (held (now (options .entry)) f self) (held (now (options .exit)) f r) (λ rest. go (withOption stored (foundOf (now (words .entry)) (now (image .entry)) rest (held (now (options .entry)) f self)) (partOf (sourceOf (now (words .entry)) (now (image .entry)) source) (key .start) (key .length)) (partOf (now (words .entry)) (value .start) (value .length))))) × Fit (r .options) (now (options .exit)) × (r .flags ≡ self .flags) ⌝ }
+        ensures { λ r. ⌜ OptionTaken (now (words .entry)) (now (image .entry)) source key value (now (options .entry)) self (now (options .exit)) r ⌝ }
     {
         let count = put(
             words,
@@ -124,7 +124,7 @@ impl Stage {
         key: Span,
     ) -> Self
         requires { ⌜ (key .start < 0x10000) × (key .length < 0x10000) × Fit (self .flags) (now flags) ⌝ }
-        ensures { λ r. ⌜ ((o : List ℕ) → Moved (now (words .entry)) (now (image .entry)) (held o (now (flags .entry)) self) (held o (now (flags .exit)) r) (λ rest. go (withFlag stored (foundOf (now (words .entry)) (now (image .entry)) rest (held o (now (flags .entry)) self)) (partOf (sourceOf (now (words .entry)) (now (image .entry)) source) (key .start) (key .length))))) × Fit (r .flags) (now (flags .exit)) × (r .options ≡ self .options) ⌝ }
+        ensures { λ r. ⌜ FlagTaken (now (words .entry)) (now (image .entry)) source key (now (flags .entry)) self (now (flags .exit)) r ⌝ }
     {
         let nothing = Span {
             start: 0,
@@ -139,7 +139,7 @@ impl Stage {
         }
     }
 
-    // Keeps a frame behind those that are kept.
+    // Keeps a frame after those that are kept.
     pub fn keep(mut self, frame: &[u8], rest: &mut [u8]) -> Self
         requires { ⌜ self .kept + length (now frame) ≤ length (now rest) ⌝ }
         ensures { λ r. ⌜ ((o f : List ℕ) → Kept (now (frame .entry)) (now (rest .entry)) (now (rest .exit)) (held o f self) (held o f r)) × (r .options ≡ self .options) × (r .flags ≡ self .flags) ⌝ }

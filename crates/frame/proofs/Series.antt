@@ -5,12 +5,12 @@ use mathlib.Core.List.{List, [], _∷_, _++_, append-assoc, append-nil}
 use native.Mathlib.Omega.{arith}
 use types.Run.{OneOf, miss}
 use denote.Enum.Declared.{tagOf}
-use lib.ListN.{length, take, drop, length-take, length-drop}
+use lib.ListN.{length, take, drop, length-append, length-take, length-drop}
 use lib.Seq.{drop-drop, drop-append-seam, take-add, take-append-seam}
 use Rattle.buffer.proofs.Lists.{drop-end}
 use Rattle.frame.specs.Framed.{frameOf, frameFirst}
 use Rattle.frame.specs.Text.{Bytes}
-use Rattle.frame.specs.Series.{onFrame, textsFrom, textsIn, Whole, runs}
+use Rattle.frame.specs.Series.{onFrame, textsFrom, textsIn, Whole, runs, AllFrames}
 use Rattle.frame.specs.declared.framed.Framed.{Framed}
 use Rattle.frame.specs.declared.framed.Framed.the-variants.{Frame, Broken, End}
 use Rattle.frame.proofs.framed.Framed.{the-type}
@@ -140,3 +140,110 @@ module _ (words : List ℕ) (at kind n : ℕ) (e : frameFirst (drop at words) �
 
   pub path-whole : Whole (take (at + 3 + n) words)
   path-whole = rw path-bytes (whole-both (take at words) (frameOf kind (word words at kind n e)) w (whole-frame kind (word words at kind n e) little))
+
+-- FRAMES UP TO THE END. Texts that are read come to no more than the bytes.
+runs-size : (kind : ℕ) (t : List ℕ) (l : List (List ℕ)) → length (runs (frameOf kind) (t ∷ l)) ≡ 3 + length t + length (runs (frameOf kind) l)
+unfolding runs
+runs-size kind t l = length-append (frameOf kind t) (runs (frameOf kind) l) ∙ ap (λ (n : ℕ). n + length (runs (frameOf kind) l)) (length-frameOf kind t)
+
+runs-join : (kind : ℕ) (l m : List (List ℕ)) → length (runs (frameOf kind) (l ++ m)) ≡ length (runs (frameOf kind) l) + length (runs (frameOf kind) m)
+unfolding runs
+runs-join kind [] m = omega arith
+runs-join kind (t ∷ l) m =
+    let a = runs-size kind t (l ++ m) in
+    let b = runs-size kind t l in
+    let c = runs-join kind l m in
+    omega arith
+
+texts-size-from : (kind : ℕ) (s : List ℕ) (skip : ℕ) → length (runs (frameOf kind) (textsFrom s skip)) ≤ length s - skip
+unfolding textsFrom runs
+texts-size-from kind [] zero = omega arith
+texts-size-from kind [] (suc skip) = omega arith
+texts-size-from kind (a ∷ s) (suc skip) = let h = texts-size-from kind s skip in omega arith
+texts-size-from kind (a ∷ s) zero = by (texts-size-from kind s) (frameFirst (a ∷ s)) refl
+  where
+    by : ((skip : ℕ) → length (runs (frameOf kind) (textsFrom s skip)) ≤ length s - skip) → (d : Framed) → frameFirst (a ∷ s) ≡ d → length (runs (frameOf kind) (onFrame d (λ k n. take n (drop 3 (a ∷ s)) ∷ textsFrom s (2 + n)) [])) ≤ length (a ∷ s) - 0
+    by less (Frame k n) e =
+        let w = frame-within (a ∷ s) k n e in
+        let l : length (take n (drop 3 (a ∷ s))) ≤ n = rw length-take (omega arith) in
+        let z = runs-size kind (take n (drop 3 (a ∷ s))) (textsFrom s (2 + n)) in
+        let h = less (2 + n) in
+        omega arith
+    by less Broken e = omega arith
+    by less End e = omega arith
+
+pub texts-size : (kind : ℕ) (s : List ℕ) → length (runs (frameOf kind) (textsIn s)) ≤ length s
+unfolding textsIn
+texts-size kind s = let h = texts-size-from kind s 0 in omega arith
+
+pub all-none : AllFrames []
+unfolding AllFrames textsIn textsFrom runs
+all-none kind = refl
+
+pub all-frame : (kind : ℕ) (t : List ℕ) → length t < 256 ^ 2 → AllFrames (frameOf kind t)
+unfolding AllFrames runs
+all-frame kind t h k =
+    let a = runs-size k t [] in
+    let b = length-frameOf kind t in
+    ap (λ (l : List (List ℕ)). length (runs (frameOf k) l)) (one-text kind t h) ∙ omega arith
+
+pub all-both : (a b : List ℕ) → Whole a → AllFrames a → AllFrames b → AllFrames (a ++ b)
+unfolding AllFrames Whole
+all-both a b w x y kind =
+    let l = length-append a b in
+    let j = runs-join kind (textsIn a) (textsIn b) in
+    let p = x kind in
+    let q = y kind in
+    ap (λ (m : List (List ℕ)). length (runs (frameOf kind) m)) (w b) ∙ omega arith
+
+-- what is written is frames up to its end
+pub all-runs : (kind : ℕ) (l : List (List ℕ)) → AllShort l → AllFrames (runs (frameOf kind) l)
+unfolding runs
+all-runs kind [] h = all-none
+all-runs kind (t ∷ l) h = all-both (frameOf kind t) (runs (frameOf kind) l) (whole-frame kind t (h .0)) (all-frame kind t (h .0)) (all-runs kind l (h .1))
+
+module _ (words : List ℕ) (at : ℕ) where
+  -- there is no place before the end where no frame begins
+  pub all-begin : AllFrames (drop at words) → at < length words → (d : Framed) → d ≡ frameFirst (drop at words) → OneOf (1 ∷ 2 ∷ []) (tagOf the-type d) → ⊥
+  unfolding AllFrames runs
+  all-begin a h d e k =
+      let z : length (runs (frameOf 0) (textsIn (drop at words))) ≡ 0 = ap (λ (l : List (List ℕ)). length (runs (frameOf 0) l)) (texts-stop (drop at words) d (sym e) k) in
+      let x = a 0 in
+      let l = length-drop at words in
+      omega arith
+
+  -- and behind a frame are frames
+  pub all-next : (kind n : ℕ) → frameFirst (drop at words) ≡ Frame kind n → AllFrames (drop at words) → AllFrames (drop (at + (3 + n)) words)
+  unfolding AllFrames
+  all-next kind n e a k =
+      let m = texts-more (drop at words) kind n e in
+      let z = runs-size k (take n (drop 3 (drop at words))) (textsIn (drop (3 + n) (drop at words))) in
+      let y : length (runs (frameOf k) (textsIn (drop at words))) ≡ 3 + length (take n (drop 3 (drop at words))) + length (runs (frameOf k) (textsIn (drop (3 + n) (drop at words)))) = ap (λ (l : List (List ℕ)). length (runs (frameOf k) l)) m ∙ z in
+      let w = frame-within (drop at words) kind n e in
+      let l : length (take n (drop 3 (drop at words))) ≡ n = rw (length-take, length-drop) (omega arith) in
+      let s : length (drop (3 + n) (drop at words)) ≡ length (drop at words) - (3 + n) = length-drop (3 + n) (drop at words) in
+      let x = a k in
+      let r : length (runs (frameOf k) (textsIn (drop (3 + n) (drop at words)))) ≡ length (drop (3 + n) (drop at words)) = omega arith in
+      rw (drop-drop (3 + n) at words) at r
+
+  -- all frames, parted where their texts are
+  pub all-parted : AllFrames words → textsIn words ≡ textsIn (take at words) ++ textsIn (drop at words) → AllFrames (take at words) × AllFrames (drop at words)
+  unfolding AllFrames
+  all-parted a e = (
+    λ kind.
+        let j = runs-join kind (textsIn (take at words)) (textsIn (drop at words)) in
+        let x = sym (ap (λ (l : List (List ℕ)). length (runs (frameOf kind) l)) e) ∙ a kind in
+        let p = texts-size kind (take at words) in
+        let q = texts-size kind (drop at words) in
+        let l = length-take at words in
+        let m = length-drop at words in
+        omega arith,
+    λ kind.
+        let j = runs-join kind (textsIn (take at words)) (textsIn (drop at words)) in
+        let x = sym (ap (λ (l : List (List ℕ)). length (runs (frameOf kind) l)) e) ∙ a kind in
+        let p = texts-size kind (take at words) in
+        let q = texts-size kind (drop at words) in
+        let l = length-take at words in
+        let m = length-drop at words in
+        omega arith,
+  )

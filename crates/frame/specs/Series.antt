@@ -2,8 +2,8 @@
 use Prim.Native.Nat.{ℕ, zero, suc, _+_}
 use mathlib.Core.Path.{_≡_}
 use mathlib.Core.List.{List, [], _∷_, _++_}
-use lib.ListN.{take, drop}
-use Rattle.frame.specs.Framed.{frameFirst}
+use lib.ListN.{length, take, drop}
+use Rattle.frame.specs.Framed.{frameOf, frameFirst}
 use Rattle.frame.specs.declared.framed.Framed.{Framed}
 use Rattle.frame.specs.declared.framed.Framed.the-variants.{Frame, Broken, End}
 
@@ -29,3 +29,7 @@ Whole s = (more : List ℕ) → textsIn (s ++ more) ≡ textsIn s ++ textsIn mor
 unfoldable pub runs : {A : Type 0} → (A → List ℕ) → List A → List ℕ
 runs f [] = []
 runs f (x ∷ l) = f x ++ runs f l
+
+-- frames up to the end: those of the texts that are read come to all the bytes
+unfoldable pub AllFrames : List ℕ → Type 0
+AllFrames s = (kind : ℕ) → length (runs (frameOf kind) (textsIn s)) ≡ length s

@@ -8,13 +8,13 @@ use lib.ListN.{length, length-append}
 use Rattle.frame.specs.Hex.{digitOf}
 use Rattle.buffer.specs.Ascii.{ascii}
 use Rattle.buffer.proofs.Inking.{cond-most}
-use Rattle.message.specs.Messages.{before, behind, message, illFormed, goodbye, clearScreen}
+use Rattle.message.specs.Messages.{before, after, message, illFormed, goodbye, clearScreen}
 use Rattle.message.specs.Debug.{hexDigits, codeText, debugByte, debugBytes, unknownHelp}
 use Rattle.message.specs.declared.error.ParseError.{ParseError}
 use Rattle.message.specs.declared.error.ParseError.the-variants.{UnknownCommand, UnknownOption, MissingValue, MissingRequired, NoHandler}
 
 -- what stands around the text that a message names
-around : (told : ParseError) → length (before told) + length (behind told) ≤ 70
+around : (told : ParseError) → length (before told) + length (after told) ≤ 70
 unfolding ascii
 around UnknownCommand = omega arith
 around UnknownOption = omega arith
@@ -25,7 +25,7 @@ around NoHandler = omega arith
 pub message-most : (told : ParseError) (text : List ℕ) → length (message told text) ≤ 70 + length text
 unfolding message
 message-most told text =
-    let a = length-append (before told ++ text) (behind told) in
+    let a = length-append (before told ++ text) (after told) in
     let b = length-append (before told) text in
     omega (arith, around told)
 

@@ -5,7 +5,7 @@ use Rattle.buffer.specs.Ascii.{ascii}
 use Rattle.message.specs.declared.error.ParseError.{ParseError}
 use Rattle.message.specs.declared.error.ParseError.the-variants.{UnknownCommand, UnknownOption, MissingValue, MissingRequired, NoHandler}
 
--- what stands before the text that a message names, and what behind it:
+-- what stands before the text that a message names, and what after it:
 -- println!("Error: Unknown command '{}'", cmd), println!("Type 'help' to see available commands")
 -- println!("Error: Unknown option '{}'", opt)
 -- println!("Error: Option '{}' is missing a value", opt)
@@ -18,15 +18,15 @@ before MissingValue = ascii "Error: Option '"
 before MissingRequired = ascii "Error: Missing required option '"
 before NoHandler = ascii "Error: Command '"
 
-abbrev pub behind : ParseError → List ℕ
-behind UnknownCommand = ascii "'\nType 'help' to see available commands\n"
-behind UnknownOption = ascii "'\n"
-behind MissingValue = ascii "' is missing a value\n"
-behind MissingRequired = ascii "'\n"
-behind NoHandler = ascii "' has no handler function\n"
+abbrev pub after : ParseError → List ℕ
+after UnknownCommand = ascii "'\nType 'help' to see available commands\n"
+after UnknownOption = ascii "'\n"
+after MissingValue = ascii "' is missing a value\n"
+after MissingRequired = ascii "'\n"
+after NoHandler = ascii "' has no handler function\n"
 
 unfoldable pub message : ParseError → List ℕ → List ℕ
-message told text = before told ++ text ++ behind told
+message told text = before told ++ text ++ after told
 
 -- println!("Error: Input contains invalid UTF-8 characters")
 unfoldable pub illFormed : List ℕ
@@ -39,11 +39,3 @@ goodbye = ascii "Goodbye!\n"
 -- print!("\x1b[2J\x1b[H")
 unfoldable pub clearScreen : List ℕ
 clearScreen = 0x1b ∷ ascii "[2J" ++ 0x1b ∷ ascii "[H"
-
--- the refusal's number in 01
-abbrev pub number : ParseError → ℕ
-number UnknownCommand = 4
-number UnknownOption = 5
-number MissingValue = 6
-number MissingRequired = 7
-number NoHandler = 8

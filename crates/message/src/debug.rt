@@ -57,7 +57,7 @@ fn put_debug(byte: u8, out: &mut [u8], at: usize) -> usize
     }
 }
 
-// The bytes of a word, one behind the other.
+// The bytes of a word, one after the other.
 fn put_word(word: &[u8], out: &mut [u8], at: usize) -> usize
     requires { ⌜ at + 64 * length (now word) < 4294966000 ⌝ }
     ensures { λ r. ⌜ InkedFrom (now (word .entry)) (debugBytes (now (word .entry))) (now (out .entry)) at r (now (out .exit)) ⌝ }

@@ -6,7 +6,7 @@ ghost use Prim.Native.Nat.{_≤_, _<_};
 ghost use lib.ListN.{length};
 ghost use Rattle.buffer.specs.Showing.{Showing};
 ghost use Rattle.buffer.specs.Inks.{Inked};
-ghost use Rattle.message.specs.Messages.{before, behind, message};
+ghost use Rattle.message.specs.Messages.{before, after, message};
 
 // What is wrong with a line.
 pub enum ParseError {
@@ -23,7 +23,7 @@ pub enum ParseError {
 }
 
 // Writes what stands before the text that a message names.
-pub fn put_before(told: ParseError, out: &mut [u8], at: usize) -> usize
+fn put_before(told: ParseError, out: &mut [u8], at: usize) -> usize
     requires { ⌜ at < 4294967000 ⌝ }
     ensures { λ r. ⌜ Inked (before told) (now (out .entry)) at r (now (out .exit)) ⌝ }
 {
@@ -36,10 +36,10 @@ pub fn put_before(told: ParseError, out: &mut [u8], at: usize) -> usize
     }
 }
 
-// Writes what stands behind the text that a message names.
-pub fn put_behind(told: ParseError, out: &mut [u8], at: usize) -> usize
+// Writes what stands after the text that a message names.
+fn put_after(told: ParseError, out: &mut [u8], at: usize) -> usize
     requires { ⌜ at < 4294967000 ⌝ }
-    ensures { λ r. ⌜ Inked (behind told) (now (out .entry)) at r (now (out .exit)) ⌝ }
+    ensures { λ r. ⌜ Inked (after told) (now (out .entry)) at r (now (out .exit)) ⌝ }
 {
     match told {
         ParseError::UnknownCommand => put(b"'\nType 'help' to see available commands\n", out, at),
@@ -56,7 +56,7 @@ fn put_message(told: ParseError, text: &[u8], out: &mut [u8]) -> usize
 {
     let start = put_before(told, out, 0);
     let end = put(text, out, start);
-    put_behind(told, out, end)
+    put_after(told, out, end)
 }
 
 fn message_size(told: ParseError, text: &[u8]) -> usize

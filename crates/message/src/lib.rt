@@ -5,8 +5,6 @@ mod fixed;
 
 pub use debug::show_unknown_help;
 pub use error::ParseError;
-pub use error::put_before;
-pub use error::put_behind;
 pub use error::show_message;
 pub use fixed::show_clear;
 pub use fixed::show_goodbye;

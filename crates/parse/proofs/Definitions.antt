@@ -11,7 +11,7 @@ use lib.ListN.{length, take, drop, length-drop}
 use lib.Seq.{drop-drop}
 use Rattle.buffer.proofs.Choices.{then-is, else-is}
 use Rattle.table.specs.Map.{Map}
-use Rattle.table.specs.Held.{partOf}
+use Rattle.table.specs.Inner.{partOf}
 use Rattle.image.specs.Frames.{Frame, node}
 use Rattle.image.specs.Reading.{read, headFirst, readBy, readFirst, nodeIn, optionIn, flagIn}
 use Rattle.image.specs.declared.head.Lengths.{Lengths}
@@ -24,7 +24,8 @@ use Rattle.tree.proofs.Items.{items-broken, items-none, frames-read, frames-end
 use Rattle.tree.specs.Subtrees.{upTo}
 use Rattle.tree.specs.Commands.{NodeFirst}
 use Rattle.lookup.specs.Searches.{isNode}
-use Rattle.arguments.specs.Meanings.{definitionsOf, definitionsAt}
+use Rattle.arguments.specs.Meanings.{definitionsOf}
+use Rattle.arguments.specs.Inner.{definitionsAt}
 use Rattle.parse.specs.Commands.{lacking, isMissing, missingRequired}
 
 -- the frames of bytes, by what they begin with
@@ -37,7 +38,7 @@ frames-none s Bad e k = ap framesIn (items-broken s (ap (readBy s) e))
 frames-none s End e k = ap (λ (l : List ℕ). framesIn (items l)) (read-ended s (ap (readBy s) e)) ∙ ap framesIn items-none
 
 module _ (image : List ℕ) (at : ℕ) where
-  -- a definition, and those behind it
+  -- a definition, and those after it
   pub definitions-more : (f : Frame) (n : ℕ) → readFirst (drop at image) ≡ read f n → isNode f ≡ false → definitionsAt image at ≡ f ∷ definitionsAt image (at + n)
   unfolding definitionsAt upTo
   definitions-more f n e k =
@@ -87,7 +88,7 @@ module _ (node : List ℕ) (at : ℕ) (options : Map) (texts : Lengths) where
   name-there : take (texts .name) (drop 4 (drop at node)) ≡ partOf node (at + 4) (texts .name)
   name-there = ap (take (texts .name)) (drop-drop 4 at node)
 
-  -- it is the option here, or it is sought behind
+  -- it is the option here, or it is sought further on
   option-next : (r c : ℕ) → headFirst (drop at node) ≡ HeadOption r c texts
       → missingRequired (definitionsAt node at) options ≡ cond (lacking r (partOf node (at + 4) (texts .name)) options) (some (partOf node (at + 4) (texts .name))) (missingRequired (definitionsAt node (at + texts .size)) options)
   unfolding missingRequired isMissing optionIn
@@ -113,9 +114,9 @@ none-missing options = refl
 
 -- where the definitions of a node begin
 module _ (node : List ℕ) where
-  pub start-behind : (d h : ℕ) (texts : Lengths) → headFirst node ≡ HeadNode d h texts → definitionsAt node (texts .size) ≡ definitionsOf (framesOf node)
+  pub start-after : (d h : ℕ) (texts : Lengths) → headFirst node ≡ HeadNode d h texts → definitionsAt node (texts .size) ≡ definitionsOf (framesOf node)
   unfolding definitionsAt definitionsOf nodeIn readFirst
-  start-behind d h texts e = sym (ap definitionsOf (frames-read node _ _ (ap (readBy node) e)))
+  start-after d h texts e = sym (ap definitionsOf (frames-read node _ _ (ap (readBy node) e)))
 
   -- bytes that do not begin with a node
   pub no-node-first : (head : Head) → headFirst node ≡ head → OneOf (1 ∷ 2 ∷ 3 ∷ 4 ∷ []) (tagOf the-type head) → NodeFirst (framesOf node) → ⊥

@@ -13,8 +13,8 @@ use Rattle.frame.specs.Text.{Bytes}
 use Rattle.frame.specs.Framed.{frameFirst}
 use Rattle.frame.specs.declared.framed.Framed.the-variants.{Frame as Framed}
 use Rattle.frame.specs.Series.{textsIn}
-use Rattle.frame.proofs.Series.{words-more}
-use Rattle.table.specs.Held.{partOf, mapOf}
+use Rattle.frame.proofs.Series.{words-more, all-parted}
+use Rattle.table.specs.Inner.{partOf, mapOf}
 use Rattle.table.specs.Map.{put}
 use Rattle.image.specs.Frames.{Perhaps, Frame, node, option, flag}
 use Rattle.image.specs.Limits.{fair}
@@ -33,16 +33,18 @@ use Rattle.tree.specs.declared.command.Found.{Found as Command}
 use Rattle.lookup.specs.Searches.{isNode}
 use Rattle.lookup.specs.Subtrees.{treeNamed}
 use Rattle.lookup.proofs.Lookups.{subtree-named, child-named, named-orderly}
-use Rattle.arguments.specs.Meanings.{definitionsOf, definitionsAt}
+use Rattle.arguments.specs.Meanings.{definitionsOf}
+use Rattle.arguments.specs.Inner.{definitionsAt, stored, foundOf, standBy, standOf, WellSplit, Scanned}
 use Rattle.arguments.specs.Arguments.{Found, noneFound, Stand, go, args}
-use Rattle.arguments.specs.Held.{stored, foundOf, standBy, standOf, Scanned}
 use Rattle.arguments.specs.declared.standing.Progress.{Progress}
 use Rattle.arguments.specs.declared.standing.Progress.the-variants.{Going}
 use Rattle.arguments.specs.declared.standing.Scan.{Scan}
 use Rattle.arguments.proofs.Steps.{stand-by}
 use Rattle.arguments.proofs.Room.{options-few, flags-few, args-same}
+use Rattle.words.proofs.Kept.{Each, also, Good as Worthy}
+use Rattle.parse.proofs.Answers.{descent-keeps}
 use Rattle.parse.specs.Commands.{missingRequired, Outcome, parsed, fault, onMissing, outcomeOf, concluded, parseIn, parseWords, emptyCommand}
-use Rattle.parse.specs.Held.{outcomeBy, outcomeIn, numberOf, Judging}
+use Rattle.parse.specs.Inner.{outcomeBy, outcomeIn, numberOf, Parted, Judging}
 use Rattle.parse.specs.declared.judging.Verdict.{Verdict}
 use Rattle.parse.specs.declared.judging.Judged.{Judged}
 
@@ -65,10 +67,10 @@ pub arguments-judged : (words image rest left : List ℕ) (place : Place) (to : 
     → Descended words image place to → j .place ≡ place → definitionsAt (imagePart image place) «from» ≡ definitionsOf (framesOf (imagePart image place))
     → Scanned words (imagePart image place) rest left (j .scan) (args stored (definitionsAt (imagePart image place) «from») (go noneFound) (textsIn (drop (place .at) words)))
     → ((path : List (List ℕ)) (rest : List ℕ) → outcomeBy words (imagePart image place) path (foundOf words (imagePart image place) rest (j .scan)) (j .verdict) ≡ outcomeOf path (definitionsAt (imagePart image place) «from») (standOf words (imagePart image place) rest (j .scan)))
-    → length words ≤ length rest
+    → length words ≤ length rest → Parted words (place .at)
     → Judging words image rest left j (concluded stored to) (to .frames)
 unfolding outcomeIn concluded
-arguments-judged words image rest left place to j «from» d at defs s v h =
+arguments-judged words image rest left place to j «from» d at defs s v h p =
     record {
       outcome =
           ap (λ (p : Place). outcomeBy words (imagePart image p) (textsIn (take (p .at) words)) (foundOf words (imagePart image p) left (j .scan)) (j .verdict)) at
@@ -80,6 +82,7 @@ arguments-judged words image rest left place to j «from» d at defs s v h =
       within = rw at (d .within);
       kept = let k = s .kept in let l = s .room in omega arith;
       room = s .room;
+      lent = λ k. record { path = rw at (p .path); positionals = s .apt .frames };
       command = λ k. ap (λ (p : Place). framesOf (imagePart image p)) at ∙ d .frames;
     }
 
@@ -276,9 +279,25 @@ module _ (words image : List ℕ) (kind n : ℕ) (e : frameFirst words ≡ Frame
 pub leads-as : (words image : List ℕ) (x y : Command) (r : Reached) → x ≡ y → Leads words image x r → Leads words image y r
 leads-as words image x y r e l = rw e at l
 
+-- THE WORDS that lead to a command are parted after its path
+each-later : (l m : List (List ℕ)) → Each Worthy (l ++ m) → Each Worthy m
+each-later [] m e = e
+each-later (w ∷ l) m (also g e) = each-later l m e
+
+pub words-parted : (words image : List ℕ) (place : Place) → WellSplit words → Descended words image place (reachedBy image words) → Parted words (place .at)
+unfolding reachedBy
+words-parted words image place s d =
+    let e : textsIn words ≡ textsIn (take (place .at) words) ++ textsIn (drop (place .at) words) =
+    sym (descent-keeps (textsIn words) 0 (framesOf image) [])
+    ∙ ap (λ (l : List (List ℕ)). l ++ descend 0 (framesOf image) [] (textsIn words) .words) (sym (d .path))
+    ∙ ap (λ (l : List (List ℕ)). textsIn (take (place .at) words) ++ l) (sym (d .left))
+    in
+    let f = all-parted words (place .at) (s .frames) e in
+    record { path = f .0; later = record { frames = f .1; good = each-later (textsIn (take (place .at) words)) (textsIn (drop (place .at) words)) (rw e at (s .good)) } }
+
 -- a judgement told in other words
 pub judged-as : (words image rest left : List ℕ) (j : Judged) (a b : Outcome) (f g : List Frame) → a ≡ b → f ≡ g → Judging words image rest left j a f → Judging words image rest left j b g
-judged-as words image rest left j a b f g e q x = record { outcome = x .outcome ∙ e; within = x .within; kept = x .kept; room = x .room; command = λ k. x .command k ∙ q }
+judged-as words image rest left j a b f g e q x = record { outcome = x .outcome ∙ e; within = x .within; kept = x .kept; room = x .room; lent = x .lent; command = λ k. x .command k ∙ q }
 
 -- a verdict where there is no command
 pub judged-without : (words image rest : List ℕ) (j : Judged) (v : Verdict) (o : Outcome) (frames : List Frame) → j .verdict ≡ v → j .scan .kept ≡ 0 → ((words image : List ℕ) → Within words image (j .place))
@@ -290,6 +309,7 @@ judged-without words image rest j v o frames e k w q n =
       within = w words image;
       kept = omega arith;
       room = refl;
+      lent = λ z. absurd (n (sym (ap numberOf e) ∙ z));
       command = λ z. absurd (n (sym (ap numberOf e) ∙ z));
     }
 

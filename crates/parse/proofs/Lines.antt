@@ -11,9 +11,9 @@ use lib.Seq.{take-append-seam}
 use Rattle.buffer.specs.Write.{over}
 use Rattle.buffer.proofs.Choices.{then-is, else-is}
 use Rattle.frame.specs.Framed.{frameOf}
-use Rattle.frame.specs.Series.{textsIn, runs}
+use Rattle.frame.specs.Series.{textsIn, runs, AllFrames}
 use Rattle.frame.proofs.Frames.{length-frameOf}
-use Rattle.frame.proofs.Series.{AllShort, texts-runs}
+use Rattle.frame.proofs.Series.{AllShort, texts-runs, all-runs}
 use Rattle.text.specs.Decoding.{wellFormedLength}
 use Rattle.text.proofs.Prefix.{prefix-fits}
 use Rattle.words.specs.Tokens.{wordsOf, wordFrames}
@@ -21,13 +21,15 @@ use Rattle.words.specs.Answer.{written, answerFor, leavesBy, leavesFor, Tokeniz
 use Rattle.words.specs.declared.tokenizer.Tokens.{Tokens}
 use Rattle.words.specs.declared.tokenizer.Tokens.the-variants.{Words, LineTooLong as TooLong, IllFormed as Ill, NoRoom as TooShort}
 use Rattle.words.proofs.Standing.{written-most}
+use Rattle.words.proofs.Kept.{words-good}
+use Rattle.arguments.specs.Inner.{WellSplit}
 use Rattle.tree.specs.Images.{framesOf}
 use Rattle.tree.specs.Rules.{checkTree}
 use Rattle.tree.specs.declared.check.Checked.{Checked}
 use Rattle.tree.specs.declared.check.Checked.the-variants.{Good, BadFrame}
 use Rattle.parse.specs.Commands.{Outcome, parseWords, parseLine}
-use Rattle.parse.specs.Held.{Enough}
-use Rattle.parse.specs.Answer.{outcomeAnswer, outcomeLeaves, Telling, onChecked, Worded, parseAnswer, parseLeaves, Parsing}
+use Rattle.parse.specs.Inner.{Enough, Telling, Worded}
+use Rattle.parse.specs.Answer.{outcomeAnswer, outcomeLeaves, onChecked, parseAnswer, parseLeaves, Parsing}
 use Rattle.parse.specs.declared.answer.Parsed.{Parsed}
 use Rattle.parse.specs.declared.answer.Parsed.the-variants.{BadTree, LineTooLong, IllFormed}
 
@@ -48,6 +50,14 @@ short-all (w ∷ l) h =
 pub line-texts : (line : List ℕ) → length (written line) ≤ 4096 → textsIn (written line) ≡ wordsOf line
 unfolding written
 line-texts line h = ap textsIn (series (wordsOf line)) ∙ texts-runs 0x14 (wordsOf line) (short-all (wordsOf line) (let e = ap length (series (wordsOf line)) in omega arith))
+
+-- what `tokenize` writes is split so
+line-frames : (line : List ℕ) → length (written line) ≤ 4096 → AllFrames (written line)
+unfolding written
+line-frames line h = rw (series (wordsOf line)) (all-runs 0x14 (wordsOf line) (short-all (wordsOf line) (let e = ap length (series (wordsOf line)) in omega arith)))
+
+pub line-split : (line : List ℕ) → length (written line) ≤ 4096 → WellSplit (written line)
+line-split line h = record { frames = line-frames line h; good = rw (line-texts line h) (words-good line) }
 
 -- WHAT AN ANSWER TELLS of a line
 abbrev pub LineTold : List ℕ → Tokens → Type 0

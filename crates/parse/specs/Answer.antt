@@ -7,15 +7,11 @@ use lib.Dec.{ltb, eqb}
 use lib.ListN.{length}
 use Rattle.buffer.specs.Write.{over}
 use Rattle.text.specs.Decoding.{wellFormedLength}
-use Rattle.frame.specs.Series.{textsIn}
-use Rattle.tree.specs.Images.{framesOf}
 use Rattle.tree.specs.Rules.{checkTree}
 use Rattle.tree.specs.declared.check.Checked.{Checked}
 use Rattle.tree.specs.declared.check.Checked.the-variants.{Good, BadFrame}
 use Rattle.report.specs.Report.{reportOf, faultOf}
-use Rattle.report.specs.declared.answer.Reported.{Reported}
-use Rattle.report.specs.declared.answer.Reported.the-variants.{Report as Whole, NoRoom as TooShort}
-use Rattle.parse.specs.Commands.{Outcome, parsed, fault, parseWords, parseLine}
+use Rattle.parse.specs.Commands.{Outcome, parsed, fault, parseLine}
 use Rattle.parse.specs.declared.answer.Parsed.{Parsed}
 use Rattle.parse.specs.declared.answer.Parsed.the-variants.{Report, BadTree, LineTooLong, IllFormed, UnknownCommand, UnknownOption, MissingValue, MissingRequired, NoRoom}
 
@@ -29,14 +25,6 @@ abbrev pub faultAnswer : ℕ → ℕ → Parsed
 faultAnswer number n =
     cond (eqb number 4) (UnknownCommand n) (cond (eqb number 5) (UnknownOption n) (cond (eqb number 6) (MissingValue n) (MissingRequired n)))
 
--- the same for what was written, 0 being no fault
-abbrev pub numbered : ℕ → ℕ → Parsed
-numbered number n = cond (eqb number 0) (Report n) (faultAnswer number n)
-
-abbrev pub answeredBy : ℕ → Reported → Parsed
-answeredBy number (Whole n) = numbered number n
-answeredBy number (TooShort n) = NoRoom n
-
 abbrev pub namedAs : Outcome → ℕ → Parsed
 namedAs (parsed path found) n = Report n
 namedAs (fault number told) n = faultAnswer number n
@@ -47,19 +35,9 @@ outcomeAnswer o room = cond (ltb room (length (toldIn o))) (NoRoom (length (told
 unfoldable pub outcomeLeaves : Outcome → List ℕ → List ℕ
 outcomeLeaves o out = cond (ltb (length out) (length (toldIn o))) out (over (toldIn o) out)
 
--- an outcome told: the answer, and what is left in the buffer
-pub record Telling (o : Outcome) (out : List ℕ) (r : Parsed) (left : List ℕ) : Type 0 where
-  pub answer : r ≡ outcomeAnswer o (length out)
-  pub bytes : left ≡ outcomeLeaves o out
-
 abbrev pub onChecked : {A : Type 0} → Checked → (ℕ → A) → A → A
 onChecked Good bad good = good
 onChecked (BadFrame n) bad good = bad n
-
--- the words of a line told under a tree that may be bad
-pub record Worded (image words out : List ℕ) (r : Parsed) (left : List ℕ) : Type 0 where
-  pub answer : r ≡ onChecked (checkTree image) (λ n. BadTree n) (outcomeAnswer (parseWords (framesOf image) (textsIn words)) (length out))
-  pub bytes : left ≡ onChecked (checkTree image) (λ n. out) (outcomeLeaves (parseWords (framesOf image) (textsIn words)) out)
 
 unfoldable pub parseAnswer : List ℕ → List ℕ → ℕ → Parsed
 parseAnswer image line room =

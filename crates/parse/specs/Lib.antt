@@ -1,5 +1,5 @@
--- Definitions of the crate `parse`: the command that words name and what becomes of its arguments, what the call answers and leaves, and how the
--- code holds it.
+-- Definitions of the crate `parse`: the command that words name and what becomes of its arguments, and what the call answers and leaves; and in
+-- Inner, which only contracts of inner calls cite, how the code holds it.
 pub mod Commands
 pub mod Answer
-pub mod Held
+pub mod Inner

@@ -1,7 +1,7 @@
 // What parsing a line answers.
 use report::Reported;
 ghost use mathlib.Core.Path.{_≡_};
-ghost use Rattle.parse.specs.Answer.{answeredBy};
+ghost use Rattle.parse.specs.Inner.{answeredBy};
 
 pub enum Parsed {
     // The report of a command, so many bytes.

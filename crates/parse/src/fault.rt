@@ -1,10 +1,10 @@
-// The fault of a verdict: its number, and its text in two parts, dashes and what stands behind them.
+// The fault of a verdict: its number, and its text in two parts, dashes and what stands after them.
 use super::judging::Verdict;
 use buffer::part;
 ghost use mathlib.Core.Path.{_≡_};
 ghost use Prim.Native.Nat.{_<_};
 ghost use Rattle.parse.specs.Commands.{emptyCommand};
-ghost use Rattle.parse.specs.Held.{numberOf, dashesOf, textOf};
+ghost use Rattle.parse.specs.Inner.{numberOf, dashesOf, textOf};
 
 // The text of a line without a word.
 pub const EMPTY: [u8; 13] = [
@@ -47,7 +47,7 @@ pub fn dashes_of(verdict: Verdict) -> usize
     }
 }
 
-// What stands behind the dashes: a part of the words, of the command's part of the image, or the text of a line without a word.
+// What stands after the dashes: a part of the words, of the command's part of the image, or the text of a line without a word.
 pub fn text_of<'a>(words: &'a [u8], node: &'a [u8], empty: &'a [u8], verdict: Verdict) -> &'a [u8]
     requires { ⌜ now empty ≡ emptyCommand ⌝ }
     ensures { λ r. ⌜ now r ≡ textOf (now (words .entry)) (now (node .entry)) verdict ⌝ }

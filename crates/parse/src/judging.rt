@@ -14,18 +14,9 @@ use tree::Found;
 use tree::Place;
 ghost use mathlib.Core.Path.{_≡_};
 ghost use mathlib.Core.List.{List};
-ghost use Prim.Native.Nat.{ℕ, _≤_};
-ghost use lib.ListN.{length};
-ghost use Rattle.frame.specs.Series.{textsIn};
-ghost use Rattle.tree.specs.Images.{framesOf};
-ghost use Rattle.tree.specs.Rules.{checkTree};
-ghost use Rattle.tree.specs.declared.check.Checked.the-variants.{Good};
-ghost use Rattle.tree.specs.Commands.{Reached, reachedBy, NodeFirst};
-ghost use Rattle.tree.specs.Trails.{imagePart, Within, Descended, Leads};
-ghost use Rattle.arguments.specs.Meanings.{definitionsAt};
-ghost use Rattle.arguments.specs.Held.{stored, foundOf, standOf};
-ghost use Rattle.parse.specs.Commands.{outcomeOf, concluded, parseWords};
-ghost use Rattle.parse.specs.Held.{outcomeBy, Judging};
+ghost use Prim.Native.Nat.{ℕ};
+ghost use Rattle.tree.specs.Trails.{Within};
+ghost use Rattle.parse.specs.Inner.{Judges, ArgumentsAsk, ArgumentsJudged, WordsAsk, WordsJudged};
 
 // Texts are told by where they stand: a word in the words, a name in the command's part of the image.
 pub enum Verdict {
@@ -45,7 +36,7 @@ pub struct Judged {
 
 // The verdict on a scan that is at its end.
 fn verdict_of<'a>(words: &'a [u8], node: &'a [u8], from: usize, scan: Scan) -> Verdict
-    ensures { λ r. ⌜ ((path : List (List ℕ)) (rest : List ℕ) → outcomeBy (now (words .entry)) (now (node .entry)) path (foundOf (now (words .entry)) (now (node .entry)) rest scan) r ≡ outcomeOf path (definitionsAt (now (node .entry)) from) (standOf (now (words .entry)) (now (node .entry)) rest scan)) ⌝ }
+    ensures { λ r. ⌜ Judges (now (words .entry)) (now (node .entry)) from scan r ⌝ }
 {
     let progress = scan.progress;
     match progress {
@@ -81,7 +72,7 @@ fn without_command(verdict: Verdict) -> Judged
     }
 }
 
-// The arguments of the command at a place, whose definitions begin behind its node; where no node stands the first word is unknown.
+// The arguments of the command at a place, whose definitions begin after its node; where no node stands the first word is unknown.
 fn judge_arguments<'a>(
     words: &'a [u8],
     image: &'a [u8],
@@ -89,8 +80,8 @@ fn judge_arguments<'a>(
     first: Span,
     rest: &mut [u8],
 ) -> Judged
-    requires { ⌜ (length (now words) ≤ 4096) × (length (now image) ≤ 32768) × (length (now words) ≤ length (now rest)) × Within (now words) (now image) place × NodeFirst (framesOf (imagePart (now image) place)) ⌝ }
-    ensures { λ r. ⌜ ((to : Reached) → Descended (now (words .entry)) (now (image .entry)) place to → Judging (now (words .entry)) (now (image .entry)) (now (rest .entry)) (now (rest .exit)) r (concluded stored to) (to .frames)) ⌝ }
+    requires { ⌜ ArgumentsAsk (now words) (now image) place (now rest) ⌝ }
+    ensures { λ r. ⌜ ArgumentsJudged (now (words .entry)) (now (image .entry)) place (now (rest .entry)) r (now (rest .exit)) ⌝ }
 {
     let start = place.start;
     let end = place.end;
@@ -114,8 +105,8 @@ fn judge_arguments<'a>(
 
 // What the words of a line say under a well-formed tree, in which they lead to what was found; positional words are kept in `rest`.
 pub fn judge<'a>(words: &'a [u8], image: &'a [u8], found: Found, rest: &mut [u8]) -> Judged
-    requires { ⌜ (length (now words) ≤ 4096) × (length (now words) ≤ length (now rest)) × (checkTree (now image) ≡ Good) × Leads (now words) (now image) found (reachedBy (now image) (now words)) ⌝ }
-    ensures { λ r. ⌜ Judging (now (words .entry)) (now (image .entry)) (now (rest .entry)) (now (rest .exit)) r (parseWords (framesOf (now (image .entry))) (textsIn (now (words .entry)))) (reachedBy (now (image .entry)) (now (words .entry)) .frames) ⌝ }
+    requires { ⌜ WordsAsk (now words) (now image) found (now rest) ⌝ }
+    ensures { λ r. ⌜ WordsJudged (now (words .entry)) (now (image .entry)) (now (rest .entry)) r (now (rest .exit)) ⌝ }
 {
     let Framed::Frame { kind: _, length } = read_frame(words, 0) else {
         return without_command(Verdict::NoWords);

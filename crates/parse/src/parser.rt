@@ -21,17 +21,15 @@ ghost use lib.ListN.{length};
 ghost use Rattle.frame.specs.Series.{textsIn};
 ghost use Rattle.tree.specs.Images.{framesOf};
 ghost use Rattle.tree.specs.Rules.{checkTree};
-ghost use Rattle.tree.specs.declared.check.Checked.the-variants.{Good};
-ghost use Rattle.tree.specs.Commands.{reachedBy};
-ghost use Rattle.tree.specs.Trails.{Within, Leads};
+ghost use Rattle.arguments.specs.Inner.{WellSplit};
 ghost use Rattle.parse.specs.Commands.{parseWords};
-ghost use Rattle.parse.specs.Answer.{Telling, onChecked, Worded, Parsing};
-ghost use Rattle.parse.specs.Held.{Enough, outcomeIn};
+ghost use Rattle.parse.specs.Answer.{onChecked, Parsing};
+ghost use Rattle.parse.specs.Inner.{Enough, outcomeIn, TellingAsks, CommandAsks, Telling, Worded};
 ghost use Rattle.parse.specs.declared.answer.Parsed.the-variants.{BadTree};
 
 // Writes what was judged: a report, or the frame of a fault.
 fn tell<'a>(words: &'a [u8], image: &'a [u8], judged: Judged, rest: &[u8], out: &mut [u8]) -> Parsed
-    requires { ⌜ Within (now words) (now image) (judged .place) × (judged .scan .kept ≤ length (now rest)) × (length (now rest) ≤ 4096) × (length (now words) ≤ 4096) × (length (now image) ≤ 32768) ⌝ }
+    requires { ⌜ TellingAsks (now words) (now image) judged (now rest) ⌝ }
     ensures { λ r. ⌜ Telling (outcomeIn (now (words .entry)) (now (image .entry)) (now (rest .entry)) judged) (now (out .entry)) r (now (out .exit)) ⌝ }
 {
     let place = judged.place;
@@ -77,7 +75,7 @@ fn parse_command<'a>(
     rest: &mut [u8],
     out: &mut [u8],
 ) -> Parsed
-    requires { ⌜ (length (now words) ≤ length (now rest)) × (length (now rest) ≤ 4096) × (checkTree (now image) ≡ Good) × Leads (now words) (now image) found (reachedBy (now image) (now words)) ⌝ }
+    requires { ⌜ CommandAsks (now words) (now image) found (now rest) ⌝ }
     ensures { λ r. ⌜ Telling (parseWords (framesOf (now (image .entry))) (textsIn (now (words .entry)))) (now (out .entry)) r (now (out .exit)) ⌝ }
 {
     let judged = judge(words, image, found, rest);
@@ -86,7 +84,7 @@ fn parse_command<'a>(
 
 // The words of a line. The image is tested, and on the way the words are followed to their command.
 fn parse_words<'a>(words: &'a [u8], image: &'a [u8], rest: &mut [u8], out: &mut [u8]) -> Parsed
-    requires { ⌜ (length (now words) ≤ length (now rest)) × (length (now rest) ≤ 4096) ⌝ }
+    requires { ⌜ (length (now words) ≤ length (now rest)) × (length (now rest) ≤ 4096) × WellSplit (now words) ⌝ }
     ensures { λ r. ⌜ Worded (now (image .entry)) (now (words .entry)) (now (out .entry)) r (now (out .exit)) ⌝ }
 {
     let tested = find_command(words, image);

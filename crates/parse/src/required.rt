@@ -5,10 +5,10 @@ use image::head_at;
 use table::Span;
 use table::Table;
 ghost use mathlib.Core.Path.{_≡_};
-ghost use Rattle.table.specs.Held.{mapOf};
-ghost use Rattle.arguments.specs.Meanings.{definitionsAt};
+ghost use Rattle.table.specs.Inner.{mapOf};
+ghost use Rattle.arguments.specs.Inner.{definitionsAt};
 ghost use Rattle.parse.specs.Commands.{lacking, missingRequired};
-ghost use Rattle.parse.specs.Held.{requiredBy};
+ghost use Rattle.parse.specs.Inner.{requiredBy};
 
 pub enum Required {
     Fine,

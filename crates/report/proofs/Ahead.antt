@@ -38,7 +38,7 @@ ahead-start whole rest out e =
     let l : length rest ≡ length whole = ap length e in
     record { same = refl; count = omega arith; bytes = overAt-front rest out ∙ ap (λ (x : List ℕ). over x out) e }
 
--- the next thing to write, x, fits, and once it is written what is behind it is ahead
+-- the next thing to write, x, fits, and once it is written what is after it is ahead
 module _ (whole out₀ rest x more : List ℕ) (o : ℕ) (out : List ℕ) (a : Ahead whole out₀ rest o out) (e : rest ≡ x ++ more)
     (fits : length whole ≤ length out₀) where
   sizes : o + (length x + length more) ≡ length whole

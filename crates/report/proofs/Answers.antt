@@ -7,7 +7,7 @@ use lib.ListN.{length}
 use borrow.Author.Tests.{lt-ltb, le-ltb}
 use Rattle.buffer.specs.Write.{over}
 use Rattle.buffer.proofs.Choices.{then-is, else-is}
-use Rattle.report.specs.Report.{reportAnswer, leavesBy, reportLeaves, Reporting}
+use Rattle.report.specs.Inner.{reportAnswer, leavesBy, reportLeaves, Reporting}
 use Rattle.report.specs.declared.answer.Reported.{Reported}
 use Rattle.report.specs.declared.answer.Reported.the-variants.{Report, NoRoom}
 

@@ -5,7 +5,8 @@ use mathlib.Core.List.{List, [], _∷_}
 use Rattle.frame.specs.Text.{numberBytes, textOf}
 use Rattle.frame.specs.Framed.{frameOf}
 use Rattle.frame.specs.Series.{runs}
-use Rattle.report.specs.Report.{optionFrame, flagFrame, reportOf, faultOf, dashed, reportAnswer}
+use Rattle.report.specs.Report.{optionFrame, flagFrame, reportOf, faultOf}
+use Rattle.report.specs.Inner.{dashed, reportAnswer}
 use Rattle.report.specs.declared.answer.Reported.the-variants.{Report, NoRoom}
 
 -- the words `set`, `config`, `long` and `x`

@@ -11,7 +11,8 @@ use Rattle.frame.proofs.Texts.{number-two}
 use Rattle.frame.proofs.Frames.{length-frameOf}
 use Rattle.buffer.specs.Write.{over, Written, Pushed}
 use Rattle.buffer.proofs.Writing.{pushed-front}
-use Rattle.report.specs.Report.{faultOf, dashed}
+use Rattle.report.specs.Report.{faultOf}
+use Rattle.report.specs.Inner.{dashed}
 use Rattle.report.proofs.Ahead.{Ahead, ahead-start, ahead-first, ahead-push, ahead-turn, ahead-end}
 
 length-dashed : (dashes : ℕ) (text : List ℕ) → length (dashed dashes text) ≡ dashes + length text
@@ -56,7 +57,7 @@ module _ (dashes : ℕ) (out₀ : List ℕ) (i : ℕ) (out : List ℕ) (a : Ahea
         let e : dashes - i ≡ suc (dashes - r) = omega (arith, p .place) in
         ahead-push (replicate dashes 0x2D) out₀ (replicate (dashes - i) 0x2D) (0x2D ∷ []) (replicate (dashes - r) 0x2D) i out a (dashes-of (dashes - i) (suc (dashes - r)) e) fits r left p
 
--- the pieces written one behind the other are the frame
+-- the pieces written one after the other are the frame
 pub fault-written : (dashes n : ℕ) (text out : List ℕ) → n ≡ dashes + length text → 3 + n ≤ length out
     → (r p q k l : ℕ) (x y z d left : List ℕ) → Pushed (0x1E ∷ []) out 0 r x → Pushed (n / 256 ∷ []) x r p y → Pushed (n % 256 ∷ []) y p q z
     → Written (replicate dashes 0x2D) (take (length z - q) (drop q z)) k d → Pushed text (putMid q (length z - q) z d) (q + k) l left

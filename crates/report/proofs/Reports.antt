@@ -8,9 +8,10 @@ use borrow.Rule.Slice.PartMut.{putMid}
 use Rattle.buffer.specs.Write.{over, Written}
 use Rattle.frame.specs.Framed.{frameOf}
 use Rattle.frame.specs.Series.{textsIn, runs}
-use Rattle.table.specs.Held.{mapOf}
+use Rattle.table.specs.Inner.{mapOf}
 use Rattle.table.specs.declared.sorted.Table.{Table}
-use Rattle.report.specs.Report.{optionFrame, flagFrame, reportOf, reportHeld}
+use Rattle.report.specs.Report.{optionFrame, flagFrame, reportOf}
+use Rattle.report.specs.Inner.{reportHeld}
 use Rattle.report.proofs.Ahead.{Ahead, ahead-first, ahead-lent, ahead-turn, last-lent, ahead-last}
 
 module _ (words image path : List ℕ) (options flags : Table) (rest : List ℕ) where
@@ -34,7 +35,7 @@ module _ (words image path : List ℕ) (options flags : Table) (rest : List ℕ)
   unfolding reportOf
   report-length = simp length-append (omega arith)
 
-  -- where the code stands behind the path words, behind the options, behind the flags
+  -- where the code stands after the path words, after the options, after the flags
   abbrev pub BehindPath : List ℕ → ℕ → List ℕ → Type 0
   BehindPath out o mid = Ahead whole out (optionsPart ++ (flagsPart ++ restPart)) o mid
 
@@ -44,7 +45,7 @@ module _ (words image path : List ℕ) (options flags : Table) (rest : List ℕ)
   abbrev pub BehindFlags : List ℕ → ℕ → List ℕ → Type 0
   BehindFlags out o mid = Ahead whole out restPart o mid
 
-  -- each part fits into the rest that is lent, and once it is written what is behind it is ahead
+  -- each part fits into the rest that is lent, and once it is written what is after it is ahead
   module _ (out : List ℕ) (fits : length whole ≤ length out) where
     pub path-written : (o : ℕ) (left : List ℕ) → Written pathPart out o left → BehindPath out o left
     unfolding reportOf

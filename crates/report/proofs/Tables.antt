@@ -12,9 +12,9 @@ use Rattle.frame.specs.Framed.{frameOf}
 use Rattle.frame.specs.Series.{runs}
 use Rattle.frame.proofs.Texts.{length-textOf}
 use Rattle.frame.proofs.Frames.{length-frameOf}
-use Rattle.table.specs.Held.{keyOf, valueOf, entries, mapOf, sizeOf}
+use Rattle.table.specs.Inner.{keyOf, valueOf, entries, mapOf, sizeOf}
 use Rattle.table.specs.declared.sorted.Table.{Table}
-use Rattle.table.proofs.Views.{at-place, at-end}
+use Rattle.table.proofs.TableMaps.{at-place, at-end}
 use Rattle.report.specs.Report.{optionFrame, flagFrame}
 use Rattle.report.proofs.Ahead.{Ahead, ahead-room, ahead-lent, ahead-turn, ahead-first, runs-more, runs-none, count-turn}
 

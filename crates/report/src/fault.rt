@@ -5,7 +5,8 @@ use buffer::push_byte;
 ghost use Prim.Native.Nat.{_+_, _≤_, _<_};
 ghost use lib.ListN.{length, replicate};
 ghost use Rattle.buffer.specs.Write.{Written};
-ghost use Rattle.report.specs.Report.{faultOf, dashed, Reporting};
+ghost use Rattle.report.specs.Report.{faultOf};
+ghost use Rattle.report.specs.Inner.{dashed, Reporting};
 
 // Writes so many dashes at the front of out and returns how many.
 fn write_dashes(dashes: usize, out: &mut [u8]) -> usize

@@ -13,7 +13,7 @@ ghost use lib.ListN.{length};
 ghost use Rattle.buffer.specs.Write.{Written};
 ghost use Rattle.frame.specs.Framed.{frameOf};
 ghost use Rattle.frame.specs.Series.{runs};
-ghost use Rattle.table.specs.Held.{mapOf};
+ghost use Rattle.table.specs.Inner.{mapOf};
 ghost use Rattle.report.specs.Report.{optionFrame, flagFrame};
 
 // How many bytes the frame of an option takes.

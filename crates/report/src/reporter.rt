@@ -12,7 +12,8 @@ ghost use mathlib.Core.Path.{_≡_};
 ghost use Prim.Native.Nat.{_+_, _≤_, _<_};
 ghost use lib.ListN.{length};
 ghost use Rattle.buffer.specs.Write.{over};
-ghost use Rattle.report.specs.Report.{reportHeld, Reporting};
+ghost use Rattle.frame.specs.Series.{AllFrames};
+ghost use Rattle.report.specs.Inner.{reportHeld, Reporting};
 
 // How many bytes the report takes. A table comes to at most 8 MiB, so with slices that are in memory together the sum is in range.
 fn report_size<'a>(
@@ -23,7 +24,7 @@ fn report_size<'a>(
     flags: Table,
     rest: &[u8],
 ) -> usize
-    requires { ⌜ length (now path) + length (now rest) < 0x8000000000000000 ⌝ }
+    requires { ⌜ (length (now path) + length (now rest) < 0x8000000000000000) × AllFrames (now path) × AllFrames (now rest) ⌝ }
     ensures { λ r. ⌜ r ≡ length (reportHeld (now (words .entry)) (now (image .entry)) (now (path .entry)) options flags (now (rest .entry))) ⌝ }
 {
     let texts = words_size(path) + words_size(rest);
@@ -40,7 +41,7 @@ fn write_frames<'a>(
     rest: &[u8],
     out: &mut [u8],
 )
-    requires { ⌜ length (reportHeld (now words) (now image) (now path) options flags (now rest)) ≤ length (now out) ⌝ }
+    requires { ⌜ (length (reportHeld (now words) (now image) (now path) options flags (now rest)) ≤ length (now out)) × AllFrames (now path) × AllFrames (now rest) ⌝ }
     ensures { λ _. ⌜ now (out .exit) ≡ over (reportHeld (now (words .entry)) (now (image .entry)) (now (path .entry)) options flags (now (rest .entry))) (now (out .entry)) ⌝ }
 {
     let mut at = write_path(path, out);
@@ -60,7 +61,7 @@ pub fn write_report<'a>(
     rest: &[u8],
     out: &mut [u8],
 ) -> Reported
-    requires { ⌜ length (now path) + length (now rest) < 0x8000000000000000 ⌝ }
+    requires { ⌜ (length (now path) + length (now rest) < 0x8000000000000000) × AllFrames (now path) × AllFrames (now rest) ⌝ }
     ensures { λ r. ⌜ Reporting (reportHeld (now (words .entry)) (now (image .entry)) (now (path .entry)) options flags (now (rest .entry))) (now (out .entry)) r (now (out .exit)) ⌝ }
 {
     let needed = report_size(words, image, path, options, flags, rest);

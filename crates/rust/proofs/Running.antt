@@ -29,7 +29,7 @@ use Rattle.help.specs.Answer.{replyBy, helpIn, helpOf}
 use Rattle.shell.specs.Lines.{silence, text, farewell, builtinOf, onBuiltin, beginsHelp, helpWords, helpSaid, execute, otherSaid, lineSaid, saidOf}
 use Rattle.shell.specs.declared.builtin.Builtin.{Builtin}
 use Rattle.shell.specs.declared.builtin.Builtin.the-variants.{Help, Exit, Clear, None}
-use Rattle.shell.proofs.Bare.{bare-help}
+use Rattle.shell.proofs.BareHelp.{bare-help}
 use Rattle.rust.specs.Std.{ifSome, isUtf8, println, startsWith, utf8OrEmpty}
 use Rattle.rust.specs.Tree.{Commands, commandsOf}
 use Rattle.rust.specs.Parser.{UnknownCommand, parseTokens, parse}

@@ -24,10 +24,12 @@ use Rattle.lookup.specs.Subtrees.{treeNamed}
 use Rattle.tree.specs.Subtrees.{upTo, onFrom, subtree}
 use Rattle.words.specs.Tokens.{roleOf, tokensFrom, tokens, wordsOf, wordFrames}
 use Rattle.table.specs.Map.{put, look, has, among as amongTable, putWithin}
-use Rattle.arguments.specs.Meanings.{definitionsOf, definitionsAt, firstName, meaning, isOption}
+use Rattle.arguments.specs.Meanings.{definitionsOf, firstName, meaning, isOption}
+use Rattle.arguments.specs.Inner.{definitionsAt}
 use Rattle.arguments.specs.Forms.{beforeEquals, longForm, formOf}
 use Rattle.arguments.specs.Arguments.{withOption, withFlag, withPositional, shortSteps, args}
-use Rattle.report.specs.Report.{optionFrame, flagFrame, reportOf, faultOf, dashed, reportAnswer, reportLeaves}
+use Rattle.report.specs.Report.{optionFrame, flagFrame, reportOf, faultOf}
+use Rattle.report.specs.Inner.{dashed, reportAnswer, reportLeaves}
 use Rattle.parse.specs.Commands.{isMissing, missingRequired, concluded, parseIn, parseWords, parseLine}
 use Rattle.tree.specs.Commands.{descend}
 use Rattle.parse.specs.Answer.{toldIn, outcomeAnswer, outcomeLeaves, parseAnswer, parseLeaves}

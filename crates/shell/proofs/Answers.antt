@@ -31,7 +31,7 @@ use Rattle.shell.specs.declared.builtin.Builtin.the-variants.{Help, Exit
 pub one-answer : (image line out left other : List ℕ) (r q : Ran) → Running image line out r left → Running image line out q other → (r ≡ q) × (left ≡ other)
 one-answer image line out left other r q a b = (a .answer ∙ sym (b .answer), a .bytes ∙ sym (b .bytes))
 
--- the words whose first names the command: behind an untrimmed `help `, else of the trimmed line
+-- the words whose first names the command: after an untrimmed `help `, else of the trimmed line
 unfoldable pub naming : List ℕ → List (List ℕ)
 naming line = cond (beginsHelp line) (helpWords line) (wordsOf (trimmed line))
 

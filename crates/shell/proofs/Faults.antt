@@ -1,4 +1,4 @@
--- Laws of the messages: a text behind its dashes, and the words of a path joined by spaces.
+-- Laws of the messages: a text after its dashes, and the words of a path joined by spaces.
 use Prim.Native.Nat.{ℕ, _+_, _-_, _≤_}
 use mathlib.Core.Path.{_≡_, refl, sym, ap, _∙_}
 use mathlib.Core.List.{List, [], _∷_, _++_}
@@ -10,12 +10,13 @@ use Rattle.buffer.specs.Write.{over}
 use Rattle.buffer.proofs.Choices.{else-is}
 use Rattle.buffer.proofs.Lending.{overAt-front}
 use Rattle.frame.specs.Framed.{frameOf, frameFirst}
-use Rattle.frame.specs.Series.{textsIn}
+use Rattle.frame.specs.Series.{textsIn, AllFrames}
 use Rattle.frame.specs.declared.framed.Framed.the-variants.{Frame}
 use Rattle.frame.proofs.Frames.{length-frameOf, frame-found}
-use Rattle.frame.proofs.Series.{texts-end, word-within, word-length, words-more}
-use Rattle.table.specs.Held.{partOf}
-use Rattle.report.specs.Report.{faultOf, dashed, reportAnswer, reportLeaves, Reporting}
+use Rattle.frame.proofs.Series.{texts-end, word-within, word-length, words-more, all-next}
+use Rattle.table.specs.Inner.{partOf}
+use Rattle.report.specs.Report.{faultOf}
+use Rattle.report.specs.Inner.{dashed, reportAnswer, reportLeaves, Reporting}
 use Rattle.report.specs.declared.answer.Reported.{Reported}
 use Rattle.buffer.specs.Ascii.{ascii}
 use Rattle.buffer.specs.Inks.{Inked, Countable}
@@ -29,7 +30,7 @@ pub last-message : (number : ℕ) → (number ≡ 4 → ⊥) → (number ≡ 5 �
 unfolding faultMessage
 last-message number a b c = sym (else-is _ _ _ (ne-eqb number 4 a) ∙ else-is _ _ _ (ne-eqb number 5 b) ∙ else-is _ _ _ (ne-eqb number 6 c))
 
--- A TEXT BEHIND ITS DASHES, lent from the frame of a fault
+-- A TEXT AFTER ITS DASHES, lent from the frame of a fault
 module _ (dashes : ℕ) (text : List ℕ) where
   length-dashed : length (dashed dashes text) ≡ dashes + length text
   unfolding dashed
@@ -52,18 +53,16 @@ pub record OnPath (path out₀ out : List ℕ) (at end : ℕ) : Type 0 where
   pub within : at ≤ length path
   pub size : length out ≡ length out₀
   pub most : end ≤ at
+  pub ahead : AllFrames (drop at path)
   pub finish : (r : ℕ) (left : List ℕ) → Inked (spaced (textsIn (drop at path))) out end r left → Inked (spaced (textsIn path)) out₀ 0 r left
 
-pub sets-out : (path out : List ℕ) → OnPath path out out 0 0
-sets-out path out = record { within = omega arith; size = refl; most = omega arith; finish = λ r left a. a }
+pub sets-out : (path out : List ℕ) → AllFrames path → OnPath path out out 0 0
+sets-out path out f = record { within = omega arith; size = refl; most = omega arith; ahead = f; finish = λ r left a. a }
 
 module _ (path out₀ out : List ℕ) (at end : ℕ) (way : OnPath path out₀ out at end) where
-  pub stops : textsIn (drop at path) ≡ [] → Inked (spaced (textsIn path)) out₀ 0 end out × (end ≤ length path)
-  unfolding spaced
-  stops e = let m = way .most in let w = way .within in (way .finish end out (inked-nothing _ out end (rw e)), omega arith)
-
   pub arrives : length path ≤ at → Inked (spaced (textsIn path)) out₀ 0 end out × (end ≤ length path)
-  arrives h = stops (texts-end path at h)
+  unfolding spaced
+  arrives h = let m = way .most in let w = way .within in (way .finish end out (inked-nothing _ out end (rw (texts-end path at h))), omega arith)
 
   -- the places up to the end of a word can be counted
   pub word-counts : (n p : ℕ) (mid : List ℕ) → length path ≤ 4096 → Inked (ascii " ") out end p mid → Countable (take (at + 3 + n - (at + 3)) (drop (at + 3) path)) p
@@ -75,7 +74,7 @@ module _ (path out₀ out : List ℕ) (at end : ℕ) (way : OnPath path out₀ o
       let w = way .within in
       omega arith
 
-  -- a word more, behind a space
+  -- a word more, after a space
   pub goes-on : (kind n : ℕ) → frameFirst (drop at path) ≡ Frame kind n
       → (p : ℕ) (mid : List ℕ) (r : ℕ) (left : List ℕ) → Inked (ascii " ") out end p mid → Inked (take (at + 3 + n - (at + 3)) (drop (at + 3) path)) mid p r left
       → OnPath path out₀ left (at + 3 + n) r
@@ -92,10 +91,11 @@ module _ (path out₀ out : List ℕ) (at end : ℕ) (way : OnPath path out₀ o
         within = word-within path at kind n e;
         size = i .size ∙ way .size;
         most = omega arith;
+        ahead = let s : at + (3 + n) ≡ at + 3 + n = omega arith in rw s at (all-next path at kind n e (way .ahead));
         finish = λ z last x. way .finish z last (inked-as _ _ _ _ _ _ (ap spaced (sym (words-more path at kind n e))) (inked-both _ _ _ _ _ _ _ _ i x));
       }
 
--- the words joined are what stands behind the first space
+-- the words joined are what stands after the first space
 join-spaced : (words : List (List ℕ)) → drop 1 (spaced words) ≡ joined words
 unfolding spaced joined ascii
 join-spaced [] = refl

@@ -1,10 +1,10 @@
 -- The laws of the crate `shell` that belong to no one function.
-pub mod Answering
+pub mod WrittenAnswers
 pub mod Faults
-pub mod Reaching
-pub mod Telling
+pub mod Handlers
+pub mod JudgedCarried
 pub mod Lines
-pub mod Bare
+pub mod BareHelp
 pub mod Answers
 pub mod Bounds
 pub mod Numbers

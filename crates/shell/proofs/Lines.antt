@@ -17,8 +17,11 @@ use Rattle.text.specs.declared.apart.Word.the-variants.{At, Nothing as NoWord}
 use Rattle.text.proofs.Prefix.{codes-scalars, whole-is}
 use Rattle.text.proofs.Pieces.{pieces-bytes}
 use Rattle.text.proofs.Splits.{trimming, bytes-append}
-use Rattle.frame.specs.Series.{textsIn}
+use Rattle.frame.specs.Series.{textsFrom, textsIn}
+use Rattle.frame.proofs.Series.{all-none}
 use Rattle.words.specs.Tokens.{wordsOf}
+use Rattle.words.proofs.Kept.{nothing}
+use Rattle.arguments.specs.Inner.{WellSplit}
 use Rattle.words.specs.declared.tokenizer.Tokens.{Tokens}
 use Rattle.words.specs.declared.tokenizer.Tokens.the-variants.{Words, LineTooLong as TooLong, IllFormed as Ill, NoRoom as TooShort}
 use Rattle.words.proofs.tokenizer.Tokens.{the-type}
@@ -38,12 +41,12 @@ use Rattle.help.proofs.Answers.{reply-none, reply-found, reply-lost}
 use Rattle.parse.specs.Answer.{onChecked}
 use Rattle.parse.proofs.Lines.{LineTold}
 use Rattle.shell.specs.Lines.{Said, silence, text, farewell, builtinOf, onBuiltin, beginsHelp, helpWords, helpSaid, execute, otherSaid, lineSaid, saidOf}
-use Rattle.shell.specs.Answer.{Answered, runAnswer, runLeaves, Running}
-use Rattle.shell.specs.Held.{Splits}
+use Rattle.shell.specs.Answer.{runAnswer, runLeaves, Running}
+use Rattle.shell.specs.Inner.{Answered, Splits}
 use Rattle.shell.specs.declared.builtin.Builtin.{Builtin}
 use Rattle.shell.specs.declared.answer.Ran.{Ran}
 use Rattle.shell.specs.declared.answer.Ran.the-variants.{Nothing, BadTree, LineTooLong}
-use Rattle.shell.proofs.Answering.{said-nothing, said-same}
+use Rattle.shell.proofs.WrittenAnswers.{said-nothing, said-same}
 
 -- A TRIMMED LINE: all pieces of a well-formed text are characters, and so are those that are kept
 abbrev Whole : List Piece → Type 0
@@ -107,6 +110,11 @@ words-there line (Words n) h w x k = miss (1 ∷ 2 ∷ 3 ∷ []) 0 tt k
 words-there line (TooLong n) h w x k = true-is-not-false (sym (x .0) ∙ le-ltb 1024 (length line) h)
 words-there line (Ill n) h w x k = true-is-not-false (sym (x .1) ∙ le-ltb (wellFormedLength line) (length line) (omega arith))
 words-there line (TooShort n) h w x k = x
+
+-- no words are split so
+pub split-none : WellSplit []
+unfolding textsIn textsFrom
+split-none = record { frames = all-none; good = nothing }
 
 -- the words of a line, once it is trimmed
 pub trimmed-splits : (line t words : List ℕ) → t ≡ trimmed line → (length t ≤ 1024 → wellFormedLength t ≡ length t → textsIn words ≡ wordsOf t) → Splits line words

@@ -34,11 +34,6 @@ saidAnswer s room = cond (ltb room (length (bytesOf s))) (NoRoom (length (bytesO
 unfoldable pub saidLeaves : Said → List ℕ → List ℕ
 saidLeaves s out = cond (ltb (length out) (length (bytesOf s))) out (over (bytesOf s) out)
 
--- what is said, by itself: the answer, and what is left in the buffer
-pub record Answered (s : Said) (out : List ℕ) (r : Ran) (left : List ℕ) : Type 0 where
-  pub answer : r ≡ saidAnswer s (length out)
-  pub bytes : left ≡ saidLeaves s out
-
 unfoldable pub runAnswer : List ℕ → List ℕ → ℕ → Ran
 runAnswer image line room =
     onChecked (checkTree image) (λ n. BadTree n)

@@ -4,10 +4,10 @@ use report::Reported;
 ghost use mathlib.Core.List.{List};
 ghost use Prim.Native.Nat.{ℕ};
 ghost use Rattle.buffer.specs.Showing.{Showing};
-ghost use Rattle.report.specs.Report.{Reporting};
+ghost use Rattle.report.specs.Inner.{Reporting};
 ghost use Rattle.message.specs.Messages.{goodbye};
 ghost use Rattle.shell.specs.Lines.{text, farewell, handed};
-ghost use Rattle.shell.specs.Answer.{Answered};
+ghost use Rattle.shell.specs.Inner.{Answered};
 
 pub enum Ran {
     // Nothing is to be done.

@@ -10,8 +10,8 @@ use report::write_fault;
 ghost use mathlib.Core.Path.{_≡_};
 ghost use Prim.Native.Nat.{_≤_, _<_};
 ghost use lib.ListN.{length};
-ghost use Rattle.frame.specs.Series.{textsIn};
-ghost use Rattle.report.specs.Report.{dashed};
+ghost use Rattle.frame.specs.Series.{textsIn, AllFrames};
+ghost use Rattle.report.specs.Inner.{dashed};
 ghost use Rattle.buffer.specs.Inks.{Inked};
 ghost use Rattle.buffer.specs.Showing.{Showing};
 ghost use Rattle.message.specs.Messages.{message};
@@ -31,7 +31,7 @@ pub fn told_of(number: u8) -> ParseError
     }
 }
 
-// The message that names some dashes and a text: put together as the frame of a fault, and lent from behind its head.
+// The message that names some dashes and a text: put together as the frame of a fault, and lent without its head.
 pub fn show_dashed(told: ParseError, dashes: usize, text: &[u8], out: &mut [u8]) -> Shown
     requires { ⌜ (dashes < 256) × (length (now text) ≤ 4096) ⌝ }
     ensures { λ r. ⌜ Showing (message told (dashed dashes (now (text .entry)))) (now (out .entry)) r (now (out .exit)) ⌝ }
@@ -42,16 +42,16 @@ pub fn show_dashed(told: ParseError, dashes: usize, text: &[u8], out: &mut [u8])
     show_message(told, &frame[3..end], out)
 }
 
-// Writes the words of a path, which come as frames, each behind a space, and returns the place behind them.
+// Writes the words of a path, which come as frames, each after a space, and returns the place after them.
 fn put_path(path: &[u8], out: &mut [u8]) -> usize
-    requires { ⌜ length (now path) ≤ 4096 ⌝ }
+    requires { ⌜ (length (now path) ≤ 4096) × AllFrames (now path) ⌝ }
     ensures { λ r. ⌜ Inked (spaced (textsIn (now (path .entry)))) (now (out .entry)) 0 r (now (out .exit)) × (r ≤ length (now (path .entry))) ⌝ }
 {
     let mut at = 0;
     let mut end = 0;
     while at < path.len() {
         let Framed::Frame { kind: _, length } = read_frame(path, at) else {
-            return end;
+            return 0;
         };
         let start = at + 3;
         let stop = start + length;
@@ -64,7 +64,7 @@ fn put_path(path: &[u8], out: &mut [u8]) -> usize
 
 // The message of a command without a handler, which names its path joined by spaces.
 pub fn show_no_handler(path: &[u8], out: &mut [u8]) -> Shown
-    requires { ⌜ length (now path) ≤ 4096 ⌝ }
+    requires { ⌜ (length (now path) ≤ 4096) × AllFrames (now path) ⌝ }
     ensures { λ r. ⌜ Showing (message NoHandler (joined (textsIn (now (path .entry))))) (now (out .entry)) r (now (out .exit)) ⌝ }
 {
     let mut words = [0u8; 4096];

@@ -4,7 +4,7 @@ use image::head_of;
 ghost use mathlib.Core.Path.{_≡_};
 ghost use Rattle.tree.specs.Images.{framesOf};
 ghost use Rattle.shell.specs.Lines.{handlerOf};
-ghost use Rattle.shell.specs.Held.{handlerBy};
+ghost use Rattle.shell.specs.Inner.{handlerBy};
 
 pub enum Handler {
     Number(u16),

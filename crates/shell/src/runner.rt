@@ -41,21 +41,20 @@ use words::tokenize;
 ghost use mathlib.Core.Path.{_≡_};
 ghost use mathlib.Core.List.{List};
 ghost use Prim.Native.Nat.{ℕ, _≤_, min};
-ghost use lib.ListN.{length, take};
-ghost use Rattle.text.specs.Decoding.{wellFormedLength};
+ghost use lib.ListN.{length};
 ghost use Rattle.text.specs.Apart.{wordsBetween};
 ghost use Rattle.frame.specs.Series.{textsIn};
-ghost use Rattle.words.specs.Tokens.{wordsOf};
 ghost use Rattle.tree.specs.Images.{framesOf};
 ghost use Rattle.tree.specs.Rules.{checkTree};
 ghost use Rattle.tree.specs.declared.check.Checked.the-variants.{Good};
 ghost use Rattle.tree.specs.Commands.{reachedBy};
 ghost use Rattle.tree.specs.Trails.{Within, Leads};
 ghost use Rattle.help.specs.Answer.{helpOf};
-ghost use Rattle.parse.specs.Held.{numberOf, outcomeIn};
+ghost use Rattle.arguments.specs.Inner.{WellSplit};
+ghost use Rattle.parse.specs.Inner.{numberOf, outcomeIn};
 ghost use Rattle.shell.specs.Lines.{helpSaid, carried, execute, otherSaid, lineSaid};
-ghost use Rattle.shell.specs.Answer.{Answered, Running};
-ghost use Rattle.shell.specs.Held.{Splits, Ready, handlerBy};
+ghost use Rattle.shell.specs.Answer.{Running};
+ghost use Rattle.shell.specs.Inner.{Answered, Splits, Ready, handlerBy, SplitInto, CommandAsks};
 
 // The length of a line that is too long, 65,535 if more.
 fn told_length(n: usize) -> usize
@@ -91,7 +90,7 @@ fn tell_command<'a>(
     handler: Handler,
     out: &mut [u8],
 ) -> Ran
-    requires { ⌜ Within (now words) (now image) (judged .place) × (judged .scan .kept ≤ length (now rest)) × (length (now rest) ≤ 4096) × (length (now words) ≤ 4096) × (numberOf (judged .verdict) ≡ 0) ⌝ }
+    requires { ⌜ CommandAsks (now words) (now image) judged (now rest) ⌝ }
     ensures { λ r. ⌜ ((n : ℕ) → handler ≡ handlerBy n → Answered (carried n (outcomeIn (now (words .entry)) (now (image .entry)) (now (rest .entry)) judged)) (now (out .entry)) r (now (out .exit))) ⌝ }
 {
     let place = judged.place;
@@ -121,7 +120,7 @@ fn tell_command<'a>(
 
 // The words of a line under a well-formed tree, in which they lead to what was found.
 fn execute_command<'a>(words: &'a [u8], image: &'a [u8], found: Found, out: &mut [u8]) -> Ran
-    requires { ⌜ (length (now words) ≤ 4096) × (checkTree (now image) ≡ Good) × Leads (now words) (now image) found (reachedBy (now image) (now words)) ⌝ }
+    requires { ⌜ (length (now words) ≤ 4096) × (checkTree (now image) ≡ Good) × Leads (now words) (now image) found (reachedBy (now image) (now words)) × WellSplit (now words) ⌝ }
     ensures { λ r. ⌜ Answered (execute (framesOf (now (image .entry))) (textsIn (now (words .entry)))) (now (out .entry)) r (now (out .exit)) ⌝ }
 {
     let mut rest = [0u8; 4096];
@@ -155,7 +154,7 @@ fn help_for(image: &[u8], words: &[u8], out: &mut [u8]) -> Ran
     }
 }
 
-// A line that is no builtin: the word `help` with a space behind it asks for help, and all else is a command, whose words lead to what was found.
+// A line that is no builtin: the word `help` with a space after it asks for help, and all else is a command, whose words lead to what was found.
 fn run_other<'a>(image: &'a [u8], line: &[u8], words: &'a [u8], found: Found, out: &mut [u8]) -> Ran
     requires { ⌜ Ready (now image) (now line) (now words) found ⌝ }
     ensures { λ r. ⌜ Answered (otherSaid (framesOf (now (image .entry))) (now (line .entry))) (now (out .entry)) r (now (out .exit)) ⌝ }
@@ -191,7 +190,7 @@ fn handle_builtin_commands<'a>(
 
 // A line with the words that it has once trimmed. The image is tested, and on the way the words are followed.
 fn run_words<'a>(image: &'a [u8], line: &[u8], words: &'a [u8], out: &mut [u8]) -> Ran
-    requires { ⌜ (length (now words) ≤ 4096) × Splits (now line) (now words) ⌝ }
+    requires { ⌜ (length (now words) ≤ 4096) × Splits (now line) (now words) × WellSplit (now words) ⌝ }
     ensures { λ r. ⌜ Running (now (image .entry)) (now (line .entry)) (now (out .entry)) r (now (out .exit)) ⌝ }
 {
     let tested = find_command(words, image);
@@ -213,7 +212,7 @@ fn run_words<'a>(image: &'a [u8], line: &[u8], words: &'a [u8], out: &mut [u8]) 
 // room: four bytes for each byte of a line.
 fn split(line: &[u8], words: &mut [u8]) -> usize
     requires { ⌜ length (now words) ≡ 4096 ⌝ }
-    ensures { λ r. ⌜ (r ≤ 4096) × (length (now (words .exit)) ≡ 4096) × (length (now (line .entry)) ≤ 1024 → wellFormedLength (now (line .entry)) ≡ length (now (line .entry)) → textsIn (take r (now (words .exit))) ≡ wordsOf (now (line .entry))) ⌝ }
+    ensures { λ r. ⌜ SplitInto (now (line .entry)) r (now (words .exit)) ⌝ }
 {
     let Tokens::Words(n) = tokenize(line, words) else {
         return 0;

@@ -6,7 +6,7 @@ use mathlib.Core.List.{List, [], _∷_}
 use mathlib.Core.Option.{some}
 use Rattle.buffer.specs.Compare.{order, sameBytes}
 use Rattle.table.specs.Map.{put, look, has, putWithin}
-use Rattle.table.specs.Held.{bitOf, packed, keyOf, valueOf, entries}
+use Rattle.table.specs.Inner.{bitOf, packed, keyOf, valueOf, entries}
 use Rattle.table.specs.declared.packing.Source.the-variants.{Words, Image}
 
 -- the keys `c`, `cfg` and `d`, and the values `1` and `2`

@@ -3,7 +3,7 @@ pub mod Maps
 pub mod Room
 pub mod Seeking
 pub mod Shifting
-pub mod Views
-pub mod Parts
+pub mod TableMaps
+pub mod PackedPlaces
 pub mod Putting
 mod Examples

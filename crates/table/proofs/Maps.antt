@@ -187,9 +187,9 @@ look-first : (e : List ℕ × List ℕ) (m : Map) → look (e .0) (e ∷ m) ≡ 
 unfolding look
 look-first e m = then-is _ _ _ (same-self (e .0))
 
-look-behind : (k : List ℕ) (e : List ℕ × List ℕ) (m : Map) → sameBytes k (e .0) ≡ false → look k (e ∷ m) ≡ look k m
+look-after : (k : List ℕ) (e : List ℕ × List ℕ) (m : Map) → sameBytes k (e .0) ≡ false → look k (e ∷ m) ≡ look k m
 unfolding look
-look-behind k e m p = else-is _ _ _ p
+look-after k e m p = else-is _ _ _ p
 
 some-none : (v : List ℕ) → some v ≡ none → ⊥
 some-none v e = let z : _≡_ {A = ℕ} 0 1 = cc in omega arith
@@ -207,7 +207,7 @@ rising-same (e ∷ m) (f ∷ n) r s h = by (order (e .0) (f .0)) refl (λ g. ris
         let b : look k n ≡ none = rw (same, q) (above-none (f .0) n (s .0) (s .1)) in
         a ∙ sym b
     rests q k false p =
-        sym (look-behind k e m p) ∙ h k ∙ look-behind k f n (rw q at p)
+        sym (look-after k e m p) ∙ h k ∙ look-after k f n (rw q at p)
 
     firsts : e .0 ≡ f .0 → e .1 ≡ f .1
     firsts q =

@@ -9,13 +9,12 @@ use lib.ListN.{length, take, set, length-set}
 use borrow.Author.Tests.{lt-ltb, le-ltb}
 use Rattle.buffer.proofs.Choices.{then-is, else-is}
 use Rattle.table.specs.Map.{Map, put, Rising, putWithin}
-use Rattle.table.specs.Seek.{seekFrom, opened}
-use Rattle.table.specs.Held.{keyOf, valueOf, entries, mapOf, capacity}
+use Rattle.table.specs.Inner.{seekFrom, opened, keyOf, valueOf, entries, mapOf, capacity}
 use Rattle.table.specs.declared.sorted.Table.{Table}
 use Rattle.table.specs.declared.sorted.Rank.{Rank}
 use Rattle.table.specs.declared.sorted.Rank.the-variants.{Here, Gap}
 use Rattle.table.proofs.Maps.{put-rises}
-use Rattle.table.proofs.Views.{map-size, size-is, entries-set, entries-opened}
+use Rattle.table.proofs.TableMaps.{map-size, size-is, entries-set, entries-opened}
 use Rattle.table.proofs.Shifting.{length-opened}
 use Rattle.table.proofs.Seeking.{Replaced, Opened, PutAt, put-at}
 

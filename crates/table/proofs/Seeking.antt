@@ -8,7 +8,7 @@ use Rattle.buffer.specs.Compare.{order}
 use Rattle.buffer.specs.declared.order.Order.{Order}
 use Rattle.buffer.specs.declared.order.Order.the-variants.{Less, Equal, Greater}
 use Rattle.table.specs.Map.{Map, onOrder, put}
-use Rattle.table.specs.Seek.{seekFrom, opened}
+use Rattle.table.specs.Inner.{seekFrom, opened}
 use Rattle.table.specs.declared.sorted.Rank.{Rank}
 use Rattle.table.specs.declared.sorted.Rank.the-variants.{Here, Gap}
 use Rattle.table.proofs.Maps.{put-none, put-less, put-equal, put-greater}

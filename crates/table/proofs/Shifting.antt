@@ -7,7 +7,7 @@ use lib.ListN.{length, take, drop, set, getD, length-append, length-drop, length
 use lib.Seq.{length-take-le, take-at, drop-at, getD-at, take-add, getD-append-add, getD-drop, take-append-add}
 use Rattle.buffer.proofs.Lists.{drop-step}
 use Rattle.buffer.proofs.Lending.{copy-step}
-use Rattle.table.specs.Seek.{opened}
+use Rattle.table.specs.Inner.{opened}
 
 pub length-opened : {A : Type 0} (place : ℕ) (e : A) (l : List A) → place ≤ length l → length (opened place e l) ≡ length l + 1
 length-opened place e l h =
@@ -17,9 +17,9 @@ length-opened place e l h =
     omega arith
 
 module _ (place e : ℕ) (l : List ℕ) where
-  -- what the element behind an opened place is
-  opened-behind : (i : ℕ) → place ≤ i → place ≤ length l → getD (opened place e l) (i + 1) 0 ≡ getD l i 0
-  opened-behind i h k =
+  -- what the element after an opened place is
+  opened-after : (i : ℕ) → place ≤ i → place ≤ length l → getD (opened place e l) (i + 1) 0 ≡ getD l i 0
+  opened-after i h k =
       let b : length (take place l) ≡ place = length-take-le place l k in
       let n : i + 1 ≡ length (take place l) + suc (i - place) = omega arith in
       let m : place + (i - place) ≡ i = omega arith in
@@ -57,7 +57,7 @@ module _ (place e : ℕ) (l : List ℕ) where
         next =
             ap (λ (x : List ℕ). getD x i 0) (s .bytes ∙ ap (λ (d : List ℕ). take i t ++ d) (drop-step l i 0 k))
             ∙ getD-at (take i t) (getD l i 0) (drop (i + 1) l) 0 i front
-            ∙ sym (opened-behind i (s .low) h);
+            ∙ sym (opened-after i (s .low) h);
       }
 
   -- opening a place in the first n elements

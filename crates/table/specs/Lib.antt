@@ -1,4 +1,4 @@
--- Definitions of the crate `table`: the map of keys and values, where a key stands or would stand in it, and how a table holds it.
+-- Definitions of the crate `table`: the map of keys and values; and in Inner, which only contracts of inner calls cite, how a table holds it and
+-- where a key stands or would stand.
 pub mod Map
-pub mod Seek
-pub mod Held
+pub mod Inner

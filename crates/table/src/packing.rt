@@ -1,7 +1,8 @@
 // An entry of a table: one number, in which the places of a key and of its value are packed.
+use buffer::part;
 ghost use mathlib.Core.Path.{_≡_};
 ghost use Prim.Native.Nat.{_≤_, _<_};
-ghost use Rattle.table.specs.Held.{partOf, bitOf, packed, keyOf, valueOf};
+ghost use Rattle.table.specs.Inner.{bitOf, packed, keyOf, valueOf};
 
 // Where a text lies in its slice.
 pub struct Span {
@@ -34,20 +35,6 @@ pub fn entry(source: Source, key: Span, value: Span) -> usize
     (whole * 0x2000 + value.start) * 0x2000 + value.length
 }
 
-// The part of s that begins at `start` and has `length` bytes, or as many as there are.
-fn part_of<'a>(s: &'a [u8], start: usize, length: usize) -> &'a [u8]
-    ensures { λ r. ⌜ now r ≡ partOf (now (s .entry)) start length ⌝ }
-{
-    if s.len() <= start {
-        return &s[0..0];
-    }
-    let rest = &s[start..];
-    if rest.len() <= length {
-        return rest;
-    }
-    &rest[..length]
-}
-
 // The key of an entry, lent back from the words or from the image.
 pub fn key<'a>(words: &'a [u8], image: &'a [u8], e: usize) -> &'a [u8]
     ensures { λ r. ⌜ now r ≡ keyOf (now (words .entry)) (now (image .entry)) e ⌝ }
@@ -56,9 +43,9 @@ pub fn key<'a>(words: &'a [u8], image: &'a [u8], e: usize) -> &'a [u8]
     let length = place % 0x10000;
     let start = place / 0x10000 % 0x10000;
     if place / 0x10000 / 0x10000 == 0 {
-        part_of(words, start, length)
+        part(words, start, length)
     } else {
-        part_of(image, start, length)
+        part(image, start, length)
     }
 }
 
@@ -66,5 +53,5 @@ pub fn key<'a>(words: &'a [u8], image: &'a [u8], e: usize) -> &'a [u8]
 pub fn value<'a>(words: &'a [u8], e: usize) -> &'a [u8]
     ensures { λ r. ⌜ now r ≡ valueOf (now (words .entry)) e ⌝ }
 {
-    part_of(words, e / 0x2000 % 0x2000, e % 0x2000)
+    part(words, e / 0x2000 % 0x2000, e % 0x2000)
 }

@@ -8,8 +8,7 @@ ghost use mathlib.Core.List.{List, []};
 ghost use Prim.Native.Nat.{ℕ, _+_, _≤_, _<_};
 ghost use lib.ListN.{length, take};
 ghost use Rattle.table.specs.Map.{has};
-ghost use Rattle.table.specs.Seek.{seekFrom, opened};
-ghost use Rattle.table.specs.Held.{tabled, mapOf, sizeOf, capacity, Fit, putEntry};
+ghost use Rattle.table.specs.Inner.{seekFrom, opened, tabled, mapOf, sizeOf, capacity, Fit, PutIn};
 
 // How many keys have room: a node has at most 32 options, and 32 flags, each with a name and a long.
 const CAPACITY: usize = 64;
@@ -103,7 +102,7 @@ fn open_at(table: &mut [usize], n: usize, place: usize, e: usize)
 // Answers how many count then. A new key that finds the table full is not stored; the names and longs of one node always find room (law `put-fits`).
 pub fn put<'a>(words: &'a [u8], image: &'a [u8], table: &mut [usize], n: usize, e: usize) -> usize
     requires { ⌜ Fit n (now table) ⌝ }
-    ensures { λ r. ⌜ (mapOf (now (words .entry)) (now (image .entry)) (tabled r (now (table .exit))) ≡ putEntry (now (words .entry)) (now (image .entry)) e (tabled n (now (table .entry)))) × Fit r (now (table .exit)) ⌝ }
+    ensures { λ r. ⌜ PutIn (now (words .entry)) (now (image .entry)) n e (now (table .entry)) r (now (table .exit)) ⌝ }
 {
     match seek(words, image, table, n, key(words, image, e)) {
         Rank::Here(i) => {

@@ -4,11 +4,10 @@ use mathlib.Core.Path.{sym, _∙_, ap}
 use native.Mathlib.Omega.{arith}
 use borrow.Author.Needs.{needs}
 use lib.ListN.{length}
-use Rattle.frame.proofs.Series.{texts-stop, texts-end, word-within}
-use Rattle.table.specs.Held.{Fit}
-use Rattle.arguments.specs.Meanings.{definitionsAt}
-use Rattle.arguments.proofs.Walks.{ArgsAt, args-start, args-turn, args-end}
-use Rattle.arguments.specs.Held.{held}
+use Rattle.frame.proofs.Series.{all-begin, texts-end, word-within}
+use Rattle.table.specs.Inner.{Fit}
+use Rattle.arguments.specs.Inner.{definitionsAt, held}
+use Rattle.arguments.proofs.Walks.{ArgsAt, args-start, args-turn, args-end, split-word}
 use Rattle.arguments.specs.declared.standing.Stage.{Stage}
 use Rattle.arguments.proofs.Moves.{fit-as, stage-starts, stage-apt}
 use Rattle.arguments.proofs.reading.read_args.Statement.{statement}
@@ -27,7 +26,7 @@ start-requires c κs = search needs
 loop-holds : tie.Need-loop-holds Inv-loop μ-loop
 loop-holds c =
     let e = c .start .ensures in
-    (args-start (c .before .before .before .before .before .before .args .words .now) (c .before .before .before .before .before .before .args .image .now) (definitionsAt (c .before .before .before .before .before .before .args .image .now) (c .before .before .before .before .before .before .args .from)) (c .before .before .before .before .before .before .args .start) (c .before .before .before .before .before .before .args .rest .now) _ (stage-starts (c .before .before .before .before .before .before .args .words .now) (c .before .before .before .before .before .before .args .image .now) (c .before .before .before .before .before .before .args .rest .now) (c .before .before .before .before .before .before .args .options .now) (c .before .before .before .before .before .before .args .flags .now) _ e) (stage-apt (c .before .before .before .before .before .before .args .words .now) (c .before .before .before .before .before .before .args .image .now) (c .before .before .before .before .before .before .args .rest .now) (c .before .before .before .before .before .before .args .options .now) (c .before .before .before .before .before .before .args .flags .now) _ e) (ap (λ (s : Stage). s .kept) e), fit-as _ 0 _ (ap (λ (s : Stage). s .options) e) (record { few = omega arith; full = c .before .before .before .before .before .before .pre .2 }), fit-as _ 0 _ (ap (λ (s : Stage). s .flags) e) (record { few = omega arith; full = c .before .before .before .before .before .before .pre .3 }))
+    (args-start (c .before .before .before .before .before .before .args .words .now) (c .before .before .before .before .before .before .args .image .now) (definitionsAt (c .before .before .before .before .before .before .args .image .now) (c .before .before .before .before .before .before .args .from)) (c .before .before .before .before .before .before .args .start) (c .before .before .before .before .before .before .args .rest .now) _ (stage-starts (c .before .before .before .before .before .before .args .words .now) (c .before .before .before .before .before .before .args .image .now) (c .before .before .before .before .before .before .args .rest .now) (c .before .before .before .before .before .before .args .options .now) (c .before .before .before .before .before .before .args .flags .now) _ e) (stage-apt (c .before .before .before .before .before .before .args .words .now) (c .before .before .before .before .before .before .args .image .now) (c .before .before .before .before .before .before .args .rest .now) (c .before .before .before .before .before .before .args .options .now) (c .before .before .before .before .before .before .args .flags .now) _ e) (ap (λ (s : Stage). s .kept) e) (c .before .before .before .before .before .before .pre .4), fit-as _ 0 _ (ap (λ (s : Stage). s .options) e) (record { few = omega arith; full = c .before .before .before .before .before .before .pre .2 }), fit-as _ 0 _ (ap (λ (s : Stage). s .flags) e) (record { few = omega arith; full = c .before .before .before .before .before .before .pre .3 }))
 
 read-frame-requires : tie.Need-read-frame-requires Inv-loop μ-loop
 read-frame-requires c κs = search needs
@@ -35,18 +34,23 @@ read-frame-requires c κs = search needs
 enum-known-length : tie.Need-enum-known-length Inv-loop μ-loop
 enum-known-length c = search needs
 
+sub-t16 : tie.Need-sub-t16 Inv-loop μ-loop
+sub-t16 c = search needs
+
+at-requires : tie.Need-at-requires Inv-loop μ-loop
+at-requires c κs = tt
+
 same-length : tie.Need-same-length Inv-loop μ-loop
-same-length c = c .before .before .before .loop .inv .1 .full ∙ sym (c .before .before .before .before .before .before .before .before .before .before .pre .2)
+same-length c = c .before .before .before .before .loop .inv .1 .full ∙ sym (c .before .before .before .before .before .before .before .before .before .before .before .pre .2)
 
 same-length-2 : tie.Need-same-length-2 Inv-loop μ-loop
-same-length-2 c = c .before .before .before .loop .inv .2 .full ∙ sym (c .before .before .before .before .before .before .before .before .before .before .pre .3)
+same-length-2 c = c .before .before .before .before .loop .inv .2 .full ∙ sym (c .before .before .before .before .before .before .before .before .before .before .before .pre .3)
 
 same-length-3 : tie.Need-same-length-3 Inv-loop μ-loop
-same-length-3 c = c .before .before .before .loop .inv .0 .room
+same-length-3 c = c .before .before .before .before .loop .inv .0 .room
 
 returns : tie.Need-returns Inv-loop μ-loop
-returns c =
-    (args-end (c .before .before .before .before .before .before .before .before .before .before .args .words .now) (c .before .before .before .before .before .before .before .before .before .before .args .image .now) (definitionsAt (c .before .before .before .before .before .before .before .before .before .before .args .image .now) (c .before .before .before .before .before .before .before .before .before .before .args .from)) (c .before .before .before .before .before .before .before .before .before .before .args .start) (c .before .before .before .before .before .before .before .before .before .before .args .rest .now) _ _ (c .before .before .before .loop .at) (c .before .before .before .loop .inv .0) (texts-stop _ _ (sym (c .before .read-frame .ensures)) (c .match .keys2)), c .before .before .before .loop .inv .1, c .before .before .before .loop .inv .2)
+returns c = absurd (all-begin (c .before .before .before .before .before .before .before .before .before .before .before .args .words .now) (c .before .before .before .before .loop .at) (c .before .before .before .before .loop .inv .0 .ahead .frames) (c .before .before .before .loop-test .taken) _ (c .before .before .read-frame .ensures) (c .before .match .keys2))
 
 word-requires : tie.Need-word-requires Inv-loop μ-loop
 word-requires c κs =
@@ -55,7 +59,7 @@ word-requires c κs =
     let k = i .kept in
     let l = i .room in
     let w = c .before .before .before .before .before .before .before .before .before .before .before .before .before .before .before .pre .1 in
-    ((c .before .before .before .before .before .before .before .before .before .before .before .before .before .before .before .pre .0, (_, (sym (c .before .before .before .before .before .before .read-frame .ensures) ∙ c .before .before .before .before .length .given .1))), (i .apt, omega arith, c .before .before .before .before .before .before .before .before .loop .inv .1, c .before .before .before .before .before .before .before .before .loop .inv .2))
+    ((c .before .before .before .before .before .before .before .before .before .before .before .before .before .before .before .pre .0, (_, (sym (c .before .before .before .before .before .before .read-frame .ensures) ∙ c .before .before .before .before .length .given .1)), split-word (c .before .before .before .before .before .before .before .before .before .before .before .before .before .before .before .args .words .now) (c .before .before .before .before .before .before .before .before .loop .at) _ _ (sym (c .before .before .before .before .before .before .read-frame .ensures) ∙ c .before .before .before .before .length .given .1) (i .ahead)), (i .apt, omega arith, c .before .before .before .before .before .before .before .before .loop .inv .1, c .before .before .before .before .before .before .before .before .loop .inv .2))
 
 add-at : tie.Need-add-at Inv-loop μ-loop
 add-at c =
@@ -101,6 +105,8 @@ read-args-spec =
     loop-holds
     read-frame-requires
     enum-known-length
+    sub-t16
+    at-requires
     same-length
     same-length-2
     same-length-3

@@ -1,4 +1,4 @@
--- `message::told::message_size` meets its contract: the message with no room ends at its length.
+-- `message::error::message_size` meets its contract: the message with no room ends at its length.
 use borrow.Author.Needs.{needs}
 use Rattle.message.proofs.error.message_size.Statement.{statement}
 use Rattle.message.proofs.error.message_size.Tie as tie

@@ -1,5 +1,5 @@
--- `message::told::put_before` meets its contract: by what is told.
-use Rattle.message.proofs.Telling.{before-is}
+-- `message::error::put_before` meets its contract: by what is told.
+use Rattle.message.proofs.MessageParts.{before-is}
 use Rattle.buffer.proofs.Inking.{inked-as}
 use Rattle.buffer.specs.Ascii.{ascii}
 use borrow.Author.Needs.{needs}

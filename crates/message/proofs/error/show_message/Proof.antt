@@ -1,4 +1,4 @@
--- `message::told::show_message` meets its contract: measured, then written if there is room.
+-- `message::error::show_message` meets its contract: measured, then written if there is room.
 use Rattle.buffer.proofs.Inking.{shown, no-room}
 use borrow.Author.Needs.{needs}
 use Rattle.message.proofs.error.show_message.Statement.{statement}

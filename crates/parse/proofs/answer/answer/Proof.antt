@@ -1,8 +1,8 @@
 -- `parse::answer::answer` meets its contract: each number has its answer.
 use Prim.Native.Nat.{ℕ}
 use mathlib.Core.Path.{sym, ap, _∙_}
-use Rattle.parse.specs.Answer.{answeredBy, numbered}
-use Rattle.parse.proofs.Tellings.{last-fault}
+use Rattle.parse.specs.Inner.{answeredBy, numbered}
+use Rattle.parse.proofs.OutcomesTold.{last-fault}
 use borrow.Author.Needs.{needs}
 use Rattle.parse.proofs.answer.answer.Statement.{statement}
 use Rattle.parse.proofs.answer.answer.Tie as tie

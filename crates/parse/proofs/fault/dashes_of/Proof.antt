@@ -1,6 +1,6 @@
 -- `parse::fault::dashes_of` meets its contract: only what tells an option has dashes.
 use native.Mathlib.Omega.{arith}
-use Rattle.parse.proofs.Tellings.{no-dashes}
+use Rattle.parse.proofs.OutcomesTold.{no-dashes}
 use borrow.Author.Needs.{needs}
 use Rattle.parse.proofs.fault.dashes_of.Statement.{statement}
 use Rattle.parse.proofs.fault.dashes_of.Tie as tie

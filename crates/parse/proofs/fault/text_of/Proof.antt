@@ -1,6 +1,6 @@
 -- `parse::fault::text_of` meets its contract: each text is a part of what is lent.
 use mathlib.Core.Path.{sym, ap, _∙_}
-use Rattle.parse.specs.Held.{textOf}
+use Rattle.parse.specs.Inner.{textOf}
 use borrow.Author.Needs.{needs}
 use Rattle.parse.proofs.fault.text_of.Statement.{statement}
 use Rattle.parse.proofs.fault.text_of.Tie as tie

@@ -4,7 +4,7 @@ use native.Mathlib.Omega.{arith}
 use Rattle.frame.specs.Text.{Bytes}
 use Rattle.frame.proofs.Series.{texts-stop}
 use Rattle.tree.proofs.CommandNodes.{reached-first}
-use Rattle.parse.proofs.Judgements.{good-short, first-unknown, first-judged, leads-as, judged-as, judged-without, no-words}
+use Rattle.parse.proofs.Judgements.{good-short, words-parted, first-unknown, first-judged, leads-as, judged-as, judged-without, no-words}
 use borrow.Author.Needs.{needs}
 use Rattle.parse.proofs.judging.judge.Statement.{statement}
 use Rattle.parse.proofs.judging.judge.Tie as tie
@@ -36,7 +36,7 @@ returns-2 c = let w = c .without-command2 .ensures in judged-without (c .before 
 
 judge-arguments-requires : tie.Need-judge-arguments-requires
 unfolding Bytes
-judge-arguments-requires c κs = let l = leads-as _ _ _ _ _ (c .before .before .found .given .1) (c .before .before .before .before .before .before .before .before .before .before .before .pre .3) in (c .before .before .before .before .before .before .before .before .before .before .before .pre .0, good-short (c .before .before .before .before .before .before .before .before .before .before .before .args .image .now) (λ i. c .before .before .before .before .before .before .before .before .before .shared-slice-known2 .given i .fits) (c .before .before .before .before .before .before .before .before .before .before .before .pre .2), c .before .before .before .before .before .before .before .before .before .before .before .pre .1, l .0 .within, rw (l .0 .frames) (reached-first (c .before .before .before .before .before .before .before .before .before .before .before .args .image .now) (c .before .before .before .before .before .before .before .before .before .before .before .args .words .now) (l .1)))
+judge-arguments-requires c κs = let l = leads-as _ _ _ _ _ (c .before .before .found .given .1) (c .before .before .before .before .before .before .before .before .before .before .before .pre .3) in (c .before .before .before .before .before .before .before .before .before .before .before .pre .0, good-short (c .before .before .before .before .before .before .before .before .before .before .before .args .image .now) (λ i. c .before .before .before .before .before .before .before .before .before .shared-slice-known2 .given i .fits) (c .before .before .before .before .before .before .before .before .before .before .before .pre .2), c .before .before .before .before .before .before .before .before .before .before .before .pre .1, l .0 .within, rw (l .0 .frames) (reached-first (c .before .before .before .before .before .before .before .before .before .before .before .args .image .now) (c .before .before .before .before .before .before .before .before .before .before .before .args .words .now) (l .1)), words-parted (c .before .before .before .before .before .before .before .before .before .before .before .args .words .now) (c .before .before .before .before .before .before .before .before .before .before .before .args .image .now) _ (c .before .before .before .before .before .before .before .before .before .before .before .pre .4) (l .0))
 
 same-length : tie.Need-same-length
 same-length c = search needs

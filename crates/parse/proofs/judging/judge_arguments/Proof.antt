@@ -1,6 +1,6 @@
 -- `parse::judging::judge_arguments` meets its contract: a node stands there, and the verdict is that on the words left over.
 use mathlib.Core.Path.{refl, sym, _∙_}
-use Rattle.parse.proofs.Definitions.{start-behind, no-node-first}
+use Rattle.parse.proofs.Definitions.{start-after, no-node-first}
 use Rattle.parse.proofs.Judgements.{arguments-judged}
 use borrow.Author.Needs.{needs}
 use Rattle.parse.proofs.judging.judge_arguments.Statement.{statement}
@@ -28,7 +28,7 @@ returns : tie.Need-returns
 returns c = absurd (no-node-first _ _ (sym (c .before .before .head-of .ensures)) (c .before .match .keys2) (c .before .before .before .before .before .before .before .pre .4))
 
 parse-args-requires : tie.Need-parse-args-requires
-parse-args-requires c κs = search needs
+parse-args-requires c κs = (search needs, search needs, c .before .before .before .before .before .before .before .before .before .pre .5 .later)
 
 verdict-of-requires : tie.Need-verdict-of-requires
 verdict-of-requires c κs = search needs
@@ -37,7 +37,7 @@ same-length : tie.Need-same-length
 same-length c = search needs
 
 returns-2 : tie.Need-returns-2
-returns-2 c = λ to d. arguments-judged (c .before .before .before .before .before .before .before .before .before .before .before .before .before .args .words .now) (c .before .before .before .before .before .before .before .before .before .before .before .before .before .args .image .now) (c .before .before .before .before .before .before .before .before .before .before .before .before .before .args .rest .now) _ (c .before .before .before .before .before .before .before .before .before .before .before .before .before .args .place) to _ _ d refl (start-behind _ _ _ _ (sym (c .before .before .before .before .before .before .before .before .head-of .ensures) ∙ c .before .before .before .before .before .before .texts .given .1)) (c .before .before .before .parse-args .ensures) (c .verdict-of .ensures) (c .before .before .before .before .before .before .before .before .before .before .before .before .before .pre .2)
+returns-2 c = λ to d. arguments-judged (c .before .before .before .before .before .before .before .before .before .before .before .before .before .args .words .now) (c .before .before .before .before .before .before .before .before .before .before .before .before .before .args .image .now) (c .before .before .before .before .before .before .before .before .before .before .before .before .before .args .rest .now) _ (c .before .before .before .before .before .before .before .before .before .before .before .before .before .args .place) to _ _ d refl (start-after _ _ _ _ (sym (c .before .before .before .before .before .before .before .before .head-of .ensures) ∙ c .before .before .before .before .before .before .texts .given .1)) (c .before .before .before .parse-args .ensures) (c .verdict-of .ensures) (c .before .before .before .before .before .before .before .before .before .before .before .before .before .pre .2) (c .before .before .before .before .before .before .before .before .before .before .before .before .before .pre .5)
 
 pub judge-arguments-spec : {M : Type 1} → statement M
 judge-arguments-spec =

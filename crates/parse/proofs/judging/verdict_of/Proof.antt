@@ -1,7 +1,7 @@
 -- `parse::judging::verdict_of` meets its contract: the progress of the scan, and what is required, decide.
 use mathlib.Core.Path.{sym, ap, _∙_}
-use Rattle.arguments.specs.Meanings.{definitionsAt}
-use Rattle.parse.specs.Held.{requiredBy}
+use Rattle.arguments.specs.Inner.{definitionsAt}
+use Rattle.parse.specs.Inner.{requiredBy}
 use Rattle.parse.proofs.Judgements.{verdict-going, verdict-by}
 use borrow.Author.Needs.{needs}
 use Rattle.parse.proofs.judging.verdict_of.Statement.{statement}

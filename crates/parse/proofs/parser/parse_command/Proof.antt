@@ -12,7 +12,7 @@ judge-requires c κs = search needs
 
 tell-requires : tie.Need-tell-requires
 unfolding Bytes
-tell-requires c κs = let j = c .before .before .before .before .judge .ensures in let a = c .before .before .before .before .before .before .before .before .before .before .pre .0 in let b = c .before .before .before .before .before .before .before .before .before .before .pre .1 in let l = j .room in (j .within, j .kept, omega arith, omega arith, good-short (c .before .before .before .before .before .before .before .before .before .before .args .image .now) (λ i. c .before .before .before .before .before .before .before .before .shared-slice-known2 .given i .fits) (c .before .before .before .before .before .before .before .before .before .before .pre .2))
+tell-requires c κs = let j = c .before .before .before .before .judge .ensures in let a = c .before .before .before .before .before .before .before .before .before .before .pre .0 in let b = c .before .before .before .before .before .before .before .before .before .before .pre .1 in let l = j .room in (j .within, j .kept, omega arith, omega arith, good-short (c .before .before .before .before .before .before .before .before .before .before .args .image .now) (λ i. c .before .before .before .before .before .before .before .before .shared-slice-known2 .given i .fits) (c .before .before .before .before .before .before .before .before .before .before .pre .2), j .lent)
 
 same-length : tie.Need-same-length
 same-length c = search needs

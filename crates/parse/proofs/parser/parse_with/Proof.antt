@@ -3,7 +3,7 @@ use mathlib.Core.Path.{sym}
 use native.Mathlib.Omega.{arith}
 use lib.ListN.{length-take}
 use lib.Seq.{length-take-le}
-use Rattle.parse.proofs.Lines.{line-by, line-words, line-long, line-ill, line-parsed, left-room, left-length}
+use Rattle.parse.proofs.Lines.{line-by, line-split, line-words, line-long, line-ill, line-parsed, left-room, left-length}
 use borrow.Author.Needs.{needs}
 use Rattle.parse.proofs.parser.parse_with.Statement.{statement}
 use Rattle.parse.proofs.parser.parse_with.Tie as tie
@@ -21,7 +21,7 @@ slice-aggregate-parse-words : tie.Need-slice-aggregate-parse-words
 slice-aggregate-parse-words c = sym (length-take-le _ _ (left-length (c .before .before .before .before .before .before .before .before .before .before .before .before .before .args .line .now) _ _ _ (c .before .before .before .before .before .before .tokenize .ensures) (c .before .before .before .before .before .before .before .before .before .before .before .before .before .pre .0) _ (c .before .before .n .given .1)))
 
 parse-words-requires : tie.Need-parse-words-requires
-parse-words-requires c κs = let l = left-room (c .before .before .before .before .before .before .before .before .before .before .before .before .before .before .before .args .line .now) _ _ _ (c .before .before .before .before .before .before .before .before .tokenize .ensures) (c .before .before .before .before .before .before .before .before .before .before .before .before .before .before .before .pre .0) _ (c .before .before .before .before .n .given .1) in let r = c .before .before .before .before .before .before .before .before .before .before .before .before .before .before .before .pre .1 in let m = c .before .before .before .before .before .before .before .before .before .before .before .before .before .before .before .pre .0 .0 in (rw length-take (omega arith), omega arith)
+parse-words-requires c κs = let l = left-room (c .before .before .before .before .before .before .before .before .before .before .before .before .before .before .before .args .line .now) _ _ _ (c .before .before .before .before .before .before .before .before .tokenize .ensures) (c .before .before .before .before .before .before .before .before .before .before .before .before .before .before .before .pre .0) _ (c .before .before .before .before .n .given .1) in let r = c .before .before .before .before .before .before .before .before .before .before .before .before .before .before .before .pre .1 in let m = c .before .before .before .before .before .before .before .before .before .before .before .before .before .before .before .pre .0 .0 in (rw length-take (omega arith), omega arith, rw (line-words (c .before .before .before .before .before .before .before .before .before .before .before .before .before .before .before .args .line .now) _ _ _ (c .before .before .before .before .before .before .before .before .tokenize .ensures) (c .before .before .before .before .before .before .before .before .before .before .before .before .before .before .before .pre .0) _ (c .before .before .before .before .n .given .1)) (line-split (c .before .before .before .before .before .before .before .before .before .before .before .before .before .before .before .args .line .now) (line-by (c .before .before .before .before .before .before .before .before .before .before .before .before .before .before .before .args .line .now) _ _ _ (c .before .before .before .before .before .before .before .before .tokenize .ensures) (c .before .before .before .before .before .before .before .before .before .before .before .before .before .before .before .pre .0) _ (c .before .before .before .before .n .given .1) .2)))
 
 enum-known-n-2 : tie.Need-enum-known-n-2
 enum-known-n-2 c = search needs

@@ -15,7 +15,7 @@ enum-told : tie.Need-enum-told
 enum-told c = search needs
 
 parse-command-requires : tie.Need-parse-command-requires
-parse-command-requires c κs = let good = sym (c .before .before .before .before .find-command .ensures .checked) ∙ c .before .before .enum-told .given .1 in (c .before .before .before .before .before .before .before .before .before .pre .0, c .before .before .before .before .before .before .before .before .before .pre .1, good, c .before .before .before .before .find-command .ensures .found good)
+parse-command-requires c κs = let good = sym (c .before .before .before .before .find-command .ensures .checked) ∙ c .before .before .enum-told .given .1 in (c .before .before .before .before .before .before .before .before .before .pre .0, c .before .before .before .before .before .before .before .before .before .pre .1, good, c .before .before .before .before .find-command .ensures .found good, c .before .before .before .before .before .before .before .before .before .pre .2)
 
 returns : tie.Need-returns
 returns c = words-bad (c .before .before .before .before .before .before .before .before .args .image .now) (c .before .before .before .before .before .before .before .before .args .words .now) (c .before .before .before .before .before .before .before .before .args .out .now) _ (sym (c .before .before .before .find-command .ensures .checked) ∙ c .before .checked .given .1)

@@ -1,15 +1,15 @@
 -- `parse::parser::tell` meets its contract: what is written is the fault or the report of what was judged.
 use Prim.Native.Nat.{_+_, _-_, _<_, _≤_}
-use mathlib.Core.Path.{sym, ap}
+use mathlib.Core.Path.{sym, ap, _∙_}
 use native.Mathlib.Omega.{arith}
 use lib.ListN.{length, take, length-take}
 use lib.Seq.{length-take-le}
 use Rattle.frame.specs.Series.{textsIn}
 use Rattle.tree.specs.Trails.{imagePart}
 use Rattle.tree.proofs.Trails.{part-most}
-use Rattle.arguments.specs.Held.{foundOf}
-use Rattle.parse.specs.Held.{outcomeIn, textOf}
-use Rattle.parse.proofs.Tellings.{text-short, fault-telling, report-telling}
+use Rattle.arguments.specs.Inner.{foundOf}
+use Rattle.parse.specs.Inner.{outcomeIn, textOf}
+use Rattle.parse.proofs.OutcomesTold.{text-short, fault-telling, report-telling}
 use borrow.Author.Needs.{needs}
 use Rattle.parse.proofs.parser.tell.Statement.{statement}
 use Rattle.parse.proofs.parser.tell.Tie as tie
@@ -81,7 +81,8 @@ write-report-requires c κs =
     let z = c .before .before .before .before .before .before .before .before .before .before .before .before .before .before .pre .3 in
     let w = c .before .before .before .before .before .before .before .before .before .before .before .before .before .before .pre .0 .passed in
     let g : length (take (c .before .before .before .before .before .before .before .before .before .before .before .before .before .before .args .judged .place .at) (c .before .before .before .before .before .before .before .before .before .before .before .before .before .before .args .words .now)) + length (take (c .before .before .before .before .before .before .before .before .before .before .before .before .before .before .args .judged .scan .kept) (c .before .before .before .before .before .before .before .before .before .before .before .before .before .before .args .rest .now)) < 0x8000000000000000 = rw (length-take, length-take) (omega arith) in
-    g
+    let n = c .before .before .before .before .before .before .before .before .before .before .before .before .before .before .pre .5 (sym (c .before .before .before .before .before .before .before .number-of .ensures) ∙ c .before .before .before .before .before .before .if1 .left) in
+    (g, n .path, n .positionals)
 
 answer-requires-2 : tie.Need-answer-requires-2
 answer-requires-2 c κs = search needs

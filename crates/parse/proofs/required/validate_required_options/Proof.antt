@@ -4,8 +4,8 @@ use mathlib.Core.Path.{_≡_, refl, sym, ap, _∙_}
 use native.Mathlib.Omega.{arith}
 use borrow.Author.Needs.{needs}
 use lib.ListN.{length}
-use Rattle.table.specs.Held.{mapOf}
-use Rattle.arguments.specs.Meanings.{definitionsAt}
+use Rattle.table.specs.Inner.{mapOf}
+use Rattle.arguments.specs.Inner.{definitionsAt}
 use Rattle.parse.specs.Commands.{lacking, missingRequired}
 use Rattle.parse.proofs.Definitions.{option-step, flag-step, option-missing, option-there, flag-passed, none-missing, definitions-stop, definitions-end}
 use Rattle.parse.proofs.required.validate_required_options.Statement.{statement}

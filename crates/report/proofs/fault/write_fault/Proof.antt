@@ -1,4 +1,4 @@
--- `report::write_fault` meets its contract: the kind, the two bytes of the length, the dashes and the text, each right behind what is there.
+-- `report::write_fault` meets its contract: the kind, the two bytes of the length, the dashes and the text, each right after what is there.
 use Rattle.report.proofs.Faults.{length-fault, fault-written}
 use Rattle.report.proofs.Answers.{no-room, reported}
 use borrow.Author.Needs.{needs}

@@ -1,5 +1,5 @@
 -- `report::pairs::write_flags` meets its contract: to write the flags still to come where the code stands is to write them all.
-use Rattle.table.specs.Held.{sizeOf}
+use Rattle.table.specs.Inner.{sizeOf}
 use Rattle.report.specs.Report.{flagFrame}
 use Rattle.report.proofs.Ahead.{ahead-start, ahead-end}
 use Rattle.report.proofs.Tables.{AheadPairs, pairs-end, pair-short, flag-lent, flag-place, flag-written}

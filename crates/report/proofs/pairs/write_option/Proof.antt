@@ -1,4 +1,4 @@
--- `report::pairs::write_option` meets its contract: the kind, then the key, then the value, each right behind what is there.
+-- `report::pairs::write_option` meets its contract: the kind, then the key, then the value, each right after what is there.
 use Rattle.frame.specs.Text.{textOf}
 use Rattle.report.proofs.Ahead.{ahead-room, ahead-lent, ahead-turn, last-lent, ahead-last}
 use Rattle.report.proofs.Tables.{length-option, option-kind}

@@ -1,5 +1,5 @@
 -- `report::pairs::write_options` meets its contract: to write the options still to come where the code stands is to write them all.
-use Rattle.table.specs.Held.{sizeOf}
+use Rattle.table.specs.Inner.{sizeOf}
 use Rattle.report.specs.Report.{optionFrame}
 use Rattle.report.proofs.Ahead.{ahead-start, ahead-end}
 use Rattle.report.proofs.Tables.{AheadPairs, pairs-end, pair-short, pair-room, pair-lent, pair-written}

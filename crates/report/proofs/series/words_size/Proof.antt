@@ -1,7 +1,7 @@
 -- `report::series::words_size` meets its contract: a word takes as many bytes as it is read from, and what is left takes the rest.
 use Rattle.frame.specs.Framed.{frameOf}
 use Rattle.frame.specs.Series.{textsIn, runs}
-use Rattle.report.proofs.Words.{wordsAt, words-stop, words-end, word-within, word-counted}
+use Rattle.report.proofs.Words.{wordsAt, words-begin, words-end, word-within, word-counted}
 use Rattle.report.proofs.Ahead.{count-end}
 use borrow.Author.Needs.{needs}
 use native.Mathlib.Omega.{arith}
@@ -29,7 +29,7 @@ enum-known-length c = search needs
 returns : tie.Need-returns Inv-loop μ-loop
 returns c =
     let l = c .before .before .before .loop in
-    (λ kind. count-end _ _ _ (words-stop kind (c .before .before .before .before .before .args .words .now) (l .at) _ (c .before .read-frame .ensures) (c .match .keys2)) (l .inv .1 kind), l .inv .0)
+    absurd (words-begin 0 (c .before .before .before .before .before .args .words .now) (l .at) _ (c .before .before .before .before .before .pre) (l .inv .1 0) (c .before .before .loop-test .taken) (c .before .read-frame .ensures) (c .match .keys2))
 
 add-at : tie.Need-add-at Inv-loop μ-loop
 add-at c = let w = word-within (c .before .before .before .before .before .before .before .args .words .now) (c .before .before .before .before .before .loop .at) _ _ (sym (c .before .before .before .read-frame .ensures) ∙ c .before .length .given .1) in omega arith

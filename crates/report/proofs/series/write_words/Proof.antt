@@ -1,6 +1,6 @@
 -- `report::series::write_words` meets its contract: a word goes to the place that it is read from, and to write the rest there is to write the whole.
 use Rattle.report.proofs.Ahead.{ahead-start, ahead-end}
-use Rattle.report.proofs.Words.{AheadWords, words-stop, words-end, word-within, word-short, word-size, word-lent, word-written}
+use Rattle.report.proofs.Words.{AheadWords, words-begin, words-end, word-within, word-short, word-size, word-lent, word-written}
 use borrow.Author.Needs.{needs}
 use native.Mathlib.Omega.{arith}
 use Prim.Native.Nat.{_-_}
@@ -28,7 +28,9 @@ same-length : tie.Need-same-length Inv-loop μ-loop
 same-length c = c .before .before .before .loop .inv .same
 
 returns : tie.Need-returns Inv-loop μ-loop
-returns c = ahead-end _ _ _ _ _ (c .before .before .before .loop .inv) (words-stop (c .before .before .before .before .before .before .args .kind) (c .before .before .before .before .before .before .args .words .now) (c .before .before .before .loop .at) _ (c .before .read-frame .ensures) (c .match .keys2))
+returns c =
+    let l = c .before .before .before .loop in
+    absurd (words-begin (c .before .before .before .before .before .before .args .kind) (c .before .before .before .before .before .before .args .words .now) (l .at) _ (c .before .before .before .before .before .before .pre .1) (l .inv .count) (c .before .before .loop-test .taken) (c .before .read-frame .ensures) (c .match .keys2))
 
 add-start : tie.Need-add-start Inv-loop μ-loop
 add-start c = let w = word-within (c .before .before .before .before .before .before .before .before .args .words .now) (c .before .before .before .before .before .loop .at) _ _ (sym (c .before .before .before .read-frame .ensures) ∙ c .before .length .given .1) in omega arith
@@ -46,10 +48,10 @@ part-write-frame-end : tie.Need-part-write-frame-end Inv-loop μ-loop
 part-write-frame-end c = let w = word-within (c .before .before .before .before .before .before .before .before .args .words .now) (c .before .before .before .before .before .loop .at) _ _ (sym (c .before .before .before .read-frame .ensures) ∙ c .before .length .given .1) in omega arith
 
 sub-write-frame-2 : tie.Need-sub-write-frame-2 Inv-loop μ-loop
-sub-write-frame-2 c = omega (arith, c .before .before .before .before .before .before .loop .inv .count, c .before .before .before .before .before .before .loop .inv .same, c .before .before .before .before .before .before .before .before .before .pre)
+sub-write-frame-2 c = omega (arith, c .before .before .before .before .before .before .loop .inv .count, c .before .before .before .before .before .before .loop .inv .same, c .before .before .before .before .before .before .before .before .before .pre .0)
 
 part-write-frame-start-2 : tie.Need-part-write-frame-start-2 Inv-loop μ-loop
-part-write-frame-start-2 c = omega (arith, c .before .before .before .before .before .before .loop .inv .count, c .before .before .before .before .before .before .loop .inv .same, c .before .before .before .before .before .before .before .before .before .pre)
+part-write-frame-start-2 c = omega (arith, c .before .before .before .before .before .before .loop .inv .count, c .before .before .before .before .before .before .loop .inv .same, c .before .before .before .before .before .before .before .before .before .pre .0)
 
 part-write-frame-end-2 : tie.Need-part-write-frame-end-2 Inv-loop μ-loop
 part-write-frame-end-2 c = search needs
@@ -58,7 +60,7 @@ write-frame-requires : tie.Need-write-frame-requires Inv-loop μ-loop
 write-frame-requires c κs =
     let a = c .before .before .before .before .before .before .before .before .before .before .args in
     let e = sym (c .before .before .before .before .before .read-frame .ensures) ∙ c .before .before .before .length .given .1 in
-    (word-short (a .words .now) (c .before .before .before .before .before .before .before .loop .at) _ _ e (λ i. omega (arith, c .before .before .before .before .before .before .before .before .before .shared-slice-known .given i .fits)), word-lent (a .kind) (a .words .now) (a .out .now) (c .before .before .before .before .before .before .before .loop .at) (c .before .before .before .before .before .before .before .loop .out) (c .before .before .before .before .before .before .before .loop .inv) (c .before .before .before .before .before .before .before .before .before .before .pre) _ _ e)
+    (word-short (a .words .now) (c .before .before .before .before .before .before .before .loop .at) _ _ e (λ i. omega (arith, c .before .before .before .before .before .before .before .before .before .shared-slice-known .given i .fits)), word-lent (a .kind) (a .words .now) (a .out .now) (c .before .before .before .before .before .before .before .loop .at) (c .before .before .before .before .before .before .before .loop .out) (c .before .before .before .before .before .before .before .loop .inv) (c .before .before .before .before .before .before .before .before .before .before .pre .0) _ _ e)
 
 add-at : tie.Need-add-at Inv-loop μ-loop
 add-at c =
@@ -77,7 +79,7 @@ loop-again : tie.Need-loop-again Inv-loop μ-loop
 loop-again c =
     let a = c .before .before .before .before .before .before .before .before .before .before .before .before .before .args in
     let e = sym (c .before .before .before .before .before .before .before .before .read-frame .ensures) ∙ c .before .before .before .before .before .before .length .given .1 in
-    word-written (a .kind) (a .words .now) (a .out .now) (c .before .before .before .before .before .before .before .before .before .before .loop .at) (c .before .before .before .before .before .before .before .before .before .before .loop .out) (c .before .before .before .before .before .before .before .before .before .before .loop .inv) (c .before .before .before .before .before .before .before .before .before .before .before .before .before .pre) _ _ e _ _ (c .before .before .write-frame .ensures)
+    word-written (a .kind) (a .words .now) (a .out .now) (c .before .before .before .before .before .before .before .before .before .before .loop .at) (c .before .before .before .before .before .before .before .before .before .before .loop .out) (c .before .before .before .before .before .before .before .before .before .before .loop .inv) (c .before .before .before .before .before .before .before .before .before .before .before .before .before .pre .0) _ _ e _ _ (c .before .before .write-frame .ensures)
 
 same-length-2 : tie.Need-same-length-2 Inv-loop μ-loop
 same-length-2 c = c .before .loop .inv .same

@@ -1,7 +1,7 @@
 -- `shell::answer::called` meets its contract: by what writing the report answered.
 use borrow.Author.Needs.{needs}
 use Rattle.shell.specs.Lines.{handed}
-use Rattle.shell.proofs.Answering.{said-reported}
+use Rattle.shell.proofs.WrittenAnswers.{said-reported}
 use Rattle.shell.proofs.answer.called.Statement.{statement}
 use Rattle.shell.proofs.answer.called.Tie as tie
 

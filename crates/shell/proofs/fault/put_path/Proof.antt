@@ -4,9 +4,9 @@ use mathlib.Core.Path.{sym, _∙_}
 use native.Mathlib.Omega.{arith}
 use borrow.Author.Needs.{needs}
 use lib.ListN.{length}
-use Rattle.frame.proofs.Series.{texts-stop, word-within}
+use Rattle.frame.proofs.Series.{all-begin, word-within}
 use Rattle.buffer.specs.Ascii.{ascii}
-use Rattle.shell.proofs.Faults.{word-counts, OnPath, sets-out, stops, arrives, goes-on}
+use Rattle.shell.proofs.Faults.{word-counts, OnPath, sets-out, arrives, goes-on}
 use Rattle.shell.proofs.fault.put_path.Statement.{statement}
 use Rattle.shell.proofs.fault.put_path.Tie as tie
 
@@ -17,7 +17,7 @@ abbrev μ-loop : tie.MeasureT-loop
 μ-loop path out₀ at₀ end₀ t9 out at end = length path - at
 
 loop-holds : tie.Need-loop-holds Inv-loop μ-loop
-loop-holds c = sets-out _ _
+loop-holds c = sets-out _ _ (c .before .before .pre .1)
 
 read-frame-requires : tie.Need-read-frame-requires Inv-loop μ-loop
 read-frame-requires c κs = search needs
@@ -29,20 +29,20 @@ same-length : tie.Need-same-length Inv-loop μ-loop
 same-length c = c .before .before .before .loop .inv .size
 
 returns : tie.Need-returns Inv-loop μ-loop
-returns c = stops (c .before .before .before .before .before .before .args .path .now) _ _ _ _ (c .before .before .before .loop .inv) (texts-stop _ _ (sym (c .before .read-frame .ensures)) (c .match .keys2))
+returns c = absurd (all-begin (c .before .before .before .before .before .before .args .path .now) (c .before .before .before .loop .at) (c .before .before .before .loop .inv .ahead) (c .before .before .loop-test .taken) _ (c .before .read-frame .ensures) (c .match .keys2))
 
 add-start : tie.Need-add-start Inv-loop μ-loop
-add-start c = let w = word-within (c .before .before .before .before .before .before .before .before .args .path .now) (c .before .before .before .before .before .loop .at) _ _ (sym (c .before .before .before .read-frame .ensures) ∙ c .before .length .given .1) in let z = c .before .before .before .before .before .before .before .before .pre in omega arith
+add-start c = let w = word-within (c .before .before .before .before .before .before .before .before .args .path .now) (c .before .before .before .before .before .loop .at) _ _ (sym (c .before .before .before .read-frame .ensures) ∙ c .before .length .given .1) in let z = c .before .before .before .before .before .before .before .before .pre .0 in omega arith
 
 add-stop : tie.Need-add-stop Inv-loop μ-loop
-add-stop c = let w = word-within (c .before .before .before .before .before .before .before .before .args .path .now) (c .before .before .before .before .before .loop .at) _ _ (sym (c .before .before .before .read-frame .ensures) ∙ c .before .length .given .1) in let z = c .before .before .before .before .before .before .before .before .pre in omega arith
+add-stop c = let w = word-within (c .before .before .before .before .before .before .before .before .args .path .now) (c .before .before .before .before .before .loop .at) _ _ (sym (c .before .before .before .read-frame .ensures) ∙ c .before .length .given .1) in let z = c .before .before .before .before .before .before .before .before .pre .0 in omega arith
 
 slice-aggregate-put : tie.Need-slice-aggregate-put Inv-loop μ-loop
 slice-aggregate-put c = search needs
 
 put-requires : tie.Need-put-requires Inv-loop μ-loop
 unfolding ascii
-put-requires c κs = let m = c .before .before .before .before .before .before .before .loop .inv .most in let w = c .before .before .before .before .before .before .before .loop .inv .within in let z = c .before .before .before .before .before .before .before .before .before .before .pre in omega arith
+put-requires c κs = let m = c .before .before .before .before .before .before .before .loop .inv .most in let w = c .before .before .before .before .before .before .before .loop .inv .within in let z = c .before .before .before .before .before .before .before .before .before .before .pre .0 in omega arith
 
 sub-put : tie.Need-sub-put Inv-loop μ-loop
 sub-put c = search needs
@@ -55,7 +55,7 @@ part-put-end c = let w = word-within (c .before .before .before .before .before 
 
 put-requires-2 : tie.Need-put-requires-2 Inv-loop μ-loop
 unfolding ascii
-put-requires-2 c κs = word-counts (c .before .before .before .before .before .before .before .before .before .before .before .before .before .before .before .args .path .now) _ _ (c .before .before .before .before .before .before .before .before .before .before .before .before .loop .at) _ (c .before .before .before .before .before .before .before .before .before .before .before .before .loop .inv) (c .before .before .before .before .before .before .before .before .length .given .0 .1 .0) _ _ (c .before .before .before .before .before .before .before .before .before .before .before .before .before .before .before .pre) (c .before .before .before .before .put .ensures)
+put-requires-2 c κs = word-counts (c .before .before .before .before .before .before .before .before .before .before .before .before .before .before .before .args .path .now) _ _ (c .before .before .before .before .before .before .before .before .before .before .before .before .loop .at) _ (c .before .before .before .before .before .before .before .before .before .before .before .before .loop .inv) (c .before .before .before .before .before .before .before .before .length .given .0 .1 .0) _ _ (c .before .before .before .before .before .before .before .before .before .before .before .before .before .before .before .pre .0) (c .before .before .before .before .put .ensures)
 
 loop-less : tie.Need-loop-less Inv-loop μ-loop
 loop-less c = let w = word-within (c .before .before .before .before .before .before .before .before .before .before .before .before .before .before .before .before .before .before .args .path .now) (c .before .before .before .before .before .before .before .before .before .before .before .before .before .before .before .loop .at) _ _ (sym (c .before .before .before .before .before .before .before .before .before .before .before .before .before .read-frame .ensures) ∙ c .before .before .before .before .before .before .before .before .before .before .before .length .given .1) in omega arith

@@ -1,4 +1,4 @@
--- `shell::fault::show_dashed` meets its contract: behind the head of its frame stands the text of the fault.
+-- `shell::fault::show_dashed` meets its contract: after the head of its frame stands the text of the fault.
 use native.Mathlib.Omega.{arith}
 use borrow.Author.Needs.{needs}
 use Rattle.shell.proofs.Faults.{dashed-lent}

@@ -3,7 +3,7 @@ use mathlib.Core.Path.{sym, _∙_}
 use native.Mathlib.Omega.{arith}
 use Rattle.frame.specs.Text.{Bytes}
 use Rattle.image.proofs.HeadBytes.{node-bytes}
-use Rattle.shell.proofs.Reaching.{handler-there, handler-lacking, handler-none}
+use Rattle.shell.proofs.Handlers.{handler-there, handler-lacking, handler-none}
 use borrow.Author.Needs.{needs}
 use Rattle.shell.proofs.handler.handler_of.Statement.{statement}
 use Rattle.shell.proofs.handler.handler_of.Tie as tie

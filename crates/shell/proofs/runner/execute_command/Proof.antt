@@ -1,13 +1,14 @@
 -- `shell::runner::execute_command` meets its contract: what is told is what was judged, with the handler of the node reached.
 use mathlib.Core.Path.{refl, sym, ap, _∙_}
 use mathlib.Core.List.{List}
+use native.Mathlib.Omega.{arith}
 use Rattle.frame.specs.Text.{Bytes}
 use Rattle.parse.proofs.Judgements.{good-short}
 use Rattle.image.specs.Frames.{Frame}
 use Rattle.shell.specs.Lines.{handlerOf}
-use Rattle.shell.specs.Held.{handlerBy}
-use Rattle.shell.proofs.Answering.{said-same}
-use Rattle.shell.proofs.Telling.{words-carried}
+use Rattle.shell.specs.Inner.{handlerBy}
+use Rattle.shell.proofs.WrittenAnswers.{said-same}
+use Rattle.shell.proofs.JudgedCarried.{words-carried}
 use borrow.Author.Needs.{needs}
 use Rattle.shell.proofs.runner.execute_command.Statement.{statement}
 use Rattle.shell.proofs.runner.execute_command.Tie as tie
@@ -47,7 +48,10 @@ slice-aggregate-tell-command : tie.Need-slice-aggregate-tell-command
 slice-aggregate-tell-command c = search needs
 
 tell-command-requires : tie.Need-tell-command-requires
-tell-command-requires c κs = search needs
+tell-command-requires c κs =
+    let j = c .before .before .before .before .before .before .before .before .judge .ensures in
+    let n = sym (c .before .before .before .before .before .before .number-of .ensures) ∙ c .before .before .before .before .before .if1 .left in
+    (j .within, j .kept, let r = j .room in omega arith, c .before .before .before .before .before .before .before .before .before .before .before .before .before .pre .0, n, j .lent n)
 
 same-length-2 : tie.Need-same-length-2
 same-length-2 c = search needs

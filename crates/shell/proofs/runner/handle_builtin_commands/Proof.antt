@@ -2,7 +2,7 @@
 use Rattle.frame.specs.Text.{Bytes}
 use Rattle.tree.specs.Images.{framesOf}
 use Rattle.help.proofs.Answers.{tree-short}
-use Rattle.shell.proofs.Answering.{said-same}
+use Rattle.shell.proofs.WrittenAnswers.{said-same}
 use Rattle.shell.proofs.Lines.{builtin-is}
 use borrow.Author.Needs.{needs}
 use Rattle.shell.proofs.runner.handle_builtin_commands.Statement.{statement}

@@ -24,7 +24,7 @@ slice-aggregate-run-words : tie.Need-slice-aggregate-run-words
 slice-aggregate-run-words c = let l = c .before .before .split .ensures .1 in let n = c .before .before .split .ensures .0 in sym (length-take-le _ _ (omega arith))
 
 run-words-requires : tie.Need-run-words-requires
-run-words-requires c κs = let n = c .before .before .before .split .ensures .0 in (rw length-take (omega arith), trimmed-splits (c .before .before .before .before .before .before .before .before .before .args .line .now) _ _ (c .before .before .before .before .before .trim .ensures) (c .before .before .before .split .ensures .2))
+run-words-requires c κs = let n = c .before .before .before .split .ensures .0 in (rw length-take (omega arith), trimmed-splits (c .before .before .before .before .before .before .before .before .before .args .line .now) _ _ (c .before .before .before .before .before .trim .ensures) (c .before .before .before .split .ensures .2), c .before .before .before .split .ensures .3)
 
 same-length : tie.Need-same-length
 same-length c = search needs

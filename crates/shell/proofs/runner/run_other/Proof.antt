@@ -4,7 +4,7 @@ use native.Mathlib.Omega.{arith}
 use lib.ListN.{length-drop, length}
 use Rattle.tree.specs.Images.{framesOf}
 use Rattle.buffer.specs.Ascii.{ascii}
-use Rattle.shell.proofs.Answering.{said-same, said-nothing}
+use Rattle.shell.proofs.WrittenAnswers.{said-same, said-nothing}
 use Rattle.shell.proofs.Lines.{begins-is, other-help, other-blank, other-command}
 use borrow.Author.Needs.{needs}
 use Rattle.shell.proofs.runner.run_other.Statement.{statement}
@@ -40,7 +40,7 @@ unfolding ascii
 returns-2 c = said-same _ _ _ _ _ (other-blank (c .before .before .before .before .before .before .before .before .before .before .args .line .now) (framesOf (c .before .before .before .before .before .before .before .before .before .before .args .image .now)) (begins-is (c .before .before .before .before .before .before .before .before .before .before .args .line .now) _ _ (c .before .before .before .before .before .part .ensures) (c .before .before .before .same .ensures) ∙ c .before .before .if1 .left) (sym (c .before .is-blank .ensures) ∙ c .if2 .taken)) (said-nothing _)
 
 execute-command-requires : tie.Need-execute-command-requires
-execute-command-requires c κs = (c .before .before .before .before .before .before .before .before .before .before .before .pre .room, c .before .before .before .before .before .before .before .before .before .before .before .pre .good, c .before .before .before .before .before .before .before .before .before .before .before .pre .leads)
+execute-command-requires c κs = (c .before .before .before .before .before .before .before .before .before .before .before .pre .room, c .before .before .before .before .before .before .before .before .before .before .before .pre .good, c .before .before .before .before .before .before .before .before .before .before .before .pre .leads, c .before .before .before .before .before .before .before .before .before .before .before .pre .well)
 
 same-length-2 : tie.Need-same-length-2
 same-length-2 c = search needs

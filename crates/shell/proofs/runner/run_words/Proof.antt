@@ -2,7 +2,7 @@
 use mathlib.Core.Path.{sym, _∙_}
 use native.Mathlib.Omega.{arith}
 use Rattle.text.proofs.Prefix.{prefix-fits}
-use Rattle.shell.specs.Held.{Splits}
+use Rattle.shell.specs.Inner.{Splits}
 use Rattle.shell.proofs.Lines.{bad-tree, too-long, ill-formed, well-formed}
 use borrow.Author.Needs.{needs}
 use Rattle.shell.proofs.runner.run_words.Statement.{statement}
@@ -43,7 +43,7 @@ returns-3 c = ill-formed (c .before .before .before .before .before .before .bef
 
 handle-builtin-commands-requires : tie.Need-handle-builtin-commands-requires
 unfolding Splits
-handle-builtin-commands-requires c κs = let short = c .before .before .before .if1 .left in let p = prefix-fits (c .before .before .before .before .before .before .before .before .before .before .before .args .line .now) in let e = c .before .before .well-formed-prefix .ensures in let k = c .before .if2 .left in record { good = (sym (c .before .before .before .before .before .before .find-command .ensures .checked) ∙ c .before .before .before .before .enum-told .given .1); short = omega arith; whole = omega arith; room = c .before .before .before .before .before .before .before .before .before .before .before .pre .0; split = c .before .before .before .before .before .before .before .before .before .before .before .pre .1 (omega arith) (omega arith); leads = c .before .before .before .before .before .before .find-command .ensures .found (sym (c .before .before .before .before .before .before .find-command .ensures .checked) ∙ c .before .before .before .before .enum-told .given .1) }
+handle-builtin-commands-requires c κs = let short = c .before .before .before .if1 .left in let p = prefix-fits (c .before .before .before .before .before .before .before .before .before .before .before .args .line .now) in let e = c .before .before .well-formed-prefix .ensures in let k = c .before .if2 .left in record { good = (sym (c .before .before .before .before .before .before .find-command .ensures .checked) ∙ c .before .before .before .before .enum-told .given .1); short = omega arith; whole = omega arith; room = c .before .before .before .before .before .before .before .before .before .before .before .pre .0; split = c .before .before .before .before .before .before .before .before .before .before .before .pre .1 (omega arith) (omega arith); well = c .before .before .before .before .before .before .before .before .before .before .before .pre .2; leads = c .before .before .before .before .before .before .find-command .ensures .found (sym (c .before .before .before .before .before .before .find-command .ensures .checked) ∙ c .before .before .before .before .enum-told .given .1) }
 
 same-length-2 : tie.Need-same-length-2
 same-length-2 c = search needs

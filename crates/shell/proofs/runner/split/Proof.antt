@@ -2,8 +2,8 @@
 use mathlib.Core.Path.{refl, ap, _∙_}
 use native.Mathlib.Omega.{arith}
 use Rattle.frame.specs.Series.{textsIn}
-use Rattle.parse.proofs.Lines.{line-by, line-words, line-texts}
-use Rattle.shell.proofs.Lines.{words-there}
+use Rattle.parse.proofs.Lines.{line-by, line-split, line-words, line-texts}
+use Rattle.shell.proofs.Lines.{words-there, split-none}
 use borrow.Author.Needs.{needs}
 use Rattle.shell.proofs.runner.split.Statement.{statement}
 use Rattle.shell.proofs.runner.split.Tie as tie
@@ -18,13 +18,13 @@ same-length : tie.Need-same-length
 same-length c = search needs
 
 returns : tie.Need-returns
-returns c = (omega arith, search needs, λ h w. absurd (words-there (c .before .before .before .before .before .before .before .args .line .now) (c .before .before .before .tokenize .result) h w (line-by (c .before .before .before .before .before .before .before .args .line .now) _ _ _ (c .before .before .before .tokenize .ensures) (let e = c .before .before .before .before .before .before .before .pre in (omega arith, λ l. omega arith)) _ refl) (c .match .keys2)))
+returns c = (omega arith, search needs, λ h w. absurd (words-there (c .before .before .before .before .before .before .before .args .line .now) (c .before .before .before .tokenize .result) h w (line-by (c .before .before .before .before .before .before .before .args .line .now) _ _ _ (c .before .before .before .tokenize .ensures) (let e = c .before .before .before .before .before .before .before .pre in (omega arith, λ l. omega arith)) _ refl) (c .match .keys2)), split-none)
 
 same-length-2 : tie.Need-same-length-2
 same-length-2 c = search needs
 
 returns-2 : tie.Need-returns-2
-returns-2 c = let t = line-by (c .before .before .before .before .before .before .before .before .before .args .line .now) _ _ _ (c .before .before .before .before .before .tokenize .ensures) (let e = c .before .before .before .before .before .before .before .before .before .pre in (omega arith, λ l. omega arith)) _ (c .before .n .given .1) in (let a = t .2 in let b = t .3 in omega arith, search needs, λ h w. ap textsIn (line-words (c .before .before .before .before .before .before .before .before .before .args .line .now) _ _ _ (c .before .before .before .before .before .tokenize .ensures) (let e = c .before .before .before .before .before .before .before .before .before .pre in (omega arith, λ l. omega arith)) _ (c .before .n .given .1)) ∙ line-texts (c .before .before .before .before .before .before .before .before .before .args .line .now) (t .2))
+returns-2 c = let t = line-by (c .before .before .before .before .before .before .before .before .before .args .line .now) _ _ _ (c .before .before .before .before .before .tokenize .ensures) (let e = c .before .before .before .before .before .before .before .before .before .pre in (omega arith, λ l. omega arith)) _ (c .before .n .given .1) in (let a = t .2 in let b = t .3 in omega arith, search needs, λ h w. ap textsIn (line-words (c .before .before .before .before .before .before .before .before .before .args .line .now) _ _ _ (c .before .before .before .before .before .tokenize .ensures) (let e = c .before .before .before .before .before .before .before .before .before .pre in (omega arith, λ l. omega arith)) _ (c .before .n .given .1)) ∙ line-texts (c .before .before .before .before .before .before .before .before .before .args .line .now) (t .2), rw (line-words (c .before .before .before .before .before .before .before .before .before .args .line .now) _ _ _ (c .before .before .before .before .before .tokenize .ensures) (let e = c .before .before .before .before .before .before .before .before .before .pre in (omega arith, λ l. omega arith)) _ (c .before .n .given .1)) (line-split (c .before .before .before .before .before .before .before .before .before .args .line .now) (t .2)))
 
 pub split-spec : {M : Type 1} → statement M
 split-spec =

@@ -5,9 +5,9 @@ use native.Mathlib.Omega.{arith}
 use borrow.Author.Needs.{needs}
 use lib.ListN.{length-take, length, take}
 use lib.Seq.{length-take-le}
-use Rattle.arguments.specs.Held.{foundOf}
-use Rattle.shell.proofs.Answering.{said-same}
-use Rattle.shell.proofs.Telling.{lacking-carried, handed-carried}
+use Rattle.arguments.specs.Inner.{foundOf}
+use Rattle.shell.proofs.WrittenAnswers.{said-same}
+use Rattle.shell.proofs.JudgedCarried.{lacking-carried, handed-carried}
 use Rattle.shell.proofs.runner.tell_command.Statement.{statement}
 use Rattle.shell.proofs.runner.tell_command.Tie as tie
 
@@ -21,7 +21,7 @@ slice-aggregate-show-no-handler : tie.Need-slice-aggregate-show-no-handler
 slice-aggregate-show-no-handler c = sym (length-take-le _ (c .before .before .before .before .before .before .before .before .args .words .now) (c .before .before .before .before .before .before .before .before .pre .0 .passed))
 
 show-no-handler-requires : tie.Need-show-no-handler-requires
-show-no-handler-requires c κs = let z = c .before .before .before .before .before .before .before .before .before .pre .3 in let g : length (take (c .before .before .before .before .before .before .before .before .before .args .judged .place .at) (c .before .before .before .before .before .before .before .before .before .args .words .now)) ≤ 4096 = rw length-take (omega arith) in g
+show-no-handler-requires c κs = let z = c .before .before .before .before .before .before .before .before .before .pre .3 in let g : length (take (c .before .before .before .before .before .before .before .before .before .args .judged .place .at) (c .before .before .before .before .before .before .before .before .before .args .words .now)) ≤ 4096 = rw length-take (omega arith) in (g, c .before .before .before .before .before .before .before .before .before .pre .5 .path)
 
 shown-requires : tie.Need-shown-requires
 shown-requires c κs = search needs
@@ -52,7 +52,7 @@ write-report-requires c κs =
     let l = c .before .before .before .before .before .before .before .before .before .before .before .before .before .before .before .pre .2 in
     let z = c .before .before .before .before .before .before .before .before .before .before .before .before .before .before .before .pre .3 in
     let g : length (take (c .before .before .before .before .before .before .before .before .before .before .before .before .before .before .before .args .judged .place .at) (c .before .before .before .before .before .before .before .before .before .before .before .before .before .before .before .args .words .now)) + length (take (c .before .before .before .before .before .before .before .before .before .before .before .before .before .before .before .args .judged .scan .kept) (c .before .before .before .before .before .before .before .before .before .before .before .before .before .before .before .args .rest .now)) < 0x8000000000000000 = rw (length-take, length-take) (omega arith) in
-    g
+    (g, c .before .before .before .before .before .before .before .before .before .before .before .before .before .before .before .pre .5 .path, c .before .before .before .before .before .before .before .before .before .before .before .before .before .before .before .pre .5 .positionals)
 
 called-requires : tie.Need-called-requires
 called-requires c κs = search needs

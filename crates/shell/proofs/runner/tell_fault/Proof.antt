@@ -6,10 +6,10 @@ use borrow.Author.Needs.{needs}
 use lib.ListN.{length}
 use Rattle.tree.proofs.Trails.{part-most}
 use Rattle.tree.specs.Trails.{imagePart}
-use Rattle.parse.proofs.Tellings.{text-short}
-use Rattle.parse.specs.Held.{textOf}
-use Rattle.shell.proofs.Answering.{said-same}
-use Rattle.shell.proofs.Telling.{number-small, dashed-short, fault-carried, plain-carried}
+use Rattle.parse.proofs.OutcomesTold.{text-short}
+use Rattle.parse.specs.Inner.{textOf}
+use Rattle.shell.proofs.WrittenAnswers.{said-same}
+use Rattle.shell.proofs.JudgedCarried.{number-small, dashed-short, fault-carried, plain-carried}
 use Rattle.shell.proofs.runner.tell_fault.Statement.{statement}
 use Rattle.shell.proofs.runner.tell_fault.Tie as tie
 

@@ -1,5 +1,5 @@
 -- `table::entry` meets its contract: the numbers fit, so no sum wraps.
-use Rattle.table.specs.Held.{packed}
+use Rattle.table.specs.Inner.{packed}
 use borrow.Author.Needs.{needs}
 use Rattle.table.proofs.packing.entry.Statement.{statement}
 use Rattle.table.proofs.packing.entry.Tie as tie

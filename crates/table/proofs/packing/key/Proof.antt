@@ -1,21 +1,21 @@
 -- `table::key` meets its contract: the part lies in the words or in the image.
-use Rattle.table.proofs.Parts.{in-words, in-image}
+use Rattle.table.proofs.PackedPlaces.{in-words, in-image}
 use borrow.Author.Needs.{needs}
 use mathlib.Core.Path.{_∙_}
 use Rattle.table.proofs.packing.key.Statement.{statement}
 use Rattle.table.proofs.packing.key.Tie as tie
 
-part-of-requires : tie.Need-part-of-requires
-part-of-requires c κs = search needs
+part-requires : tie.Need-part-requires
+part-requires c κs = search needs
 
-part-of-requires-2 : tie.Need-part-of-requires-2
-part-of-requires-2 c κs = search needs
+part-requires-2 : tie.Need-part-requires-2
+part-requires-2 c κs = search needs
 
 returns : tie.Need-returns
-returns c = c .part-of .ensures ∙ in-words (c .before .before .before .before .args .words .now) (c .before .before .before .before .args .image .now) (c .before .before .before .before .args .e) (c .before .if1 .taken)
+returns c = c .part .ensures ∙ in-words (c .before .before .before .before .args .words .now) (c .before .before .before .before .args .image .now) (c .before .before .before .before .args .e) (c .before .if1 .taken)
 
 returns-2 : tie.Need-returns-2
-returns-2 c = c .part-of2 .ensures ∙ in-image (c .before .before .before .before .args .words .now) (c .before .before .before .before .args .image .now) (c .before .before .before .before .args .e) (c .before .if1 .left)
+returns-2 c = c .part2 .ensures ∙ in-image (c .before .before .before .before .args .words .now) (c .before .before .before .before .args .image .now) (c .before .before .before .before .args .e) (c .before .if1 .left)
 
 pub key-spec : {M : Type 1} → statement M
-key-spec = tie.close (tie.spec part-of-requires part-of-requires-2 returns returns-2)
+key-spec = tie.close (tie.spec part-requires part-requires-2 returns returns-2)

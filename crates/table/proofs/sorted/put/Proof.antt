@@ -2,7 +2,7 @@
 use mathlib.Core.Path.{refl, _∙_}
 use native.Mathlib.Omega.{arith}
 use lib.ListN.{length-set}
-use Rattle.table.specs.Held.{tabled}
+use Rattle.table.specs.Inner.{tabled}
 use Rattle.table.proofs.Putting.{found-at, here-below, here-put, gap-low, gap-put, gap-full}
 use borrow.Author.Needs.{needs}
 use Rattle.table.proofs.sorted.put.Statement.{statement}

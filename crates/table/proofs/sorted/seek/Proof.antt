@@ -1,7 +1,6 @@
 -- `table::sorted::seek` meets its contract. The keys passed are less: what is found in the rest is found in the whole.
-use Rattle.table.specs.Held.{tabled, mapOf, sizeOf}
-use Rattle.table.specs.Seek.{seekFrom}
-use Rattle.table.proofs.Views.{size-tabled, seek-end, seek-turn}
+use Rattle.table.specs.Inner.{tabled, mapOf, sizeOf, seekFrom}
+use Rattle.table.proofs.TableMaps.{size-tabled, seek-end, seek-turn}
 use borrow.Author.Needs.{needs}
 use native.Mathlib.Omega.{arith}
 use Prim.Native.Nat.{_≤_, _<_, _-_}

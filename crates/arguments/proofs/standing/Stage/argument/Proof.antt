@@ -7,14 +7,13 @@ use lib.ListN.{length, take, drop}
 use Rattle.text.specs.Decoding.{codesIn}
 use Rattle.frame.specs.Text.{Bytes}
 use Rattle.frame.proofs.Series.{word-within, word-length, frame-is}
-use Rattle.table.specs.Held.{partOf}
-use Rattle.arguments.specs.Meanings.{definitionsAt}
+use Rattle.table.specs.Inner.{partOf}
+use Rattle.arguments.specs.Inner.{definitionsAt, stored, foundOf, held}
 use Rattle.arguments.specs.Forms.{longForm}
 use Rattle.arguments.specs.Arguments.{Stand, go, formStep, shortSteps}
-use Rattle.arguments.specs.Held.{stored, foundOf, held}
 use Rattle.arguments.specs.declared.standing.Progress.the-variants.{Going}
 use Rattle.arguments.proofs.Steps.{stand-by}
-use Rattle.arguments.proofs.Walks.{word-behind, form-short, form-plain, form-long, form-shorts, kept-as, stepped-as, kept-stepped, moved-stepped}
+use Rattle.arguments.proofs.Walks.{word-after, letters-formed, form-short, form-plain, form-long, form-shorts, kept-as, stepped-as, kept-stepped, moved-stepped}
 use borrow.Author.Needs.{needs}
 use Rattle.arguments.proofs.Moves.{fit-as}
 use Rattle.arguments.proofs.standing.Stage.argument.Statement.{statement}
@@ -126,7 +125,7 @@ same-length-4 c = search needs
 returns-3 : tie.Need-returns-3
 returns-3 c = (
   moved-stepped (c .before .before .before .before .before .before .before .before .before .before .before .before .before .before .before .before .before .args .words .now) (c .before .before .before .before .before .before .before .before .before .before .before .before .before .before .before .before .before .args .image .now) (c .before .before .before .before .before .before .before .before .before .before .before .before .before .before .before .before .before .args .rest .now) (held (c .before .before .before .before .before .before .before .before .before .before .before .before .before .before .before .before .before .args .options .now) (c .before .before .before .before .before .before .before .before .before .before .before .before .before .before .before .before .before .args .flags .now) (c .before .before .before .before .before .before .before .before .before .before .before .before .before .before .before .before .before .args .self)) _ _ _ _ (c .before .before .before .before .before .before .before .before .before .before .before .before .before .before .before .before .before .pre .1 .0) (c .before .before .before .before .long .ensures .0 (partOf (c .before .before .before .before .before .before .before .before .before .before .before .before .before .before .before .before .before .args .words .now) (c .before .before .before .before .before .before .before .before .before .before .before .before .before .before .before .before .before .args .at + 3) (c .before .before .before .before .before .before .before .before .before .before .before .before .before .before .before .before .before .args .bytes)))
-      (ap (λ (x : List ℕ). formStep stored (definitionsAt (c .before .before .before .before .before .before .before .before .before .before .before .before .before .before .before .before .before .args .image .now) (c .before .before .before .before .before .before .before .before .before .before .before .before .before .before .before .before .before .args .from)) (foundOf (c .before .before .before .before .before .before .before .before .before .before .before .before .before .before .before .before .before .args .words .now) (c .before .before .before .before .before .before .before .before .before .before .before .before .before .before .before .before .before .args .image .now) (c .before .before .before .before .before .before .before .before .before .before .before .before .before .before .before .before .before .args .rest .now) (held (c .before .before .before .before .before .before .before .before .before .before .before .before .before .before .before .before .before .args .options .now) (c .before .before .before .before .before .before .before .before .before .before .before .before .before .before .before .before .before .args .flags .now) (c .before .before .before .before .before .before .before .before .before .before .before .before .before .before .before .before .before .args .self))) (partOf (c .before .before .before .before .before .before .before .before .before .before .before .before .before .before .before .before .before .args .words .now) (c .before .before .before .before .before .before .before .before .before .before .before .before .before .before .before .before .before .args .at + 3) (c .before .before .before .before .before .before .before .before .before .before .before .before .before .before .before .before .before .args .bytes)) (longForm x)) (word-behind (c .before .before .before .before .before .before .before .before .before .before .before .before .before .before .before .before .before .args .words .now) (c .before .before .before .before .before .before .before .before .before .before .before .before .before .before .before .before .before .args .at) (c .before .before .before .before .before .before .before .before .before .before .before .before .before .before .before .before .before .pre .0 .1 .0) (c .before .before .before .before .before .before .before .before .before .before .before .before .before .before .before .before .before .args .bytes) (c .before .before .before .before .before .before .before .before .before .before .before .before .before .before .before .before .before .pre .0 .1 .1) 2)
+      (ap (λ (x : List ℕ). formStep stored (definitionsAt (c .before .before .before .before .before .before .before .before .before .before .before .before .before .before .before .before .before .args .image .now) (c .before .before .before .before .before .before .before .before .before .before .before .before .before .before .before .before .before .args .from)) (foundOf (c .before .before .before .before .before .before .before .before .before .before .before .before .before .before .before .before .before .args .words .now) (c .before .before .before .before .before .before .before .before .before .before .before .before .before .before .before .before .before .args .image .now) (c .before .before .before .before .before .before .before .before .before .before .before .before .before .before .before .before .before .args .rest .now) (held (c .before .before .before .before .before .before .before .before .before .before .before .before .before .before .before .before .before .args .options .now) (c .before .before .before .before .before .before .before .before .before .before .before .before .before .before .before .before .before .args .flags .now) (c .before .before .before .before .before .before .before .before .before .before .before .before .before .before .before .before .before .args .self))) (partOf (c .before .before .before .before .before .before .before .before .before .before .before .before .before .before .before .before .before .args .words .now) (c .before .before .before .before .before .before .before .before .before .before .before .before .before .before .before .before .before .args .at + 3) (c .before .before .before .before .before .before .before .before .before .before .before .before .before .before .before .before .before .args .bytes)) (longForm x)) (word-after (c .before .before .before .before .before .before .before .before .before .before .before .before .before .before .before .before .before .args .words .now) (c .before .before .before .before .before .before .before .before .before .before .before .before .before .before .before .before .before .args .at) (c .before .before .before .before .before .before .before .before .before .before .before .before .before .before .before .before .before .pre .0 .1 .0) (c .before .before .before .before .before .before .before .before .before .before .before .before .before .before .before .before .before .args .bytes) (c .before .before .before .before .before .before .before .before .before .before .before .before .before .before .before .before .before .pre .0 .1 .1) 2)
       ∙ sym (ap (formStep stored (definitionsAt (c .before .before .before .before .before .before .before .before .before .before .before .before .before .before .before .before .before .args .image .now) (c .before .before .before .before .before .before .before .before .before .before .before .before .before .before .before .before .before .args .from)) (foundOf (c .before .before .before .before .before .before .before .before .before .before .before .before .before .before .before .before .before .args .words .now) (c .before .before .before .before .before .before .before .before .before .before .before .before .before .before .before .before .before .args .image .now) (c .before .before .before .before .before .before .before .before .before .before .before .before .before .before .before .before .before .args .rest .now) (held (c .before .before .before .before .before .before .before .before .before .before .before .before .before .before .before .before .before .args .options .now) (c .before .before .before .before .before .before .before .before .before .before .before .before .before .before .before .before .before .args .flags .now) (c .before .before .before .before .before .before .before .before .before .before .before .before .before .before .before .before .before .args .self))) (partOf (c .before .before .before .before .before .before .before .before .before .before .before .before .before .before .before .before .before .args .words .now) (c .before .before .before .before .before .before .before .before .before .before .before .before .before .before .before .before .before .args .at + 3) (c .before .before .before .before .before .before .before .before .before .before .before .before .before .before .before .before .before .args .bytes))) (form-long (c .before .before .before .before .before .before .before .before .before .before .before .before .before .before .before .before .before .args .words .now) (c .before .before .before .before .before .before .before .before .before .before .before .before .before .before .before .before .before .args .at) (c .before .before .before .before .before .before .before .before .before .before .before .before .before .before .before .before .before .pre .0 .1 .0) (c .before .before .before .before .before .before .before .before .before .before .before .before .before .before .before .before .before .args .bytes) (c .before .before .before .before .before .before .before .before .before .before .before .before .before .before .before .before .before .pre .0 .1 .1) (c .before .before .before .before .before .before .before .before .before .before .before .if1 .left) (c .before .before .before .before .before .before .before .before .before .if2 .left) (c .before .before .before .before .before .before .before .if3 .taken)))),
   c .before .before .before .before .long .ensures .1,
   c .before .before .before .before .long .ensures .2,
@@ -141,7 +140,7 @@ add-shorts c =
 shorts-requires : tie.Need-shorts-requires
 shorts-requires c κs =
     let h = word-within (c .before .before .before .before .before .before .before .before .before .before .before .args .words .now) (c .before .before .before .before .before .before .before .before .before .before .before .args .at) (c .before .before .before .before .before .before .before .before .before .before .before .pre .0 .1 .0) (c .before .before .before .before .before .before .before .before .before .before .before .args .bytes) (c .before .before .before .before .before .before .before .before .before .before .before .pre .0 .1 .1) in
-    (c .before .before .before .before .before .before .before .before .before .before .before .pre .0 .0, omega arith, omega arith, c .before .before .before .before .before .before .before .before .before .before .before .pre .1 .0 .small, c .before .before .before .before .before .before .before .before .before .before .before .pre .1 .4)
+    (c .before .before .before .before .before .before .before .before .before .before .before .pre .0 .0, omega arith, omega arith, c .before .before .before .before .before .before .before .before .before .before .before .pre .1 .0 .small, c .before .before .before .before .before .before .before .before .before .before .before .pre .1 .4, letters-formed (c .before .before .before .before .before .before .before .before .before .before .before .args .words .now) (c .before .before .before .before .before .before .before .before .before .before .before .args .at) (c .before .before .before .before .before .before .before .before .before .before .before .pre .0 .1 .0) (c .before .before .before .before .before .before .before .before .before .before .before .args .bytes) (c .before .before .before .before .before .before .before .before .before .before .before .pre .0 .1 .1) (c .before .before .before .before .before .before .before .before .before .before .before .pre .0 .2) (c .before .before .before .before .before .if1 .left) (c .before .before .before .if2 .left))
 
 same-length-5 : tie.Need-same-length-5
 same-length-5 c = search needs
@@ -150,7 +149,7 @@ returns-4 : tie.Need-returns-4
 returns-4 c = (
   moved-stepped (c .before .before .before .before .before .before .before .before .before .before .before .before .before .before .args .words .now) (c .before .before .before .before .before .before .before .before .before .before .before .before .before .before .args .image .now) (c .before .before .before .before .before .before .before .before .before .before .before .before .before .before .args .rest .now) (held (c .before .before .before .before .before .before .before .before .before .before .before .before .before .before .args .options .now) (c .before .before .before .before .before .before .before .before .before .before .before .before .before .before .args .flags .now) (c .before .before .before .before .before .before .before .before .before .before .before .before .before .before .args .self)) _ _ _ _ (c .before .before .before .before .before .before .before .before .before .before .before .before .before .before .pre .1 .0) (c .before .before .shorts .ensures .0 _)
       (ap (λ (a : Stand). shortSteps stored (definitionsAt (c .before .before .before .before .before .before .before .before .before .before .before .before .before .before .args .image .now) (c .before .before .before .before .before .before .before .before .before .before .before .before .before .before .args .from)) a (codesIn (take (c .before .before .before .before .before .before .before .before .before .before .before .before .before .before .args .at + 3 + c .before .before .before .before .before .before .before .before .before .before .before .before .before .before .args .bytes - (c .before .before .before .before .before .before .before .before .before .before .before .before .before .before .args .at + 3 + 1)) (drop (c .before .before .before .before .before .before .before .before .before .before .before .before .before .before .args .at + 3 + 1) (c .before .before .before .before .before .before .before .before .before .before .before .before .before .before .args .words .now))))) (stand-by (c .before .before .before .before .before .before .before .before .before .before .before .before .before .before .args .words .now) (c .before .before .before .before .before .before .before .before .before .before .before .before .before .before .args .image .now) (c .before .before .before .before .before .before .before .before .before .before .before .before .before .before .args .rest .now) (held (c .before .before .before .before .before .before .before .before .before .before .before .before .before .before .args .options .now) (c .before .before .before .before .before .before .before .before .before .before .before .before .before .before .args .flags .now) (c .before .before .before .before .before .before .before .before .before .before .before .before .before .before .args .self)) Going (c .before .before .before .before .before .before .before .before .before .before .before .before .before .before .pre .1 .1))
-      ∙ ap (λ (x : List ℕ). shortSteps stored (definitionsAt (c .before .before .before .before .before .before .before .before .before .before .before .before .before .before .args .image .now) (c .before .before .before .before .before .before .before .before .before .before .before .before .before .before .args .from)) (go (foundOf (c .before .before .before .before .before .before .before .before .before .before .before .before .before .before .args .words .now) (c .before .before .before .before .before .before .before .before .before .before .before .before .before .before .args .image .now) (c .before .before .before .before .before .before .before .before .before .before .before .before .before .before .args .rest .now) (held (c .before .before .before .before .before .before .before .before .before .before .before .before .before .before .args .options .now) (c .before .before .before .before .before .before .before .before .before .before .before .before .before .before .args .flags .now) (c .before .before .before .before .before .before .before .before .before .before .before .before .before .before .args .self)))) (codesIn x)) (word-behind (c .before .before .before .before .before .before .before .before .before .before .before .before .before .before .args .words .now) (c .before .before .before .before .before .before .before .before .before .before .before .before .before .before .args .at) (c .before .before .before .before .before .before .before .before .before .before .before .before .before .before .pre .0 .1 .0) (c .before .before .before .before .before .before .before .before .before .before .before .before .before .before .args .bytes) (c .before .before .before .before .before .before .before .before .before .before .before .before .before .before .pre .0 .1 .1) 1)
+      ∙ ap (λ (x : List ℕ). shortSteps stored (definitionsAt (c .before .before .before .before .before .before .before .before .before .before .before .before .before .before .args .image .now) (c .before .before .before .before .before .before .before .before .before .before .before .before .before .before .args .from)) (go (foundOf (c .before .before .before .before .before .before .before .before .before .before .before .before .before .before .args .words .now) (c .before .before .before .before .before .before .before .before .before .before .before .before .before .before .args .image .now) (c .before .before .before .before .before .before .before .before .before .before .before .before .before .before .args .rest .now) (held (c .before .before .before .before .before .before .before .before .before .before .before .before .before .before .args .options .now) (c .before .before .before .before .before .before .before .before .before .before .before .before .before .before .args .flags .now) (c .before .before .before .before .before .before .before .before .before .before .before .before .before .before .args .self)))) (codesIn x)) (word-after (c .before .before .before .before .before .before .before .before .before .before .before .before .before .before .args .words .now) (c .before .before .before .before .before .before .before .before .before .before .before .before .before .before .args .at) (c .before .before .before .before .before .before .before .before .before .before .before .before .before .before .pre .0 .1 .0) (c .before .before .before .before .before .before .before .before .before .before .before .before .before .before .args .bytes) (c .before .before .before .before .before .before .before .before .before .before .before .before .before .before .pre .0 .1 .1) 1)
       ∙ sym (ap (formStep stored (definitionsAt (c .before .before .before .before .before .before .before .before .before .before .before .before .before .before .args .image .now) (c .before .before .before .before .before .before .before .before .before .before .before .before .before .before .args .from)) (foundOf (c .before .before .before .before .before .before .before .before .before .before .before .before .before .before .args .words .now) (c .before .before .before .before .before .before .before .before .before .before .before .before .before .before .args .image .now) (c .before .before .before .before .before .before .before .before .before .before .before .before .before .before .args .rest .now) (held (c .before .before .before .before .before .before .before .before .before .before .before .before .before .before .args .options .now) (c .before .before .before .before .before .before .before .before .before .before .before .before .before .before .args .flags .now) (c .before .before .before .before .before .before .before .before .before .before .before .before .before .before .args .self))) (partOf (c .before .before .before .before .before .before .before .before .before .before .before .before .before .before .args .words .now) (c .before .before .before .before .before .before .before .before .before .before .before .before .before .before .args .at + 3) (c .before .before .before .before .before .before .before .before .before .before .before .before .before .before .args .bytes))) (form-shorts (c .before .before .before .before .before .before .before .before .before .before .before .before .before .before .args .words .now) (c .before .before .before .before .before .before .before .before .before .before .before .before .before .before .args .at) (c .before .before .before .before .before .before .before .before .before .before .before .before .before .before .pre .0 .1 .0) (c .before .before .before .before .before .before .before .before .before .before .before .before .before .before .args .bytes) (c .before .before .before .before .before .before .before .before .before .before .before .before .before .before .pre .0 .1 .1) (c .before .before .before .before .before .before .before .before .if1 .left) (c .before .before .before .before .before .before .if2 .left) (c .before .before .before .before .if3 .left)))),
   fit-as _ _ _ (c .before .before .shorts .ensures .2) (c .before .before .before .before .before .before .before .before .before .before .before .before .before .before .pre .1 .3),
   c .before .before .shorts .ensures .1,

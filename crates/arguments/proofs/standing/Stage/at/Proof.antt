@@ -1,7 +1,7 @@
 -- `arguments::standing::Stage::at` meets its contract: only the progress is another.
 use Rattle.arguments.proofs.Moves.{moved-on}
 use mathlib.Core.Path.{refl}
-use Rattle.arguments.specs.Held.{held}
+use Rattle.arguments.specs.Inner.{held}
 use Rattle.arguments.proofs.standing.Stage.at.Statement.{statement}
 use Rattle.arguments.proofs.standing.Stage.at.Tie as tie
 

@@ -1,7 +1,7 @@
--- `arguments::standing::Stage::keep` meets its contract: the frame stands behind those that are kept.
-use Rattle.arguments.proofs.Moves.{kept-behind}
+-- `arguments::standing::Stage::keep` meets its contract: the frame stands after those that are kept.
+use Rattle.arguments.proofs.Moves.{kept-after}
 use mathlib.Core.Path.{refl}
-use Rattle.arguments.specs.Held.{held}
+use Rattle.arguments.specs.Inner.{held}
 use borrow.Author.Needs.{needs}
 use Rattle.arguments.proofs.standing.Stage.keep.Statement.{statement}
 use Rattle.arguments.proofs.standing.Stage.keep.Tie as tie
@@ -13,7 +13,7 @@ same-length : tie.Need-same-length
 same-length c = search needs
 
 returns : tie.Need-returns
-returns c = (λ o f. kept-behind _ _ _ (held o f (c .before .before .before .before .before .before .args .self)) _ (c .before .before .before .before .before .before .pre) (c .before .before .push .ensures), refl, refl)
+returns c = (λ o f. kept-after _ _ _ (held o f (c .before .before .before .before .before .before .args .self)) _ (c .before .before .before .before .before .before .pre) (c .before .before .push .ensures), refl, refl)
 
 pub keep-spec : {M : Type 1} → statement M
 keep-spec = tie.close (tie.spec push-requires same-length returns)

@@ -5,10 +5,9 @@ use lib.ListN.{length, take, drop}
 use lib.Seq.{length-take-le}
 use Rattle.frame.specs.Text.{Bytes}
 use Rattle.lookup.specs.Definitions.{hasKey}
-use Rattle.arguments.specs.Meanings.{definitionsAt}
+use Rattle.arguments.specs.Inner.{definitionsAt, held}
 use Rattle.arguments.proofs.Meanings.{flag-meant, option-meant, nothing-meant, is-option, no-option}
-use Rattle.arguments.proofs.Steps.{long-valued, long-valued-unknown, long-flag, long-option, long-unknown, piece-front, piece-whole, piece-behind}
-use Rattle.arguments.specs.Held.{held}
+use Rattle.arguments.proofs.Steps.{long-valued, long-valued-unknown, long-flag, long-option, long-unknown, piece-front, piece-whole, piece-after}
 use Rattle.arguments.proofs.Moves.{fit-as}
 use borrow.Author.Needs.{needs}
 use Rattle.arguments.proofs.standing.Stage.long.Statement.{statement}
@@ -71,7 +70,7 @@ returns-2 : tie.Need-returns-2
 unfolding Bytes
 returns-2 c = (
   λ w.
-      long-valued (c .before .before .before .before .before .before .before .before .before .before .before .before .before .before .before .args .words .now) (c .before .before .before .before .before .before .before .before .before .before .before .before .before .before .before .args .image .now) (held (c .before .before .before .before .before .before .before .before .before .before .before .before .before .before .before .args .options .now) (c .before .before .before .before .before .before .before .before .before .before .before .before .before .before .before .args .flags .now) (c .before .before .before .before .before .before .before .before .before .before .before .before .before .before .before .args .self)) _ (definitionsAt (c .before .before .before .before .before .before .before .before .before .before .before .before .before .before .before .args .image .now) (c .before .before .before .before .before .before .before .before .before .before .before .before .before .before .before .args .from)) w (take (c .before .before .before .before .before .before .before .before .before .before .before .before .before .before .before .args .end - c .before .before .before .before .before .before .before .before .before .before .before .before .before .before .before .args .start) (drop (c .before .before .before .before .before .before .before .before .before .before .before .before .before .before .before .args .start) (c .before .before .before .before .before .before .before .before .before .before .before .before .before .before .before .args .words .now))) (c .before .before .before .before .before .before .before .before .before .before .before .before .before .before .before .args .start) _ (c .before .before .before .before .before .before .before .before .before .before-equals .ensures .0) _ (c .before .before .with-option .ensures .0 _) (c .before .before .before .before .before .before .before .before .if1 .taken) (is-option _ (c .before .before .before .before .before .before .before .before .before .before .before .before .before .before .before .args .image .now) (c .before .before .before .before .before .before .before .before .before .before .before .before .before .before .before .args .from) _ (λ i. c .before .before .before .before .before .before .before .before .before .before .before .before .before .shared-slice-known2 .given i .fits) (sym (c .before .before .before .before .before .before .option-of .ensures) ∙ c .before .before .before .before .enum-told .given .1)) (c .before .before .before .before .before .before .before .before .before .before .before .before .before .before .before .args .start + c .before .before .before .before .before .before .before .before .before .before-equals .result + 1) (length (take (c .before .before .before .before .before .before .before .before .before .before .before .before .before .before .before .args .end - c .before .before .before .before .before .before .before .before .before .before .before .before .before .before .before .args .start) (drop (c .before .before .before .before .before .before .before .before .before .before .before .before .before .before .before .args .start) (c .before .before .before .before .before .before .before .before .before .before .before .before .before .before .before .args .words .now))) - c .before .before .before .before .before .before .before .before .before .before-equals .result - 1) (piece-front (c .before .before .before .before .before .before .before .before .before .before .before .before .before .before .before .args .words .now) (c .before .before .before .before .before .before .before .before .before .before .before .before .before .before .before .args .start) (c .before .before .before .before .before .before .before .before .before .before .before .before .before .before .before .args .end) (c .before .before .before .before .before .before .before .before .before .before .before .before .before .before .before .pre .1) (c .before .before .before .before .before .before .before .before .before .before .before .before .before .before .before .pre .2) _ (c .before .before .before .before .before .before .before .before .before .before-equals .ensures .1)) (piece-behind (c .before .before .before .before .before .before .before .before .before .before .before .before .before .before .before .args .words .now) (c .before .before .before .before .before .before .before .before .before .before .before .before .before .before .before .args .start) (c .before .before .before .before .before .before .before .before .before .before .before .before .before .before .before .args .end) (c .before .before .before .before .before .before .before .before .before .before .before .before .before .before .before .pre .1) (c .before .before .before .before .before .before .before .before .before .before .before .before .before .before .before .pre .2) _ (c .before .before .before .before .before .before .before .before .if1 .taken)) (λ rest. refl),
+      long-valued (c .before .before .before .before .before .before .before .before .before .before .before .before .before .before .before .args .words .now) (c .before .before .before .before .before .before .before .before .before .before .before .before .before .before .before .args .image .now) (held (c .before .before .before .before .before .before .before .before .before .before .before .before .before .before .before .args .options .now) (c .before .before .before .before .before .before .before .before .before .before .before .before .before .before .before .args .flags .now) (c .before .before .before .before .before .before .before .before .before .before .before .before .before .before .before .args .self)) _ (definitionsAt (c .before .before .before .before .before .before .before .before .before .before .before .before .before .before .before .args .image .now) (c .before .before .before .before .before .before .before .before .before .before .before .before .before .before .before .args .from)) w (take (c .before .before .before .before .before .before .before .before .before .before .before .before .before .before .before .args .end - c .before .before .before .before .before .before .before .before .before .before .before .before .before .before .before .args .start) (drop (c .before .before .before .before .before .before .before .before .before .before .before .before .before .before .before .args .start) (c .before .before .before .before .before .before .before .before .before .before .before .before .before .before .before .args .words .now))) (c .before .before .before .before .before .before .before .before .before .before .before .before .before .before .before .args .start) _ (c .before .before .before .before .before .before .before .before .before .before-equals .ensures .0) _ (c .before .before .with-option .ensures .0 _) (c .before .before .before .before .before .before .before .before .if1 .taken) (is-option _ (c .before .before .before .before .before .before .before .before .before .before .before .before .before .before .before .args .image .now) (c .before .before .before .before .before .before .before .before .before .before .before .before .before .before .before .args .from) _ (λ i. c .before .before .before .before .before .before .before .before .before .before .before .before .before .shared-slice-known2 .given i .fits) (sym (c .before .before .before .before .before .before .option-of .ensures) ∙ c .before .before .before .before .enum-told .given .1)) (c .before .before .before .before .before .before .before .before .before .before .before .before .before .before .before .args .start + c .before .before .before .before .before .before .before .before .before .before-equals .result + 1) (length (take (c .before .before .before .before .before .before .before .before .before .before .before .before .before .before .before .args .end - c .before .before .before .before .before .before .before .before .before .before .before .before .before .before .before .args .start) (drop (c .before .before .before .before .before .before .before .before .before .before .before .before .before .before .before .args .start) (c .before .before .before .before .before .before .before .before .before .before .before .before .before .before .before .args .words .now))) - c .before .before .before .before .before .before .before .before .before .before-equals .result - 1) (piece-front (c .before .before .before .before .before .before .before .before .before .before .before .before .before .before .before .args .words .now) (c .before .before .before .before .before .before .before .before .before .before .before .before .before .before .before .args .start) (c .before .before .before .before .before .before .before .before .before .before .before .before .before .before .before .args .end) (c .before .before .before .before .before .before .before .before .before .before .before .before .before .before .before .pre .1) (c .before .before .before .before .before .before .before .before .before .before .before .before .before .before .before .pre .2) _ (c .before .before .before .before .before .before .before .before .before .before-equals .ensures .1)) (piece-after (c .before .before .before .before .before .before .before .before .before .before .before .before .before .before .before .args .words .now) (c .before .before .before .before .before .before .before .before .before .before .before .before .before .before .before .args .start) (c .before .before .before .before .before .before .before .before .before .before .before .before .before .before .before .args .end) (c .before .before .before .before .before .before .before .before .before .before .before .before .before .before .before .pre .1) (c .before .before .before .before .before .before .before .before .before .before .before .before .before .before .before .pre .2) _ (c .before .before .before .before .before .before .before .before .if1 .taken)) (λ rest. refl),
   c .before .before .with-option .ensures .1,
   fit-as _ _ _ (c .before .before .with-option .ensures .2) (c .before .before .before .before .before .before .before .before .before .before .before .before .before .before .before .pre .4),
 )

@@ -1,8 +1,7 @@
 -- `arguments::standing::Stage::short` meets its contract: a flag, an option that waits, or a fault, by what the character means.
 use mathlib.Core.Path.{refl, ap}
-use Rattle.arguments.specs.Held.{meansOf, stored, held}
+use Rattle.arguments.specs.Inner.{meansOf, stored, held, definitionsAt}
 use Rattle.arguments.specs.Arguments.{shortStep}
-use Rattle.arguments.specs.Meanings.{definitionsAt}
 use Rattle.arguments.proofs.Steps.{name-small, fault-stays, short-flag, short-option, short-unknown, short-missing}
 use Rattle.arguments.proofs.Moves.{fit-as}
 use borrow.Author.Needs.{needs}

@@ -3,21 +3,20 @@ use Prim.Native.Nat.{_+_, _-_, _≤_, ℕ}
 use mathlib.Core.Path.{sym, _∙_, _≡_, refl}
 use native.Mathlib.Omega.{arith}
 use mathlib.Core.List.{List}
-use Rattle.table.specs.Held.{Fit}
-use Rattle.arguments.specs.Held.{held}
+use Rattle.table.specs.Inner.{Fit}
+use Rattle.arguments.specs.Inner.{held, definitionsAt}
 use borrow.Author.Needs.{needs}
 use lib.ListN.{length, take, drop}
 use Rattle.text.proofs.Pieces.{character-fits, character-some}
-use Rattle.text.proofs.Prefix.{codes-end, codes-stop}
-use Rattle.arguments.specs.Meanings.{definitionsAt}
+use Rattle.text.specs.Decoding.{wellFormedLength}
+use Rattle.text.proofs.Prefix.{codes-end, prefix-turn}
 use Rattle.arguments.proofs.Steps.{piece-length}
-use Rattle.arguments.proofs.Walks.{ShortsAt, shorts-start, shorts-turn, shorts-end, letter-part}
+use Rattle.arguments.proofs.Walks.{ShortsAt, shorts-start, shorts-turn, shorts-end, letters-start, letter-begins, letter-part}
 use Rattle.arguments.proofs.standing.Stage.shorts.Statement.{statement}
 use Rattle.arguments.proofs.standing.Stage.shorts.Tie as tie
 
 abbrev Inv-loop : tie.InvT-loop
-Inv-loop words image flags₀ from start end letters stage₀ at₀ flags stage at =
-    ((o : List ℕ) → ShortsAt words image (definitionsAt image «from») letters (held o flags₀ stage₀) (held o flags stage) at) × Fit (stage .flags) flags × (stage .options ≡ stage₀ .options)
+Inv-loop words image flags₀ from start end letters stage₀ at₀ flags stage at = ((o : List ℕ) → ShortsAt words image (definitionsAt image «from») letters (held o flags₀ stage₀) (held o flags stage) at) × Fit (stage .flags) flags × (stage .options ≡ stage₀ .options) × (at + wellFormedLength (drop at letters) ≡ length letters)
 
 abbrev μ-loop : tie.MeasureT-loop
 μ-loop words image flags₀ from start end letters stage₀ at₀ flags stage at = length letters - at
@@ -32,7 +31,7 @@ part-letters-end : tie.Need-part-letters-end Inv-loop μ-loop
 part-letters-end c = search needs
 
 loop-holds : tie.Need-loop-holds Inv-loop μ-loop
-loop-holds c = (λ o. shorts-start (c .before .before .before .before .args .words .now) (c .before .before .before .before .args .image .now) (definitionsAt (c .before .before .before .before .args .image .now) (c .before .before .before .before .args .from)) (take (c .before .before .before .before .args .end - c .before .before .before .before .args .start) (drop (c .before .before .before .before .args .start) (c .before .before .before .before .args .words .now))) (held o (c .before .before .before .before .args .flags .now) (c .before .before .before .before .args .self)) (c .before .before .before .before .pre .3), c .before .before .before .before .pre .4, refl)
+loop-holds c = (λ o. shorts-start (c .before .before .before .before .args .words .now) (c .before .before .before .before .args .image .now) (definitionsAt (c .before .before .before .before .args .image .now) (c .before .before .before .before .args .from)) (take (c .before .before .before .before .args .end - c .before .before .before .before .args .start) (drop (c .before .before .before .before .args .start) (c .before .before .before .before .args .words .now))) (held o (c .before .before .before .before .args .flags .now) (c .before .before .before .before .args .self)) (c .before .before .before .before .pre .3), c .before .before .before .before .pre .4, refl, letters-start (take (c .before .before .before .before .args .end - c .before .before .before .before .args .start) (drop (c .before .before .before .before .args .start) (c .before .before .before .before .args .words .now))) (c .before .before .before .before .pre .5))
 
 decode-requires : tie.Need-decode-requires Inv-loop μ-loop
 decode-requires c κs = search needs
@@ -40,11 +39,17 @@ decode-requires c κs = search needs
 enum-known-code : tie.Need-enum-known-code Inv-loop μ-loop
 enum-known-code c = search needs
 
+sub-t20 : tie.Need-sub-t20 Inv-loop μ-loop
+sub-t20 c = search needs
+
+at-requires : tie.Need-at-requires Inv-loop μ-loop
+at-requires c κs = tt
+
 same-length : tie.Need-same-length Inv-loop μ-loop
-same-length c = c .before .before .before .loop .inv .1 .full ∙ sym (c .before .before .before .before .before .before .before .before .pre .4 .full)
+same-length c = c .before .before .before .before .loop .inv .1 .full ∙ sym (c .before .before .before .before .before .before .before .before .before .pre .4 .full)
 
 returns : tie.Need-returns Inv-loop μ-loop
-returns c = (λ o. shorts-end (c .before .before .before .before .before .before .before .before .args .words .now) (c .before .before .before .before .before .before .before .before .args .image .now) (definitionsAt (c .before .before .before .before .before .before .before .before .args .image .now) (c .before .before .before .before .before .before .before .before .args .from)) (take (c .before .before .before .before .before .before .before .before .args .end - c .before .before .before .before .before .before .before .before .args .start) (drop (c .before .before .before .before .before .before .before .before .args .start) (c .before .before .before .before .before .before .before .before .args .words .now))) (held o (c .before .before .before .before .before .before .before .before .args .flags .now) (c .before .before .before .before .before .before .before .before .args .self)) _ _ (c .before .before .before .loop .inv .0 o) (codes-stop _ _ (sym (c .before .decode .ensures)) (c .match .keys2)), c .before .before .before .loop .inv .1, c .before .before .before .loop .inv .2)
+returns c = absurd (letter-begins (take (c .before .before .before .before .before .before .before .before .before .args .end - c .before .before .before .before .before .before .before .before .before .args .start) (drop (c .before .before .before .before .before .before .before .before .before .args .start) (c .before .before .before .before .before .before .before .before .before .args .words .now))) (c .before .before .before .before .loop .at) _ (c .before .before .before .before .loop .inv .3) (c .before .before .before .loop-test .taken) (sym (c .before .before .decode .ensures)) (c .before .match .keys2))
 
 add-short : tie.Need-add-short Inv-loop μ-loop
 add-short c =
@@ -73,7 +78,7 @@ loop-less c =
     omega arith
 
 loop-again : tie.Need-loop-again Inv-loop μ-loop
-loop-again c = (λ o. shorts-turn (c .before .before .before .before .before .before .before .before .before .before .before .before .before .before .args .words .now) (c .before .before .before .before .before .before .before .before .before .before .before .before .before .before .args .image .now) (definitionsAt (c .before .before .before .before .before .before .before .before .before .before .before .before .before .before .args .image .now) (c .before .before .before .before .before .before .before .before .before .before .before .before .before .before .args .from)) (take (c .before .before .before .before .before .before .before .before .before .before .before .before .before .before .args .end - c .before .before .before .before .before .before .before .before .before .before .before .before .before .before .args .start) (drop (c .before .before .before .before .before .before .before .before .before .before .before .before .before .before .args .start) (c .before .before .before .before .before .before .before .before .before .before .before .before .before .before .args .words .now))) (held o (c .before .before .before .before .before .before .before .before .before .before .before .before .before .before .args .flags .now) (c .before .before .before .before .before .before .before .before .before .before .before .before .before .before .args .self)) _ _ _ _ _ (c .before .before .before .before .before .before .before .before .before .loop .inv .0 o) (sym (c .before .before .before .before .before .before .before .decode .ensures) ∙ c .before .before .before .before .before .code .given .1) (c .before .before .short .ensures .0 o), c .before .before .short .ensures .1, c .before .before .short .ensures .2 ∙ c .before .before .before .before .before .before .before .before .before .loop .inv .2)
+loop-again c = (λ o. shorts-turn (c .before .before .before .before .before .before .before .before .before .before .before .before .before .before .args .words .now) (c .before .before .before .before .before .before .before .before .before .before .before .before .before .before .args .image .now) (definitionsAt (c .before .before .before .before .before .before .before .before .before .before .before .before .before .before .args .image .now) (c .before .before .before .before .before .before .before .before .before .before .before .before .before .before .args .from)) (take (c .before .before .before .before .before .before .before .before .before .before .before .before .before .before .args .end - c .before .before .before .before .before .before .before .before .before .before .before .before .before .before .args .start) (drop (c .before .before .before .before .before .before .before .before .before .before .before .before .before .before .args .start) (c .before .before .before .before .before .before .before .before .before .before .before .before .before .before .args .words .now))) (held o (c .before .before .before .before .before .before .before .before .before .before .before .before .before .before .args .flags .now) (c .before .before .before .before .before .before .before .before .before .before .before .before .before .before .args .self)) _ _ _ _ _ (c .before .before .before .before .before .before .before .before .before .loop .inv .0 o) (sym (c .before .before .before .before .before .before .before .decode .ensures) ∙ c .before .before .before .before .before .code .given .1) (c .before .before .short .ensures .0 o), c .before .before .short .ensures .1, c .before .before .short .ensures .2 ∙ c .before .before .before .before .before .before .before .before .before .loop .inv .2, prefix-turn (take (c .before .before .before .before .before .before .before .before .before .before .before .before .before .before .args .end - c .before .before .before .before .before .before .before .before .before .before .before .before .before .before .args .start) (drop (c .before .before .before .before .before .before .before .before .before .before .before .before .before .before .args .start) (c .before .before .before .before .before .before .before .before .before .before .before .before .before .before .args .words .now))) (c .before .before .before .before .before .before .before .before .before .loop .at) _ _ _ (sym (c .before .before .before .before .before .before .before .decode .ensures) ∙ c .before .before .before .before .before .code .given .1) (c .before .before .before .before .before .before .before .before .before .loop .inv .3))
 
 same-length-2 : tie.Need-same-length-2 Inv-loop μ-loop
 same-length-2 c = c .before .loop .inv .1 .full ∙ sym (c .before .before .before .before .before .before .pre .4 .full)
@@ -93,6 +98,8 @@ shorts-spec =
     loop-holds
     decode-requires
     enum-known-code
+    sub-t20
+    at-requires
     same-length
     returns
     add-short

@@ -1,7 +1,7 @@
 -- `arguments::standing::Stage::with_flag` meets its contract: the entry holds the key that it was made of, and no value.
 use Rattle.arguments.proofs.Moves.{flag-moved}
 use mathlib.Core.Path.{refl}
-use Rattle.arguments.specs.Held.{held}
+use Rattle.arguments.specs.Inner.{held}
 use borrow.Author.Needs.{needs}
 use Rattle.arguments.proofs.standing.Stage.with_flag.Statement.{statement}
 use Rattle.arguments.proofs.standing.Stage.with_flag.Tie as tie

@@ -1,7 +1,7 @@
 -- `arguments::standing::Stage::with_option` meets its contract: the entry holds the key and the value that it was made of.
 use Rattle.arguments.proofs.Moves.{option-moved}
 use mathlib.Core.Path.{refl}
-use Rattle.arguments.specs.Held.{held}
+use Rattle.arguments.specs.Inner.{held}
 use borrow.Author.Needs.{needs}
 use Rattle.arguments.proofs.standing.Stage.with_option.Statement.{statement}
 use Rattle.arguments.proofs.standing.Stage.with_option.Tie as tie

@@ -3,10 +3,9 @@ use Prim.Native.Nat.{_+_}
 use mathlib.Core.Path.{refl, sym, ap}
 use native.Mathlib.Omega.{arith}
 use Rattle.frame.proofs.Series.{word-within}
-use Rattle.table.specs.Held.{partOf}
-use Rattle.arguments.specs.Meanings.{definitionsAt}
+use Rattle.table.specs.Inner.{partOf}
+use Rattle.arguments.specs.Inner.{definitionsAt, stored, held}
 use Rattle.arguments.specs.Arguments.{Stand, wordStep}
-use Rattle.arguments.specs.Held.{stored, held}
 use Rattle.arguments.specs.declared.standing.Progress.the-variants.{Going}
 use Rattle.arguments.proofs.Steps.{stand-by, key-small, fault-stays}
 use Rattle.arguments.proofs.Walks.{stepped-as, moved-stepped}

@@ -1,5 +1,5 @@
 -- `table::Table::empty` meets its contract: none of its numbers counts.
-use Rattle.table.specs.Held.{mapOf, entries}
+use Rattle.table.specs.Inner.{mapOf, entries}
 use mathlib.Core.Path.{refl}
 use Rattle.table.proofs.sorted.Table.empty.Statement.{statement}
 use Rattle.table.proofs.sorted.Table.empty.Tie as tie

@@ -1,7 +1,7 @@
 -- `table::Table::has` meets its contract. The keys passed are others: what holds of the rest holds of the whole.
-use Rattle.table.specs.Held.{mapOf, sizeOf}
+use Rattle.table.specs.Inner.{mapOf, sizeOf}
 use Rattle.table.specs.Map.{has}
-use Rattle.table.proofs.Views.{has-end, has-here, has-on}
+use Rattle.table.proofs.TableMaps.{has-end, has-here, has-on}
 use borrow.Author.Needs.{needs}
 use native.Mathlib.Omega.{arith}
 use Prim.Native.Nat.{_≤_, _<_, _-_}

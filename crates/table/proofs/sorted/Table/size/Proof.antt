@@ -1,5 +1,5 @@
 -- `table::Table::size` meets its contract: the array has 64 elements, whatever the count says.
-use Rattle.table.proofs.Views.{whole, size-is}
+use Rattle.table.proofs.TableMaps.{whole, size-is}
 use native.Mathlib.Omega.{arith}
 use Rattle.table.proofs.sorted.Table.size.Statement.{statement}
 use Rattle.table.proofs.sorted.Table.size.Tie as tie

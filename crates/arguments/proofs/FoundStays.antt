@@ -14,7 +14,7 @@ use Rattle.arguments.specs.Meanings.{Means, aFlag, anOption, nothing, me
 use Rattle.arguments.specs.Forms.{Form, valued, long, shorts, positional, formOf, dash}
 use Rattle.arguments.specs.Arguments.{Found, Stand, go, wait, unknownOption, missingValue, withOption, withFlag, withPositional, shortStep, shortSteps, formStep, wordStep, args}
 
--- a key once stored stays, and positional words stay in their order, others behind them
+-- a key once stored stays, and positional words stay in their order, others after them
 pub record Grows (f g : Found) : Type 0 where
   pub options : (k : List ℕ) → has k (f .options) ≡ true → has k (g .options) ≡ true
   pub flags : (k : List ℕ) → has k (f .flags) ≡ true → has k (g .flags) ≡ true

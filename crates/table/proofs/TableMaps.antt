@@ -12,8 +12,7 @@ use Rattle.buffer.specs.declared.order.Order.{Order}
 use Rattle.buffer.proofs.Lists.{drop-step, drop-end}
 use Rattle.buffer.proofs.Choices.{then-is, else-is}
 use Rattle.table.specs.Map.{onOrder, has}
-use Rattle.table.specs.Seek.{seekFrom, opened}
-use Rattle.table.specs.Held.{keyOf, valueOf, entries, mapOf, tabled, sizeOf}
+use Rattle.table.specs.Inner.{seekFrom, opened, keyOf, valueOf, entries, mapOf, tabled, sizeOf}
 use Rattle.table.specs.declared.sorted.Table.{Table}
 use Rattle.table.specs.declared.sorted.Rank.the-variants.{Here, Gap}
 

@@ -1,10 +1,10 @@
--- `message::told::put_behind` meets its contract: by what is told.
-use Rattle.message.proofs.Telling.{behind-is}
+-- `message::error::put_after` meets its contract: by what is told.
+use Rattle.message.proofs.MessageParts.{after-is}
 use Rattle.buffer.proofs.Inking.{inked-as}
 use Rattle.buffer.specs.Ascii.{ascii}
 use borrow.Author.Needs.{needs}
-use Rattle.message.proofs.error.put_behind.Statement.{statement}
-use Rattle.message.proofs.error.put_behind.Tie as tie
+use Rattle.message.proofs.error.put_after.Statement.{statement}
+use Rattle.message.proofs.error.put_after.Tie as tie
 
 enum-told : tie.Need-enum-told
 enum-told c = search needs
@@ -56,38 +56,38 @@ same-length c = search needs
 
 returns : tie.Need-returns
 unfolding ascii
-returns c = inked-as _ _ _ _ _ _ (behind-is _ _ (c .before .before .before .before .before .enum-told .given .1)) (c .before .before .put .ensures)
+returns c = inked-as _ _ _ _ _ _ (after-is _ _ (c .before .before .before .before .before .enum-told .given .1)) (c .before .before .put .ensures)
 
 same-length-2 : tie.Need-same-length-2
 same-length-2 c = search needs
 
 returns-2 : tie.Need-returns-2
 unfolding ascii
-returns-2 c = inked-as _ _ _ _ _ _ (behind-is _ _ (c .before .before .before .before .before .enum-told2 .given .1)) (c .before .before .put2 .ensures)
+returns-2 c = inked-as _ _ _ _ _ _ (after-is _ _ (c .before .before .before .before .before .enum-told2 .given .1)) (c .before .before .put2 .ensures)
 
 same-length-3 : tie.Need-same-length-3
 same-length-3 c = search needs
 
 returns-3 : tie.Need-returns-3
 unfolding ascii
-returns-3 c = inked-as _ _ _ _ _ _ (behind-is _ _ (c .before .before .before .before .before .enum-told3 .given .1)) (c .before .before .put3 .ensures)
+returns-3 c = inked-as _ _ _ _ _ _ (after-is _ _ (c .before .before .before .before .before .enum-told3 .given .1)) (c .before .before .put3 .ensures)
 
 same-length-4 : tie.Need-same-length-4
 same-length-4 c = search needs
 
 returns-4 : tie.Need-returns-4
 unfolding ascii
-returns-4 c = inked-as _ _ _ _ _ _ (behind-is _ _ (c .before .before .before .before .before .enum-told4 .given .1)) (c .before .before .put4 .ensures)
+returns-4 c = inked-as _ _ _ _ _ _ (after-is _ _ (c .before .before .before .before .before .enum-told4 .given .1)) (c .before .before .put4 .ensures)
 
 same-length-5 : tie.Need-same-length-5
 same-length-5 c = search needs
 
 returns-5 : tie.Need-returns-5
 unfolding ascii
-returns-5 c = inked-as _ _ _ _ _ _ (behind-is _ _ (c .before .before .before .before .before .enum-told5 .given .1)) (c .before .before .put5 .ensures)
+returns-5 c = inked-as _ _ _ _ _ _ (after-is _ _ (c .before .before .before .before .before .enum-told5 .given .1)) (c .before .before .put5 .ensures)
 
-pub put-behind-spec : {M : Type 1} → statement M
-put-behind-spec =
+pub put-after-spec : {M : Type 1} → statement M
+put-after-spec =
     tie.close
     (tie.spec
     enum-told

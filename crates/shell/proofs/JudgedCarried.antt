@@ -7,7 +7,8 @@ use native.Mathlib.Omega.{arith}
 use lib.Dec.{eqb}
 use lib.ListN.{length, take, length-take, length-drop}
 use Rattle.frame.specs.Series.{textsIn}
-use Rattle.report.specs.Report.{dashed, reportOf}
+use Rattle.report.specs.Report.{reportOf}
+use Rattle.report.specs.Inner.{dashed}
 use Rattle.tree.specs.Images.{framesOf}
 use Rattle.tree.specs.Commands.{reachedBy}
 use Rattle.tree.specs.Trails.{imagePart}
@@ -15,18 +16,18 @@ use Rattle.message.specs.Messages.{message}
 use Rattle.message.specs.declared.error.ParseError.{ParseError}
 use Rattle.message.specs.declared.error.ParseError.the-variants.{NoHandler}
 use Rattle.arguments.specs.Arguments.{Found}
-use Rattle.arguments.specs.Held.{foundOf}
+use Rattle.arguments.specs.Inner.{foundOf}
 use Rattle.parse.specs.Commands.{parsed, parseWords}
 use Rattle.parse.specs.Answer.{toldIn}
-use Rattle.parse.specs.Held.{outcomeIn, numberOf, dashesOf, textOf}
+use Rattle.parse.specs.Inner.{outcomeIn, numberOf, dashesOf, textOf}
 use Rattle.parse.specs.declared.judging.Verdict.{Verdict}
 use Rattle.parse.specs.declared.judging.Verdict.the-variants.{Fine, NoWords, UnknownCommand, UnknownOption, MissingValue, MissingRequired}
 use Rattle.parse.specs.declared.judging.Judged.{Judged}
-use Rattle.parse.proofs.Tellings.{fault-told, report-told}
+use Rattle.parse.proofs.OutcomesTold.{fault-told, report-told}
 use Rattle.shell.specs.Lines.{text, handed, faultMessage, joined, handlerOf, carried, execute}
-use Rattle.shell.specs.Held.{handlerBy}
+use Rattle.shell.specs.Inner.{handlerBy}
 use Rattle.shell.specs.declared.handler.Handler.the-variants.{Number, None}
-use Rattle.shell.proofs.Reaching.{execute-top}
+use Rattle.shell.proofs.Handlers.{execute-top}
 
 -- a fault's number is a byte
 pub number-small : (v : Verdict) → numberOf v < 256
@@ -37,7 +38,7 @@ number-small (UnknownOption told) = omega arith
 number-small (MissingValue told) = omega arith
 number-small (MissingRequired name) = omega arith
 
--- behind dashes stands a part of the words
+-- after dashes stands a part of the words
 pub dashed-short : (words part : List ℕ) (v : Verdict) → (dashesOf v ≡ 0 → ⊥) → length (textOf words part v) ≤ length words
 dashed-short words part Fine k = absurd (k refl)
 dashed-short words part NoWords k = absurd (k refl)

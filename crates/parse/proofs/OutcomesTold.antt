@@ -11,14 +11,15 @@ use lib.Dec.{ltb}
 use lib.ListN.{length, length-take, length-drop}
 use Rattle.buffer.specs.Write.{over}
 use Rattle.buffer.proofs.Choices.{else-is}
-use Rattle.report.specs.Report.{reportOf, faultOf, dashed, reportAnswer, leavesBy, reportLeaves, Reporting}
+use Rattle.report.specs.Report.{reportOf, faultOf}
+use Rattle.report.specs.Inner.{dashed, reportAnswer, leavesBy, reportLeaves, Reporting}
 use Rattle.report.specs.declared.answer.Reported.{Reported}
 use Rattle.report.specs.declared.answer.Reported.the-variants.{Report as Whole, NoRoom as TooShort}
-use Rattle.table.specs.Held.{partOf}
+use Rattle.table.specs.Inner.{partOf}
 use Rattle.arguments.specs.Arguments.{Found}
 use Rattle.parse.specs.Commands.{Outcome, parsed, fault}
-use Rattle.parse.specs.Answer.{toldIn, faultAnswer, numbered, answeredBy, namedAs, outcomeAnswer, outcomeLeaves, Telling}
-use Rattle.parse.specs.Held.{outcomeBy, numberOf, dashesOf, textOf}
+use Rattle.parse.specs.Answer.{toldIn, faultAnswer, namedAs, outcomeAnswer, outcomeLeaves}
+use Rattle.parse.specs.Inner.{numbered, answeredBy, Telling, outcomeBy, numberOf, dashesOf, textOf}
 use Rattle.parse.specs.declared.answer.Parsed.{Parsed}
 use Rattle.parse.specs.declared.answer.Parsed.the-variants.{MissingRequired, NoRoom}
 use Rattle.parse.specs.declared.judging.Verdict.{Verdict}

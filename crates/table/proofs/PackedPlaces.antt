@@ -1,28 +1,11 @@
--- Laws of parts and of packed places: what is lent back, and that an entry holds the key and the value that it was made of.
-use Prim.Native.Nat.{ℕ, zero, suc, _+_, _-_, _*_, _/_, _%_, _≤_, _<_}
+-- Laws of packed places: what is lent back, and that an entry holds the key and the value that it was made of.
+use Prim.Native.Nat.{ℕ, zero, suc, _+_, _*_, _/_, _%_, _<_}
 use mathlib.Core.Path.{_≡_, refl, sym, ap, _∙_}
-use mathlib.Core.List.{List, []}
+use mathlib.Core.List.{List}
 use native.Mathlib.Omega.{arith}
-use lib.ListN.{length, take, drop}
-use lib.Seq.{take-nil, take-all}
-use Rattle.buffer.proofs.Lists.{drop-end}
-use Rattle.buffer.proofs.Lending.{rest-lent}
-use Rattle.table.specs.Held.{partOf, packed, valueLength, valueStart, keyLength, keyStart, keyBit, keySlice, bitOf, sourceOf, keyOf, valueOf}
+use Rattle.table.specs.Inner.{partOf, packed, valueLength, valueStart, keyLength, keyStart, keyBit, keySlice, bitOf, sourceOf, keyOf, valueOf}
 use Rattle.table.specs.declared.packing.Source.{Source}
 use Rattle.table.specs.declared.packing.Source.the-variants.{Words, Image}
-
--- a part by how much there is
-module _ (s : List ℕ) (start n : ℕ) where
-  pub part-past : length s ≤ start → [] ≡ partOf s start n
-  part-past h = sym (ap (take n) (drop-end s start h) ∙ take-nil n)
-
-  pub part-rest : length (take (length s - start) (drop start s)) ≤ n → take (length s - start) (drop start s) ≡ partOf s start n
-  part-rest h =
-      let e = rest-lent s start in
-      e ∙ sym (take-all n (drop start s) (rw e at h))
-
-  pub part-front : take n (take (length s - start) (drop start s)) ≡ partOf s start n
-  part-front = ap (take n) (rest-lent s start)
 
 -- the key by where it lies
 pub in-words : (words image : List ℕ) (e : ℕ) → keyBit e ≡ 0 → partOf words (keyStart e) (keyLength e) ≡ keyOf words image e

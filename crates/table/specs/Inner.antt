@@ -1,13 +1,16 @@
--- How a table holds a map: a number for each entry, in which the places of its key and its value are packed. A value lies in the words, a key in the
+-- What only contracts of inner calls cite. How a table holds a map: a number for each entry, in which the places of its key and its value are packed. A value lies in the words, a key in the
 -- words (a long form, as typed) or in the image (a name, for a short one).
 use Prim.Native.Nat.{ℕ, zero, suc, _+_, _*_, _/_, _%_, _≤_}
 use mathlib.Core.Path.{_≡_}
-use mathlib.Core.List.{List, map}
+use mathlib.Core.List.{List, [], _∷_, _++_, map}
 use lib.ListN.{length, take, drop}
-use Rattle.table.specs.Map.{Map, putWithin}
+use Rattle.buffer.specs.Compare.{order}
+use Rattle.table.specs.Map.{Map, onOrder, putWithin}
 use Rattle.table.specs.declared.packing.Source.{Source}
 use Rattle.table.specs.declared.packing.Source.the-variants.{Words, Image}
 use Rattle.table.specs.declared.sorted.Table.{Table}
+use Rattle.table.specs.declared.sorted.Rank.{Rank}
+use Rattle.table.specs.declared.sorted.Rank.the-variants.{Here, Gap}
 
 -- n bytes of a text from a place on
 abbrev pub partOf : List ℕ → ℕ → ℕ → List ℕ
@@ -79,3 +82,16 @@ pub record Fit (n : ℕ) (at : List ℕ) : Type 0 where
 -- the map of a table in which the key and the value of an entry are put
 abbrev pub putEntry : List ℕ → List ℕ → ℕ → Table → Map
 putEntry words image e table = putWithin capacity (keyOf words image e) (valueOf words e) (mapOf words image table)
+
+-- a table after an entry is put into it: the map with its key and value, in a slice that still fits
+abbrev pub PutIn : List ℕ → List ℕ → ℕ → ℕ → List ℕ → ℕ → List ℕ → Type 0
+PutIn words image n e table r left = (mapOf words image (tabled r left) ≡ putEntry words image e (tabled n table)) × Fit r left
+
+-- the place of the key, or of the first that is greater, where i keys precede the map
+unfoldable pub seekFrom : ℕ → List ℕ → Map → Rank
+seekFrom i k [] = Gap i
+seekFrom i k (e ∷ m) = onOrder (order k (e .0)) (Gap i) (Here i) (seekFrom (suc i) k m)
+
+-- a list with one element more, at a place
+abbrev pub opened : {A : Type 0} → ℕ → A → List A → List A
+opened place e l = take place l ++ e ∷ drop place l

@@ -9,14 +9,15 @@ use lib.Dec.{ltb}
 use lib.ListN.{length}
 use Rattle.buffer.specs.Write.{over, overIfFits}
 use Rattle.buffer.proofs.Choices.{else-is}
-use Rattle.buffer.specs.Showing.{showAnswer, Showing}
+use Rattle.buffer.specs.Showing.{showAnswer, leavesBy as showLeavesBy, overIfFits, Showing}
 use Rattle.buffer.specs.declared.show.Shown.{Shown}
 use Rattle.buffer.specs.declared.show.Shown.the-variants.{Text as ShownText, NoRoom as ShownShort}
-use Rattle.report.specs.Report.{reportAnswer, leavesBy as reportLeavesBy, reportLeaves, Reporting}
+use Rattle.report.specs.Inner.{reportAnswer, leavesBy as reportLeavesBy, reportLeaves, Reporting}
 use Rattle.report.specs.declared.answer.Reported.{Reported}
 use Rattle.report.specs.declared.answer.Reported.the-variants.{Report, NoRoom as ReportShort}
 use Rattle.shell.specs.Lines.{Said, silence}
-use Rattle.shell.specs.Answer.{bytesOf, named, saidAnswer, saidLeaves, Answered}
+use Rattle.shell.specs.Answer.{bytesOf, named, saidAnswer, saidLeaves}
+use Rattle.shell.specs.Inner.{Answered}
 use Rattle.shell.specs.declared.answer.Ran.{Ran}
 use Rattle.shell.specs.declared.answer.Ran.the-variants.{Nothing, NoRoom}
 

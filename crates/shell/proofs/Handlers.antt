@@ -19,7 +19,7 @@ use Rattle.tree.proofs.Items.{frames-read}
 use Rattle.parse.specs.Commands.{fault, parseIn, parseWords}
 use Rattle.parse.proofs.Definitions.{frames-none}
 use Rattle.shell.specs.Lines.{handlerOf, carried, executeIn, execute}
-use Rattle.shell.specs.Held.{handlerBy}
+use Rattle.shell.specs.Inner.{handlerBy}
 use Rattle.shell.specs.declared.handler.Handler.the-variants.{Number, None}
 
 -- THE HANDLER of the node that bytes begin with
