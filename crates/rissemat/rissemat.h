@@ -49,12 +49,12 @@ uint64_t rissemat_key(uint8_t *state, size_t state_len, uint8_t *slots, size_t s
  * well-formed prefix). */
 uint64_t rissemat_history_add(uint8_t *state, size_t state_len, uint8_t *slots, size_t slots_len, const uint8_t *text, size_t text_len);
 
-/* The test of a tree image: frames 01, 02 and 03 one behind the other. The value is 0.
+/* The test of a tree image: frames 01, 02 and 03 one after the other. The value is 0.
  * Refusal: 1 (a bad tree: the number, from 0, of the first frame that breaks a rule; an image over 32,768 bytes is bad at frame 0). */
 uint64_t rissemat_tree(const uint8_t *image, size_t image_len);
 
 /* A line parsed under a tree: the report of its command as frames of kinds 11 (path word), 12 (option: key, value), 13 (flag) and 14
- * (positional), in that order, each text behind its length in two bytes, high first.
+ * (positional), in that order, each text after its length in two bytes, high first.
  * Refusals, in this order: 1 (a bad tree, as above), 2 (line over 1,024 bytes: its length, 65,535 if more), 3 (ill-formed UTF-8: length of the
  * longest well-formed prefix), then 4 (unknown command), 5 (unknown option), 6 (missing value) or 7 (missing required option), whose text
  * stands at the front of out in one frame of kind 1E, and whose value is that frame's length; 9 instead of any answer from 4 on, or of the

@@ -18,7 +18,7 @@ use Rattle.text.specs.declared.utf8.Decoded.the-variants.{Character}
 use Rattle.text.proofs.utf8.Decoded.{the-type}
 use Rattle.text.proofs.Pieces.{character-bytes, character-fits}
 use Rattle.text.proofs.Prefix.{codes-step, codes-stop, prefix-step, prefix-none, whole-is, is-whole}
-use Rattle.words.proofs.Kept.{Each, also, Good}
+use Rattle.words.proofs.GoodWords.{Each, also, Good}
 use Rattle.frame.specs.Framed.{frameOf, frameFirst}
 use Rattle.frame.specs.declared.framed.Framed.the-variants.{Frame as Framed}
 use Rattle.frame.specs.Series.{textsIn, Whole}

@@ -1,4 +1,4 @@
--- The argument words, left to right (01, "Arguments"; `parse_args` of 000): a fold whose state is the answer so far.
+-- The argument words, left to right (STANDARD 7; `parse_args` of 000): a fold whose state is the answer so far.
 use Prim.Native.Nat.{ℕ}
 use mathlib.Core.Bool.{cond}
 use mathlib.Core.List.{List, [], _∷_, _++_}

@@ -1,4 +1,4 @@
--- The forms of an argument word (01, "Arguments"): `--k=v`, `--k`, `-` and more, and all else.
+-- The forms of an argument word (STANDARD 7): `--k=v`, `--k`, `-` and more, and all else.
 use Prim.Native.Nat.{ℕ, suc}
 use mathlib.Core.Bool.{cond}
 use mathlib.Core.List.{List, [], _∷_}

@@ -11,7 +11,7 @@ use Rattle.image.specs.Frames.{Frame}
 use Rattle.tree.specs.Images.{framesOf}
 use Rattle.tree.specs.Subtrees.{upTo}
 use Rattle.lookup.specs.Searches.{isNode}
-use Rattle.words.proofs.Kept.{Each, Good}
+use Rattle.words.proofs.GoodWords.{Each, Good}
 use Rattle.table.specs.Map.{putWithin}
 use Rattle.table.specs.Inner.{partOf, sourceOf, mapOf, tabled, capacity, Fit}
 use Rattle.table.specs.declared.packing.Source.{Source}

@@ -1,4 +1,4 @@
--- What a key or a short means to a node (01, "Arguments"): a flag first, else an option; of each the first definition wins.
+-- What a key or a short means to a node (STANDARD 7): a flag first, else an option; of each the first definition wins.
 use Prim.Native.Nat.{ℕ}
 use mathlib.Core.Bool.{Bool, true, false, cond}
 use mathlib.Core.List.{List, [], _∷_}

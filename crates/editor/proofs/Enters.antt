@@ -18,7 +18,7 @@ use Rattle.editor.specs.declared.drawing.Pressed.the-variants.{Entered, 
 use Rattle.editor.specs.Line.{limit, holding, freshEditor, lineOf, goodLine, content}
 use Rattle.editor.specs.Turns.{State, Kind, shows, enters, drops, Turn, entering, afterEnter, lineFeed, enter}
 use Rattle.editor.specs.Answer.{stateOf, editorOf, historyOf, slotsOf, goodState, taken, refused}
-use Rattle.editor.specs.Steps.{attempt, keyOf, madeBy, Acts, Does}
+use Rattle.editor.specs.Inner.{attempt, keyOf, madeBy, Acts, Does}
 use Rattle.editor.proofs.Lines.{good-line, length-of}
 use Rattle.editor.proofs.Showings.{attempt-fits, attempt-short}
 use Rattle.editor.proofs.States.{good-parts, holds-history, holds-editor, holds-slots, over-nothing}

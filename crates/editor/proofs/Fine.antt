@@ -28,7 +28,7 @@ use Rattle.editor.specs.Answer.{stateOf, editorOf, historyOf, slotsOf, g
 use Rattle.editor.proofs.Lines.{good-line, length-of, line-held, length-inserted, length-erased, content-short, below-limit}
 use Rattle.editor.proofs.States.{good-parts}
 
--- a state within the rules of 01
+-- a state within the rules of the standard
 pub record Fine (s : State) : Type 0 where
   pub short : length (s .line) ≤ 255
   pub within : s .cursor ≤ length (s .line)

@@ -14,7 +14,7 @@ use Rattle.keys.specs.declared.meaning.Action.{Action}
 use Rattle.editor.specs.Line.{limit}
 use Rattle.editor.specs.Turns.{State, Turn, showing, erase, insert, up, onPlace, down, right, left, turnBy}
 use Rattle.editor.specs.Answer.{stateOf, slotsOf}
-use Rattle.editor.specs.Steps.{Acts, Does}
+use Rattle.editor.specs.Inner.{Acts, Does}
 use Rattle.editor.proofs.States.{holds-slots}
 use Rattle.editor.proofs.Enters.{does-acts, does-as}
 

@@ -103,7 +103,7 @@ pub past-end : (e : Editor) → e .length ≤ 255 → e .length < e .cursor → 
 unfolding goodLine limit
 past-end e h k = then-is _ _ _ (le-leb _ _ h) ∙ else-is _ _ _ (lt-leb _ _ k)
 
--- zeros behind the line are all that is left to test
+-- zeros after the line are all that is left to test
 pub zeros-behind : (e : Editor) (n : ℕ) → length (e .line) ≡ 255 → e .length ≤ 255 → e .cursor ≤ e .length → n ≡ greatest (take (255 - e .length) (drop (e .length) (e .line)))
     → eqb n 0 ≡ goodLine e
 unfolding goodLine limit
@@ -240,7 +240,7 @@ insert-end e byte now carried i g q s =
     ∙ sym (padded-is (inserted l (e .cursor) byte)))
     long
 
--- a byte taken out: the bytes behind it have moved back up to i
+-- a byte taken out: the bytes after it have moved back up to i
 shorter : List ℕ → ℕ → ℕ → List ℕ
 shorter l k cursor = erased l cursor ++ zeros (k + 1)
 

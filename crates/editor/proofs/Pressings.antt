@@ -16,7 +16,7 @@ use Rattle.editor.specs.declared.drawing.Pressed.the-variants.{BadState,
 use Rattle.editor.specs.Line.{limit}
 use Rattle.editor.specs.Turns.{Turn, turnOf}
 use Rattle.editor.specs.Answer.{stateOf, editorOf, historyOf, goodState, goodPrompt, taken, turnAnswer, keyAnswer, refused, Pressing}
-use Rattle.editor.specs.Steps.{keyOf, madeBy, Does}
+use Rattle.editor.specs.Inner.{keyOf, madeBy, Does}
 use Rattle.editor.proofs.Showings.{attempt-fits, attempt-short}
 use Rattle.editor.proofs.Enters.{taken-not-refused}
 

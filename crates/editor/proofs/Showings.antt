@@ -15,7 +15,7 @@ use Rattle.screen.specs.declared.line.Redrawn.the-variants.{Shown as Drawn, NoR
 use Rattle.screen.proofs.Drawing.{needed-exact}
 use Rattle.editor.specs.declared.line.Editor.{Editor}
 use Rattle.editor.specs.declared.drawing.Pressed.the-variants.{Shown, NoRoom}
-use Rattle.editor.specs.Steps.{attempt, keyOf, Shows}
+use Rattle.editor.specs.Inner.{attempt, keyOf, Shows}
 
 module _ {A : Type 0} (bytes : List ℕ) (room : ℕ) (stays goes : A) where
   pub attempt-fits : length bytes ≤ room → attempt bytes room stays goes ≡ goes

@@ -19,7 +19,7 @@ use Rattle.editor.specs.declared.drawing.Pressed.the-variants.{Shown, Dr
 use Rattle.editor.specs.Line.{limit, holding, lineOf, freshEditor, goodLine, content}
 use Rattle.editor.specs.Turns.{State, Turn, dropping, showing, redrawn, redrawing}
 use Rattle.editor.specs.Answer.{stateOf, editorOf, historyOf, slotsOf, goodState}
-use Rattle.editor.specs.Steps.{attempt, keyOf, Shows, madeBy, Acts}
+use Rattle.editor.specs.Inner.{attempt, keyOf, Shows, madeBy, Acts}
 use Rattle.editor.proofs.Lines.{editor, good-line, held-line, line-held, length-padded}
 use Rattle.editor.proofs.Showings.{attempt-fits}
 

@@ -24,7 +24,7 @@ use Rattle.editor.specs.declared.drawing.Pressed.the-variants.{Shown, Dr
 use Rattle.editor.specs.Line.{limit, holding, freshEditor, lineOf, goodLine, inserted, erased, content}
 use Rattle.editor.specs.Turns.{State, showing, redrawing, withLine, cleared, erase, insert, recalled, up, onPlace, down, right, left, arrow}
 use Rattle.editor.specs.Answer.{stateOf, editorOf, historyOf, goodState}
-use Rattle.editor.specs.Steps.{keyOf, Shows, Acts}
+use Rattle.editor.specs.Inner.{keyOf, Shows, Acts}
 use Rattle.editor.proofs.Lines.{editor, good-line, length-of, same-editor}
 use Rattle.editor.proofs.States.{good-parts, holds-history, holds-editor, acts-quiet, acts-dropped, acts-shown, acts-redrawn, acts-as}
 

@@ -1,4 +1,4 @@
--- What `key` answers and leaves (01, "Numbers given back": 12, 11, 9, a line buffer under 255 first).
+-- What `key` answers and leaves (STANDARD 10: 12, 11, 9, a line buffer under 255 first).
 use Prim.Native.Nat.{ℕ}
 use mathlib.Core.Path.{_≡_}
 use mathlib.Core.Bool.{Bool, true, false, cond}
@@ -75,7 +75,7 @@ pub record Pressing (e : Editor) (h : History) (slots prompt : List ℕ) (byte :
   pub given : line′ ≡ cond (refused (k .answer)) line (over (turnOf prompt (stateOf e h slots) byte .submitted) line)
   pub shown : screen′ ≡ cond (refused (k .answer)) screen (over (turnOf prompt (stateOf e h slots) byte .screen) screen)
 
--- the refusal's number in 01 (0: none), and the value that goes with it
+-- the refusal's number (STANDARD 10.2; 0: none), and the value that goes with it
 abbrev pub number : Pressed → ℕ
 number (Shown n) = 0
 number (Entered n) = 0

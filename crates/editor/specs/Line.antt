@@ -1,4 +1,4 @@
--- The line that is being typed (01, "The line editor"): 0 to 255 bytes, zero beyond its length, with a cursor at most that length.
+-- The line that is being typed (STANDARD 2): 0 to 255 bytes, zero beyond its length, with a cursor at most that length.
 use Prim.Native.Nat.{ℕ, _-_}
 use mathlib.Core.Bool.{Bool, false, cond}
 use mathlib.Core.List.{List, [], _∷_, _++_}

@@ -1,4 +1,4 @@
--- What an action does (01, "The line editor" and "History"): the state after it, what it shows and what it submits.
+-- What an action does (STANDARD 2 and 3): the state after it, what it shows and what it submits.
 use Prim.Native.Nat.{ℕ, _+_, _-_}
 use mathlib.Core.Bool.{cond}
 use mathlib.Core.List.{List, [], _∷_}
@@ -44,7 +44,7 @@ withLine s line cursor = record { line = line; cursor = cursor; mode = s .mode; 
 abbrev pub inMode : State → Mode → State
 inMode s mode = record { line = s .line; cursor = s .cursor; mode = mode; history = s .history }
 
--- the line drawn anew behind the prompt
+-- the line drawn anew after the prompt
 unfoldable pub redrawn : List ℕ → State → List ℕ
 redrawn prompt s = redraw prompt (content (s .line)) (s .cursor)
 

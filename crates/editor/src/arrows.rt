@@ -6,7 +6,7 @@ ghost use lib.ListN.{length};
 ghost use Rattle.editor.specs.Line.{goodLine};
 ghost use Rattle.editor.specs.Turns.{up, down, right, left};
 ghost use Rattle.editor.specs.Answer.{stateOf, goodState};
-ghost use Rattle.editor.specs.Steps.{Acts, ActsFor};
+ghost use Rattle.editor.specs.Inner.{Acts, ActsFor};
 use super::drawing::KeyAnswer;
 use super::drawing::Pressed;
 use super::drawing::redraw;

@@ -6,7 +6,7 @@ ghost use Rattle.screen.specs.Redraw.{redraw};
 ghost use Rattle.editor.specs.Line.{limit, lineOf, content};
 ghost use Rattle.editor.specs.Turns.{arrow};
 ghost use Rattle.editor.specs.Answer.{refused};
-ghost use Rattle.editor.specs.Steps.{Shows};
+ghost use Rattle.editor.specs.Inner.{Shows};
 use super::line::Editor;
 use buffer::push;
 use history::History;

@@ -50,7 +50,7 @@ impl Editor {
         }
     }
 
-    // Whether the line keeps its rules: its length, its cursor, zeros behind it.
+    // Whether the line keeps its rules: its length, its cursor, zeros after it.
     pub fn is_good(self) -> bool
         ensures { λ r. ⌜ r ≡ goodLine self ⌝ }
     {
@@ -65,7 +65,7 @@ impl Editor {
         greatest_byte(&line[length..]) == 0
     }
 
-    // A byte typed at the cursor: what stood there and behind it moves on by one.
+    // A byte typed at the cursor: what stood there and after it moves on by one.
     pub(crate) fn insert(mut self, byte: u8) -> Editor
         requires { ⌜ (goodLine self ≡ true) × (self .length < limit) ⌝ }
         ensures { λ r. ⌜ r ≡ holding (inserted (lineOf self) (self .cursor) byte) (self .cursor + 1) (self .mode) ⌝ }
@@ -86,7 +86,7 @@ impl Editor {
         self
     }
 
-    // The byte before the cursor taken out: what stands behind it moves back by one.
+    // The byte before the cursor taken out: what stands after it moves back by one.
     pub(crate) fn erase(mut self) -> Editor
         requires { ⌜ (goodLine self ≡ true) × (0 < self .cursor) ⌝ }
         ensures { λ r. ⌜ r ≡ holding (erased (lineOf self) (self .cursor)) (self .cursor - 1) (self .mode) ⌝ }

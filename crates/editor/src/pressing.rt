@@ -6,7 +6,7 @@ ghost use lib.ListN.{length};
 ghost use Rattle.editor.specs.Line.{limit};
 ghost use Rattle.editor.specs.Turns.{turnBy, turnOf};
 ghost use Rattle.editor.specs.Answer.{stateOf, goodState, goodPrompt, Pressing};
-ghost use Rattle.editor.specs.Steps.{Does};
+ghost use Rattle.editor.specs.Inner.{Does};
 use super::drawing::KeyAnswer;
 use super::drawing::Pressed;
 use super::line::Editor;

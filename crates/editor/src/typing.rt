@@ -6,7 +6,7 @@ ghost use lib.ListN.{length};
 ghost use Rattle.editor.specs.Line.{limit, goodLine};
 ghost use Rattle.editor.specs.Turns.{enter, erase, insert};
 ghost use Rattle.editor.specs.Answer.{stateOf, goodState};
-ghost use Rattle.editor.specs.Steps.{ActsFor, Does};
+ghost use Rattle.editor.specs.Inner.{ActsFor, Does};
 use super::drawing::KeyAnswer;
 use super::drawing::Pressed;
 use super::drawing::redraw;

@@ -1,4 +1,4 @@
--- Worked examples of 01's session: the frame and the lines that stand there, byte for byte.
+-- Worked examples of the standard's session: the frame and the lines that stand there, byte for byte.
 use Prim.Native.Nat.{ℕ}
 use mathlib.Core.Path.{_≡_, refl}
 use mathlib.Core.List.{List, [], _∷_}

@@ -68,8 +68,8 @@ pub record HouseWritten (frame out : List ℕ) (r : Lined) (left : List ℕ) : T
   pub answer : r ≡ writeHouse frame (length out)
   pub bytes : left ≡ overIfFits (houseLine frame) out
 
--- The refusal's number in 01 (0: none), and the value that goes with it. A buffer that is too short is 9, with the length needed. The faults of a line have no number in the
--- table of 01: a line of no such form is the console's to answer, by a frame 2F with the line's number, which only the console knows. So 2F stands for each.
+-- The refusal's number in the standard (0: none), and the value that goes with it. A buffer that is too short is 9, with the length needed. The faults of a line have no number in the
+-- table of the standard: a line of no such form is the console's to answer, by a frame 2F with the line's number, which only the console knows. So 2F stands for each.
 abbrev pub number : House → ℕ
 number (Frame n) = 0
 number Unended = 0x2F

@@ -1,4 +1,4 @@
--- The limits of 01 that several crates cite.
+-- The limits of the standard that several crates cite.
 use Prim.Native.Nat.{ℕ, _*_}
 
 -- the bytes of a line

@@ -1,4 +1,4 @@
--- Worked examples of `help`: 01's session node `log`, and a node with a child, by their words; unknown words, and none.
+-- Worked examples of `help`: the standard's session node `log`, and a node with a child, by their words; unknown words, and none.
 use mathlib.Core.Path.{_≡_, refl}
 use mathlib.Core.List.{List, [], _∷_}
 use Rattle.buffer.specs.Compare.{sameBytes}

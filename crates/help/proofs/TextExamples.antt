@@ -6,7 +6,7 @@ use Rattle.buffer.specs.Ascii.{ascii}
 use Rattle.rows.specs.Rows.{blanks, padded, shortThen, shownAs, requiredMark, entry, optionRow, flagRow, nodeRow, rows, titled}
 use Rattle.help.specs.Texts.{spaced, lists, about, helpText, availableHead, availableFoot, availableText}
 
--- the node of 01's session
+-- the node of the standard's session
 log : List Frame
 log = node 0 2 (ascii "log") (ascii "Change log level") (present (ascii "log [LEVEL]")) ∷ []
 

@@ -1,4 +1,4 @@
--- What `help` answers and leaves (01, "Numbers given back": 1, 2, 3, 14, 4, 9, in that order).
+-- What `help` answers and leaves (STANDARD 10: 1, 2, 3, 14, 4, 9, in that order).
 use Prim.Native.Nat.{ℕ, min}
 use mathlib.Core.Path.{_≡_}
 use mathlib.Core.Bool.{cond}
@@ -89,7 +89,7 @@ pub record Helping (image line out : List ℕ) (r : Helped) (left : List ℕ) : 
   pub answer : r ≡ answerFor image line (length out)
   pub bytes : left ≡ leavesFor image line out
 
--- the refusal's number in 01 (0: none), and the value that goes with it
+-- the refusal's number (STANDARD 10.2; 0: none), and the value that goes with it
 abbrev pub number : Helped → ℕ
 number (Text n) = 0
 number (BadTree n) = 1

@@ -1,4 +1,4 @@
--- Where words lead (01, "Running a line and help"): the first to a node of depth 0, each further one to a child of the node before.
+-- Where words lead (STANDARD 9): the first to a node of depth 0, each further one to a child of the node before.
 use Prim.Native.Nat.{ℕ, suc, _-_, _≤_}
 use mathlib.Core.Path.{_≡_}
 use mathlib.Core.List.{List, [], _∷_}

@@ -25,7 +25,7 @@ use Rattle.history.proofs.Layouts.{none, length-layout, length-entries,
 use Rattle.history.proofs.States.{holds, Good, good-has, good-short, short-at}
 use Rattle.history.proofs.Kept.{good-of, Entries, added-entries}
 
--- a history within the rules of 01
+-- a history within the rules of the standard
 pub record Fair (j : Journal) : Type 0 where
   pub entries : Entries (j .entries)
   pub placed : j .place ≤ count j

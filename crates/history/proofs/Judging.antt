@@ -1,4 +1,4 @@
--- The test of a state slot by slot is the test that 01 states: a slot that is not laid out right, or repeats the one before it, is found.
+-- The test of a state slot by slot is the test that the standard states: a slot that is not laid out right, or repeats the one before it, is found.
 use Prim.Native.Nat.{ℕ, zero, suc, _+_, _-_, _*_, _<_, _≤_, max}
 use mathlib.Core.Path.{_≡_, refl, sym, ap, _∙_}
 use mathlib.Core.Bool.{Bool, true, false, cond}
@@ -22,7 +22,7 @@ use Rattle.buffer.specs.Lend.{zeros}
 use Rattle.history.specs.Slots.{slot, run, layout, entry, entriesOf}
 use Rattle.history.specs.Journal.{slotsOf, journalOf, good}
 use Rattle.history.specs.declared.stepping.History.{History}
-use Rattle.history.specs.Steps.{unused, goodSlot, slotBefore, judged}
+use Rattle.history.specs.Inner.{unused, goodSlot, slotBefore, judged}
 use Rattle.history.proofs.Layouts.{length-slot, length-entries, entry-slot}
 
 -- every element is a byte
@@ -32,7 +32,7 @@ Bytes s = (i : ℕ) → getD s i 0 ≤ 255
 later-bytes : (s : List ℕ) → Bytes s → Bytes (drop 256 s)
 later-bytes s b i = rw (getD-drop 256 s i 0) (b (256 + i))
 
--- a slot is its length byte, its entry and what lies behind
+-- a slot is its length byte, its entry and what lies after
 module _ (bs : List ℕ) (fits : 256 ≤ length bs) (byte : getD bs 0 0 ≤ 255) where
   n : ℕ
   n = getD bs 0 0
@@ -63,7 +63,7 @@ module _ (bs : List ℕ) (fits : 256 ≤ length bs) (byte : getD bs 0 0 ≤ 255)
       ap (λ (k : ℕ). k ∷ (entry bs ++ zeros (255 - length (entry bs)))) length-entry
       ∙ ap (λ (k : ℕ). getD bs 0 0 ∷ (entry bs ++ zeros k)) gap
 
-  -- it is laid out right exactly if zeros lie behind its entry
+  -- it is laid out right exactly if zeros lie after its entry
   slot-laid : sameBytes (slot (entry bs)) (take 256 bs) ≡ eqb (greatest (unused bs)) 0
   slot-laid =
       ap (λ (l : List ℕ). sameBytes l (take 256 bs)) slot-of-entry

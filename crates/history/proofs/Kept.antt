@@ -79,7 +79,7 @@ short-drop : (es : List (List ℕ)) → Short es → Short (drop 1 es)
 short-drop [] none = none
 short-drop (e ∷ es) (more h hs) = hs
 
--- behind entries that have room for it
+-- after entries that have room for it
 one-more : (es : List (List ℕ)) (t : List ℕ) → Short es → length es < 100 → sound [] es ≡ true → length t ≤ 255 → usable t ≡ true
     → sameBytes (latest [] es) t ≡ false → Entries (es ++ (t ∷ []))
 one-more es t h k s l u n =

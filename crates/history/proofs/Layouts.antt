@@ -117,7 +117,7 @@ behind-first : (e : List ℕ) (es : List (List ℕ)) → length e ≤ 255 → le
 unfolding run
 behind-first e es h k = ap (drop 256) (no-room (e ∷ es) (omega arith)) ∙ drop-at (slot e) (run es) 256 (length-slot e h)
 
--- a write right behind a write at the front, up to the buffer's end, is all that is left
+-- a write right after a write at the front, up to the buffer's end, is all that is left
 overAt-behind : (y x d : List ℕ) (o : ℕ) → length x ≡ o → length d ≡ o + length y → overAt y (over x d) o ≡ x ++ y
 unfolding overAt over
 overAt-behind y x d o e f =

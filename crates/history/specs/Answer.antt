@@ -1,4 +1,4 @@
--- What adding to a history answers and leaves (01, "Numbers given back": 12, 13, 3, in that order).
+-- What adding to a history answers and leaves (STANDARD 10: 12, 13, 3, in that order).
 use Prim.Native.Nat.{ℕ}
 use mathlib.Core.Path.{_≡_}
 use mathlib.Core.Bool.{cond}
@@ -50,7 +50,7 @@ pub record Addition (h : History) (slots text : List ℕ) (r : History) (told : 
   pub state : r ≡ recordBy (addAnswer h slots text) h (offered text (journalOf h slots))
   pub bytes : left ≡ slotsBy (addAnswer h slots text) slots (offered text (journalOf h slots))
 
--- the refusal's number in 01 (0: none), and the value that goes with it
+-- the refusal's number (STANDARD 10.2; 0: none), and the value that goes with it
 abbrev pub number : Added → ℕ
 number Done = 0
 number BadState = 12

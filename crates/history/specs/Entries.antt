@@ -1,4 +1,4 @@
--- History (01): at most 100 entries, here from oldest to newest, and a place from 0 to their count.
+-- History (the standard): at most 100 entries, here from oldest to newest, and a place from 0 to their count.
 use Prim.Native.Nat.{ℕ}
 use mathlib.Core.Bool.{Bool, true, false, cond, not}
 use mathlib.Core.List.{List, [], _∷_, _++_}

@@ -1,4 +1,4 @@
--- A history as one value (01, "History"): its entries from oldest to newest and a place from 0 to their count; the record and the slots that hold
+-- A history as one value (STANDARD 3): its entries from oldest to newest and a place from 0 to their count; the record and the slots that hold
 -- it, and what they hold. Where a byte lies is said in Slots and nowhere else: all other rooms speak of the value.
 use Prim.Native.Nat.{ℕ}
 use mathlib.Core.Bool.{Bool, false, cond}

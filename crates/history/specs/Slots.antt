@@ -1,4 +1,4 @@
--- Where a history lies (01): a lent buffer of 25,600 bytes in slots of 256, a length byte then the text, oldest in slot 0, all unused bytes zero.
+-- Where a history lies (the standard): a lent buffer of 25,600 bytes in slots of 256, a length byte then the text, oldest in slot 0, all unused bytes zero.
 use Prim.Native.Nat.{ℕ, zero, suc, _-_, _*_}
 use mathlib.Core.List.{List, [], _∷_, _++_}
 use lib.ListN.{length, take, drop, getD}

@@ -20,7 +20,7 @@ pub fn clear(out: &mut [u8], at: usize, end: usize)
     }
 }
 
-// Writes a text into the slot at a place: its length, its bytes, and zeros behind them.
+// Writes a text into the slot at a place: its length, its bytes, and zeros after them.
 pub fn store(text: &[u8], slots: &mut [u8], at: usize)
     requires { ⌜ (length (now text) ≤ 255) × (at + 256 ≤ length (now slots)) ⌝ }
     ensures { λ _. ⌜ now (slots .exit) ≡ overAt (slot (now (text .entry))) (now (slots .entry)) at ⌝ }

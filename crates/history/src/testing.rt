@@ -6,7 +6,7 @@ ghost use lib.ListN.{length, take, drop};
 ghost use Rattle.buffer.specs.Compare.{sameBytes};
 ghost use Rattle.history.specs.Entries.{usable};
 ghost use Rattle.history.specs.Journal.{good};
-ghost use Rattle.history.specs.Steps.{goodSlot, slotBefore, judged};
+ghost use Rattle.history.specs.Inner.{goodSlot, slotBefore, judged};
 use super::stepping::History;
 use buffer::byte_at;
 use buffer::greatest_byte;
@@ -27,7 +27,7 @@ fn is_usable(text: &[u8]) -> bool
     well_formed_prefix(text) == text.len()
 }
 
-// Whether the slot at a place holds a usable entry, with zeros behind it.
+// Whether the slot at a place holds a usable entry, with zeros after it.
 fn is_good_slot(slots: &[u8], at: usize) -> bool
     requires { ⌜ at + 256 ≤ length (now slots) ⌝ }
     ensures { λ r. ⌜ r ≡ goodSlot (drop at (now (slots .entry))) ⌝ }
@@ -54,7 +54,7 @@ fn is_repeated(slots: &[u8], at: usize) -> bool
     same_throughout(&slots[before..at], &slots[at..next])
 }
 
-// Whether so many slots are good and no two neighbours the same, with zeros behind them.
+// Whether so many slots are good and no two neighbours the same, with zeros after them.
 fn are_good(slots: &[u8], count: usize) -> bool
     requires { ⌜ 256 * count ≤ length (now slots) ⌝ }
     ensures { λ r. ⌜ r ≡ judged [] count (now (slots .entry)) ⌝ }

@@ -1,4 +1,4 @@
--- Worked examples: the node of 01's session, and a frame of each kind with its limits.
+-- Worked examples: the node of the standard's session, and a frame of each kind with its limits.
 use Prim.Native.Nat.{ℕ}
 use mathlib.Core.Path.{_≡_, refl}
 use mathlib.Core.Bool.{true, false}

@@ -1,4 +1,4 @@
--- What a key means (01, "The line editor"): a byte, where typing goes on or a sequence has begun, to an action and to what is waited for after it.
+-- What a key means (STANDARD 2): a byte, where typing goes on or a sequence has begun, to an action and to what is waited for after it.
 use Prim.Native.Nat.{ℕ}
 use mathlib.Core.Bool.{cond}
 use lib.Dec.{ltb, eqb}

@@ -50,7 +50,7 @@ fn awaiting(mode: Mode) -> Meaning
     }
 }
 
-// A byte that is typed: the ranges of 01.
+// A byte that is typed: the ranges of the standard.
 fn typed(byte: u8) -> Meaning
     ensures { λ r. ⌜ r ≡ typed byte ⌝ }
 {

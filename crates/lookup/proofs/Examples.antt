@@ -1,4 +1,4 @@
--- Worked examples of lookups: 01's node `set`, with a neighbour on each side.
+-- Worked examples of lookups: the standard's node `set`, with a neighbour on each side.
 use Prim.Native.Nat.{ℕ}
 use mathlib.Core.Path.{_≡_, refl}
 use mathlib.Core.List.{List, [], _∷_}

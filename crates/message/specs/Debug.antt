@@ -1,4 +1,4 @@
--- The `Debug` text of a word (01): `"` and `\` get a `\`, 00 is `\0`, other controls `\u{1}` to `\u{7f}`; non-ASCII is copied.
+-- The `Debug` text of a word (the standard): `"` and `\` get a `\`, 00 is `\0`, other controls `\u{1}` to `\u{7f}`; non-ASCII is copied.
 use Prim.Native.Nat.{ℕ, _/_, _%_}
 use mathlib.Core.Bool.{cond}
 use mathlib.Core.List.{List, [], _∷_, _++_}

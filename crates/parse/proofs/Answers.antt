@@ -1,4 +1,4 @@
--- The laws of the call: no second answer; no other command matters; a fault has a number of 01; and no word is lost without a sound.
+-- The laws of the call: no second answer; no other command matters; a fault has a number of the standard; and no word is lost without a sound.
 use Prim.Native.Nat.{ℕ, suc, min}
 use mathlib.Core.Path.{_≡_, refl, sym, ap, _∙_}
 use mathlib.Core.Bool.{Bool, true, false, cond}

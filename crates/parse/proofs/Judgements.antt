@@ -41,7 +41,7 @@ use Rattle.arguments.specs.declared.standing.Progress.the-variants.{Going}
 use Rattle.arguments.specs.declared.standing.Scan.{Scan}
 use Rattle.arguments.proofs.Steps.{stand-by}
 use Rattle.arguments.proofs.Room.{options-few, flags-few, args-same}
-use Rattle.words.proofs.Kept.{Each, also, Good as Worthy}
+use Rattle.words.proofs.GoodWords.{Each, also, Good as Worthy}
 use Rattle.parse.proofs.Answers.{descent-keeps}
 use Rattle.parse.specs.Commands.{missingRequired, Outcome, parsed, fault, onMissing, outcomeOf, concluded, parseIn, parseWords, emptyCommand}
 use Rattle.parse.specs.Inner.{outcomeBy, outcomeIn, numberOf, Parted, Judging}

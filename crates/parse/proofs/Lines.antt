@@ -21,7 +21,7 @@ use Rattle.words.specs.Answer.{written, answerFor, leavesBy, leavesFor, Tokeniz
 use Rattle.words.specs.declared.tokenizer.Tokens.{Tokens}
 use Rattle.words.specs.declared.tokenizer.Tokens.the-variants.{Words, LineTooLong as TooLong, IllFormed as Ill, NoRoom as TooShort}
 use Rattle.words.proofs.Standing.{written-most}
-use Rattle.words.proofs.Kept.{words-good}
+use Rattle.words.proofs.GoodWords.{words-good}
 use Rattle.arguments.specs.Inner.{WellSplit}
 use Rattle.tree.specs.Images.{framesOf}
 use Rattle.tree.specs.Rules.{checkTree}

@@ -1,4 +1,4 @@
--- What `parse` answers and leaves (01, "Numbers given back": 1, 2, 3, 4 to 7, 9, in that order).
+-- What `parse` answers and leaves (STANDARD 10: 1, 2, 3, 4 to 7, 9, in that order).
 use Prim.Native.Nat.{ℕ, min}
 use mathlib.Core.Path.{_≡_}
 use mathlib.Core.Bool.{cond}
@@ -57,7 +57,7 @@ pub record Parsing (image line out : List ℕ) (r : Parsed) (left : List ℕ) : 
   pub answer : r ≡ parseAnswer image line (length out)
   pub bytes : left ≡ parseLeaves image line out
 
--- the refusal's number in 01 (0: none), and the value that goes with it; a fault's text stands in its frame, whose length that is
+-- the refusal's number (STANDARD 10.2; 0: none), and the value that goes with it; a fault's text stands in its frame, whose length that is
 abbrev pub number : Parsed → ℕ
 number (Report n) = 0
 number (BadTree n) = 1

@@ -1,4 +1,4 @@
--- What a line says (01, "Arguments"; `CommandParser::parse` of 000): the command that its words name, its arguments, or the fault.
+-- What a line says (STANDARD 7; `CommandParser::parse` of 000): the command that its words name, its arguments, or the fault.
 use Prim.Native.Nat.{ℕ}
 use mathlib.Core.Bool.{Bool, false, cond, not}
 use mathlib.Core.List.{List, [], _∷_}

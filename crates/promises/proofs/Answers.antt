@@ -1,4 +1,4 @@
--- Demand 1 for lines and trees: each call's refusals in the order of 01, with number, value, and what stands in the lent buffer.
+-- Demand 1 for lines and trees: each call's refusals in the order of the standard, with number, value, and what stands in the lent buffer.
 use Prim.Native.Nat.{ℕ, _≤_, min}
 use mathlib.Core.Path.{_≡_, refl, ap, _∙_}
 use mathlib.Core.Bool.{Bool, true, false, cond}

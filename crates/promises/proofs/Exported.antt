@@ -184,7 +184,7 @@ run-short : {n : ℕ} {r : Ran} → r ≡ RunNoRoom n → runTold r ≡ plain 9 
 unfolding runTold
 run-short f = ap runTold f
 
--- bytes that the Rust writes, with a number of 01
+-- bytes that the Rust writes, with a number of the standard
 abbrev pub PacksBytes : ℕ → List ℕ → List ℕ → ℕ → List ℕ → Type 0
 PacksBytes number bytes out p left = Writes bytes out left (p ≡ plain number (length bytes)) (p ≡ plain 9 (length bytes))
 

@@ -1,4 +1,4 @@
--- Demand 1 for keys and history: each call's refusals in the order of 01, with number, value, and what stands in each lent buffer and state.
+-- Demand 1 for keys and history: each call's refusals in the order of the standard, with number, value, and what stands in each lent buffer and state.
 use Prim.Native.Nat.{ℕ, min}
 use mathlib.Core.Path.{_≡_, refl, ap, _∙_}
 use mathlib.Core.Bool.{Bool, true, false, cond, not}

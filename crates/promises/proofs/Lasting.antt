@@ -28,7 +28,8 @@ use Rattle.state.proofs.Lasting.{Reached, never-reached-bad}
 use Rattle.state.proofs.ByValue.{dropped-saved}
 use Rattle.session.specs.Prints.{prompt}
 use Rattle.session.specs.Lines.{Form, tree, keys, formless, lineForm}
-use Rattle.session.specs.Calls.{fresh, withState, tookBy, onLine, TakingLine, imageOf, turnIn, treeBefore, keyRoom, Kept, PressingKey}
+use Rattle.session.specs.Calls.{fresh, withState, tookBy, onLine, TakingLine, imageOf, turnIn, treeBefore, Kept, PressingKey}
+use Rattle.session.specs.Sizes.{keyRoom}
 use Rattle.session.specs.declared.standing.Session.{Session}
 use Rattle.session.specs.declared.taking.Took.{Took}
 use Rattle.session.specs.declared.taking.Taken.the-variants.{Over, NoRoom as NoBuffer}

@@ -1,4 +1,4 @@
--- The marked examples of 01, M1 to M14, as one table under one theorem.
+-- The marked examples of the standard, M1 to M14, as one table under one theorem.
 use Prim.Native.Nat.{ℕ}
 use mathlib.Core.Path.{_≡_, refl, ap, _∙_}
 use mathlib.Core.Bool.{false, cond}

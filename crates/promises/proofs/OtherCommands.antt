@@ -74,7 +74,7 @@ module _ (image other line : List ℕ) (good : checkTree image ≡ Good) (good�
       run-alike image other line good good′ out left left′ r q a b (λ l w. (bare l w, asked (Agree image other) (tooLong line) (illFormed line) (naming line) agree l w))
 
 -- THE TWO CASES BY NAME. The command that a line names is absent from both trees, or it is present in both with the same complete subtree: its node and all
--- frames before the next node of its depth or less (Subtrees). What else stands in either tree, before it or behind it, does not matter.
+-- frames before the next node of its depth or less (Subtrees). What else stands in either tree, before it or after it, does not matter.
 module _ (image other line : List ℕ) (good : checkTree image ≡ Good) (good′ : checkTree other ≡ Good) where
   module _ (words : List ℕ → List (List ℕ)) (name : List ℕ) (more : List (List ℕ)) (e : words line ≡ name ∷ more) where
     -- of a line that is over-long or ill-formed nothing is asked

@@ -1,4 +1,4 @@
--- What a report is (01, "Report"): one frame for each path word, option, flag and positional, in that order, the keys of the options and those of the flags each
+-- What a report is (STANDARD 8): one frame for each path word, option, flag and positional, in that order, the keys of the options and those of the flags each
 -- rising strictly by bytes. Whenever `parse` answers a report, it is such a one.
 use Prim.Native.Nat.{ℕ, min}
 use mathlib.Core.Path.{_≡_, refl, ap, _∙_}

@@ -51,7 +51,8 @@ use Rattle.rust.proofs.Whole.{session-printed}
 use Rattle.rust.proofs.Calls.{splits-as, good-same, base-same, fs-same}
 use Rattle.session.specs.Prints.{prompt, keyPrints, keyEnds}
 use Rattle.session.specs.Lines.{Standing, pressKeys, session}
-use Rattle.session.specs.Calls.{imageOf, isEnter, keyRoom, PressingKey}
+use Rattle.session.specs.Calls.{imageOf, isEnter, PressingKey}
+use Rattle.session.specs.Sizes.{keyRoom}
 use Rattle.session.specs.declared.standing.Session.{Session}
 use Rattle.session.specs.declared.pressing.Pressing.{Pressing as Press}
 use Rattle.history.specs.Journal.{noEntries, journalOf, good}

@@ -11,7 +11,8 @@ use Rattle.history.specs.Journal.{noEntries, slotsOf as journalSlots}
 use Rattle.editor.specs.Answer.{goodState}
 use Rattle.session.specs.Lines.{Standing, beginning, takeLine, pressKey}
 use Rattle.session.specs.Held.{Laid}
-use Rattle.session.specs.Calls.{fresh, TakingLine, imageOf, isEnter, treeBefore, keyRoom, Kept, PressingKey, RefusingLine}
+use Rattle.session.specs.Calls.{fresh, TakingLine, imageOf, isEnter, treeBefore, Kept, PressingKey, RefusingLine}
+use Rattle.session.specs.Sizes.{keyRoom}
 use Rattle.session.specs.Answer.{number, value, lineNumber, lineValue}
 use Rattle.session.specs.declared.running.Printing.{Printing}
 use Rattle.session.specs.declared.standing.Session.{Session}

@@ -1,4 +1,4 @@
--- A command and its complete subtree in the words of 01: a node of depth 0 and all frames before the next node of its depth or less. What the definitions look
+-- A command and its complete subtree in the words of the standard: a node of depth 0 and all frames before the next node of its depth or less. What the definitions look
 -- up (`subtree`) is that; in a well-formed tree no two commands have one name, so it does not matter which is looked up.
 use Prim.Native.Nat.{ℕ, zero, suc}
 use mathlib.Core.Path.{_≡_, refl, sym, ap, _∙_}
@@ -34,7 +34,7 @@ abbrev pub Ends : List Frame → Type 0
 Ends [] = Unit
 Ends (f ∷ frames) = isUpper 0 f ≡ true
 
--- PRESENT, with its complete subtree: a node of depth 0 of that name, and behind it frames that are no such node up to one that is, or to the end
+-- PRESENT, with its complete subtree: a node of depth 0 of that name, and after it frames that are no such node up to one that is, or to the end
 pub record Present (name : List ℕ) (command frames : List Frame) : Type 0 where
   pub before : List Frame
   pub handler : ℕ
@@ -53,13 +53,13 @@ unfolding subtree onFrom
 absent-none name frames a =
     ap (λ (l : List Frame). rooted 0 (onFrom (isNamed 0 name) l)) (sym (append-nil frames)) ∙ ap (rooted 0) (on-skip (isNamed 0 name) frames [] a)
 
--- NO TWO COMMANDS have one name: behind a node of depth 0 those of depth 0 have greater names
+-- NO TWO COMMANDS have one name: after a node of depth 0 those of depth 0 have greater names
 less-is : (o : Order) → isLess o ≡ true → o ≡ Less
 less-is Less e = refl
 less-is Equal e = cc
 less-is Greater e = cc
 
--- a frame that obeys, and those behind it
+-- a frame that obeys, and those after it
 module _ (seen : Seen) (f : Frame) (l : List Frame) (o : obeyAll seen (f ∷ l) ≡ true) where
   obeys-first : follows seen f ≡ true
   unfolding obeyAll obeys

@@ -1,4 +1,4 @@
--- The shape of a call's table: rows in the order of 01, of which the first that applies tells number, value, and what is left.
+-- The shape of a call's table: rows in the order of the standard, of which the first that applies tells number, value, and what is left.
 use Prim.Native.Nat.{ℕ}
 use mathlib.Core.Path.{_≡_, ap, _∙_}
 use mathlib.Core.Bool.{Bool, true, false, cond}
@@ -6,7 +6,7 @@ use mathlib.Core.List.{List, [], _∷_}
 use lib.Dec.{ltb}
 use lib.ListN.{length}
 
--- what a call tells: the refusal's number in 01 (0: none), the value that goes with it, and what stands in each lent buffer and state
+-- what a call tells: the refusal's number (STANDARD 10.2; 0: none), the value that goes with it, and what stands in each lent buffer and state
 pub record Answered (L : Type 0) : Type 0 where
   pub number : ℕ
   pub value : ℕ

@@ -1,4 +1,4 @@
--- Which words are good (01, "Numbers given back", 10): frames of kind 14 one after the other, each of some bytes that are well-formed.
+-- Which words are good (STANDARD 10, 10): frames of kind 14 one after the other, each of some bytes that are well-formed.
 use Prim.Native.Nat.{ℕ, zero, suc, _+_}
 use mathlib.Core.Bool.{Bool, false, cond}
 use mathlib.Core.List.{List, [], _∷_}

@@ -1,4 +1,4 @@
--- How a word is shown (01, "Words", quoting writer): plain, or in quotes with `\` before `"` and `\`.
+-- How a word is shown (STANDARD 5): plain, or in quotes with `\` before `"` and `\`.
 use Prim.Native.Nat.{ℕ}
 use mathlib.Core.Bool.{Bool, true, false, cond}
 use mathlib.Core.List.{List, [], _∷_, _++_}

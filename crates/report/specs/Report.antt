@@ -1,4 +1,4 @@
--- The report of a parsed command, and the frame of a fault (01, "Arguments", "Report: ..").
+-- The report of a parsed command, and the frame of a fault (STANDARD 8).
 use Prim.Native.Nat.{ℕ}
 use mathlib.Core.List.{List, _∷_, _++_}
 use Rattle.frame.specs.Text.{textOf}

@@ -1,4 +1,4 @@
--- A call's answer as 64 bits says what the call behind it answered.
+-- A call's answer as 64 bits says what the call that it wraps answered.
 use Prim.Native.Nat.{ℕ}
 use mathlib.Core.Path.{_≡_, sym, ap, _∙_}
 use mathlib.Core.Bool.{cond}

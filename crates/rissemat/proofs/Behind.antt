@@ -1,4 +1,4 @@
--- A packed answer is the packing of an answer of the call behind it: what is proved of that call holds of the call for Rust and C.
+-- A packed answer is the packing of an answer of the call that it wraps: what is proved of that call holds of the call for Rust and C.
 use Prim.Native.Nat.{ℕ}
 use mathlib.Core.Path.{_≡_, refl}
 use mathlib.Core.List.{List}

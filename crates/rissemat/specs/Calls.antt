@@ -1,4 +1,4 @@
--- What each call gives back: the answer of the call behind it, by its number and its value, and what that leaves in each lent buffer.
+-- What each call gives back: the answer of the call that it wraps, by its number and its value, and what that leaves in each lent buffer.
 use Prim.Native.Nat.{ℕ}
 use mathlib.Core.Path.{_≡_}
 use mathlib.Core.Bool.{cond}

@@ -96,7 +96,7 @@ module _ (t : Tree) (value : Option (List ℕ)) where
       by none (some y) more = short-waits f (y .name) (dash ∷ encode ch) chars
       by none none more = sym (ap (turnBy value) (unknown-stays (t .definitions) (dash ∷ encode ch) chars))
 
-  -- a key behind `--`
+  -- a key after `--`
   long-flag : (key : List ℕ)
       → isFlag key (nodeOf t) ≡ isThere (find (λ x. cond (isText key (x .long)) true (sameBytes (x .name) key)) (flagDefs (t .definitions)))
   unfolding isFlag
@@ -160,7 +160,7 @@ equals-at (b ∷ k) = by (eqb b 0x3D) (ltb (beforeEquals k) (length k)) refl (eq
         ∙ sym (else-is _ _ _ (le-ltb (suc (beforeEquals k)) (suc (length k)) (omega arith)))
 
 module _ (t : Tree) (value : Option (List ℕ)) (f : Found) where
-  -- what stands behind `--`
+  -- what stands after `--`
   same-behind : (token k : List ℕ) → long (nodeOf t) (argsOf f) value k ≡ turnBy value (formStep put (t .definitions) f token (longForm k))
   unfolding long longForm
   same-behind token k = rw (equals-at k) (by (ltb (beforeEquals k) (length k)))

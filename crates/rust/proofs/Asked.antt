@@ -39,7 +39,7 @@ help-codes : (t : List ℕ) → codesIn (ascii "help " ++ t) ≡ ascii "help " +
 unfolding ascii
 help-codes t = codes-behind (ascii "help ") t (omega arith, (omega arith, (omega arith, (omega arith, (omega arith, tt)))))
 
--- what stands behind `help ` in a well-formed line, by its characters
+-- what stands after `help ` in a well-formed line, by its characters
 help-behind : (line : List ℕ) → encodeAll (codesIn line) ≡ line → codesIn line ≡ ascii "help " ++ codesIn (drop 5 line) → drop 5 line ≡ encodeAll (codesIn (drop 5 line))
 unfolding ascii encode encodeAll
 help-behind line w e = sym (ap (drop 5) w) ∙ ap (λ (codes : List ℕ). drop 5 (encodeAll codes)) e
@@ -95,7 +95,7 @@ between-whole : (codes : List ℕ) → Scalars codes → Each Whole (wordsBetwee
 unfolding wordsBetween
 between-whole codes h = rw (pieces-are codes h) (words-whole codes [] none h)
 
--- behind `help ` the line's characters go on
+-- after `help ` the line's characters go on
 pub help-whole : (line : List ℕ) → wellFormedLength line ≡ length line → beginsHelp line ≡ true → Each Whole (helpWords line)
 unfolding helpWords beginsHelp
 help-whole line w b =

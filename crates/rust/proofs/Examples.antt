@@ -98,7 +98,7 @@ quotes :
 unfolding forest tree ascii sameBytes order insertNode get someOf optionDefs flagDefs commandsOf all decodeFirst table decodeTwo decodeThree decodeFour leastSecond greatestSecond within piecesFrom piecesOf codesOf codesIn bytesAll encode encodeAll among whiteSpace isWhiteSpace afterRun trimEnd trimmed wordsAfter wordsBetween wellFormedLength closed tokenizeFrom tokenize insert containsKey deepest findCommand any find isOption isFlag isShortOption isShortFlag optionNameByShort flagNameByShort stripPrefix startsWith findEquals optionValue longName shortNames shortOrPositional long turn parseArgsFrom parseArgs validateRequired parseCommand parseTokens parse println leftIn join forEach forEachNode labelStr optionLine flagLine nodeLine helpLines nodeUnder showHelp availableLine showAvailableCommands isUtf8 utf8OrEmpty along nodeAt report handle executeCommand runCmdBytes digitOf hexIn escapeUnicode isPrintable escapeDebug debugChars debugError handleBuiltinCommands runLine enter allPrinted debugged
 quotes = (refl, refl, refl, refl)
 
--- 01's session from the loop itself: three keys, then Enter with its line feed, the handler's call and the prompt. An Enter on an empty line runs nothing; of an ill-formed
+-- the standard's session from the loop itself: three keys, then Enter with its line feed, the handler's call and the prompt. An Enter on an empty line runs nothing; of an ill-formed
 -- line the bytes are run, and not what is shown of them; after `exit` nothing is done any more.
 sessions :
     (printedBy all tree (turnsFrom freshState (ascii "log\r") .events)

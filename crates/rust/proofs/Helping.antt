@@ -50,7 +50,7 @@ about-is w words description u =
 
 -- ITS LISTS
 module _ (d : ℕ) (t : Tree) (fine : Fine d t) where
-  -- the frames behind the node
+  -- the frames after the node
   abbrev behind : List Frame
   behind = t .definitions ++ flatten (suc d) (t .below)
 

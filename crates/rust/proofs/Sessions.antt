@@ -23,7 +23,8 @@ use Rattle.editor.proofs.Called.{held-state}
 use Rattle.session.specs.Prints.{Printed, shown, prompt, answered, leaves, turnPrints, keyPrints, turnEnds, keyEnds}
 use Rattle.session.specs.Lines.{Standing, inState, Course, behind, pressKey, pressKeys}
 use Rattle.session.specs.Held.{Laid}
-use Rattle.session.specs.Calls.{imageOf, isEnter, treeBefore, keyRoom, PressingKey}
+use Rattle.session.specs.Calls.{imageOf, isEnter, treeBefore, PressingKey}
+use Rattle.session.specs.Sizes.{keyRoom}
 use Rattle.session.specs.declared.running.Printing.{Printing}
 use Rattle.session.specs.declared.standing.Session.{Session}
 use Rattle.session.specs.declared.pressing.Pressing.{Pressing}

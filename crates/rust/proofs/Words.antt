@@ -38,7 +38,7 @@ taken : (word : List ℕ) (ch : ℕ) → encodeAll word ++ encode ch ≡ encodeA
 unfolding encodeAll
 taken word ch = sym (encode-append word (ch ∷ []) ∙ ap (λ (l : List ℕ). encodeAll word ++ l) (append-nil (encode ch)))
 
--- the words still to come, pushed behind those that are done
+-- the words still to come, pushed after those that are done
 abbrev FromIs : List ℕ → Type 0
 FromIs chars =
     (done : List (List ℕ)) (word : List ℕ) (quotes escape : Bool)

@@ -51,7 +51,7 @@ unfoldable pub carryOut : List Statement → Commands → Commands
 carryOut [] tree = tree
 carryOut (s ∷ l) tree = carryOut l (s tree)
 
--- a function pointer is a number: the place from 1 of its command's name (01, "handlers numbered from 1 in name order")
+-- a function pointer is a number: the place from 1 of its command's name (STANDARD 6, the trees supplied)
 unfoldable pub placeIn : List String → List ℕ → ℕ
 placeIn [] name = zero
 placeIn (n ∷ names) name = cond (sameBytes (ascii n) name) 1 (suc (placeIn names name))

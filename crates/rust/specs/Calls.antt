@@ -1,4 +1,4 @@
--- What the calls answer and leave, said by what the Rust does: the bytes that are written, the number of 01 beside them, and 9 where they don't fit.
+-- What the calls answer and leave, said by what the Rust does: the bytes that are written, the number of the standard beside them, and 9 where they don't fit.
 use Prim.Native.Nat.{ℕ, _<_, _≤_}
 use mathlib.Core.Path.{_≡_}
 use mathlib.Core.Bool.{Bool}

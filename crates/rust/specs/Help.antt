@@ -8,7 +8,7 @@ use Rattle.rust.specs.Std.{ifSome, isEmpty, join, leftIn, println, utf8}
 use Rattle.rust.specs.Tree.{OptionDef, FlagDef, CommandNode, Commands, empty, entry, subcommandsOf, descriptionOf, usageOf, optionsOf, flagsOf, get}
 use Rattle.rust.specs.Parser.{UnknownCommand, Result, ok, err}
 
--- for x in ..: what each prints, one behind the other
+-- for x in ..: what each prints, one after the other
 unfoldable pub forEach : {A : Type 0} → (A → List ℕ) → List A → List ℕ
 forEach prints [] = []
 forEach prints (x ∷ l) = prints x ++ forEach prints l

@@ -46,7 +46,7 @@ abbrev pub andThen : {A B : Type 0} → Result A → (A → Result B) → Result
 andThen (ok a) f = f a
 andThen (err e) f = err e
 
--- fn tokenize(input: &str) -> Vec<String>, behind the characters before: tokens, current_token, in_quotes, escape_next
+-- fn tokenize(input: &str) -> Vec<String>, after the characters before: tokens, current_token, in_quotes, escape_next
 unfoldable pub closed : List (List ℕ) → List ℕ → List (List ℕ)
 closed tokens [] = tokens
 closed tokens (b ∷ current) = tokens ++ ((b ∷ current) ∷ [])

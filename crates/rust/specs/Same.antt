@@ -83,7 +83,7 @@ replyFor (said bytes) = some (ok bytes)
 replyFor (unknown word) = some (err (UnknownCommand word))
 replyFor wordless = none
 
--- what the console sees of a line: nothing, an output with the number of 01 beside it, a handler with its report, the end with its output, or a crash
+-- what the console sees of a line: nothing, an output with the number of the standard beside it, a handler with its report, the end with its output, or a crash
 pub data Seen : Type 0 where
   quiet : Seen
   output : (number : ℕ) (bytes : List ℕ) → Seen
@@ -91,7 +91,7 @@ pub data Seen : Type 0 where
   ended : List ℕ → Seen
   crashed : Seen
 
--- the number of 01 for an error
+-- the number of the standard for an error
 abbrev pub errorNumber : ParseError → ℕ
 errorNumber (UnknownCommand t) = 4
 errorNumber (UnknownOption t) = 5

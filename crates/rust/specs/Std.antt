@@ -77,7 +77,7 @@ display n = decimal n
 abbrev pub hexDigit : ℕ → ℕ
 hexDigit v = digitOf v
 
--- {:<n}: spaces behind a text up to n characters
+-- {:<n}: spaces after a text up to n characters
 unfoldable pub leftIn : ℕ → List ℕ → List ℕ
 leftIn n t = t ++ replicate (n - length (charsOf t)) 0x20
 

@@ -1,4 +1,4 @@
--- Worked examples: 01's session, and a cursor in the line, byte for byte.
+-- Worked examples: the standard's session, and a cursor in the line, byte for byte.
 use Prim.Native.Nat.{ℕ}
 use mathlib.Core.Path.{_≡_, refl}
 use mathlib.Core.List.{List, [], _∷_}

@@ -1,4 +1,4 @@
--- What a redraw of the line writes (01, "The line editor"), and what `clear_line_and_redraw` answers and leaves.
+-- What a redraw of the line writes (STANDARD 2), and what `clear_line_and_redraw` answers and leaves.
 use Prim.Native.Nat.{ℕ, zero, suc, _-_, min}
 use mathlib.Core.Path.{_≡_}
 use mathlib.Core.Bool.{cond}
@@ -35,7 +35,7 @@ pub record Redraw (prompt content : List ℕ) (cursor : ℕ) (out : List ℕ) (r
   pub answer : r ≡ roomAnswer (length (redraw prompt content cursor)) (length out)
   pub bytes : left ≡ overIfFits (redraw prompt content cursor) out
 
--- the refusal's number in 01 (0: none), and the value that goes with it
+-- the refusal's number (STANDARD 10.2; 0: none), and the value that goes with it
 abbrev pub number : Redrawn → ℕ
 number (Shown n) = 0
 number (NoRoom n) = 9

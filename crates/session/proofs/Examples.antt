@@ -1,4 +1,4 @@
--- The session of 01, computed from the definitions.
+-- The session of the standard, computed from the definitions.
 use Prim.Native.Nat.{ℕ}
 use mathlib.Core.Path.{_≡_, refl}
 use mathlib.Core.List.{List, [], _∷_, _++_}

@@ -29,7 +29,8 @@ use Rattle.editor.specs.Answer.{goodState}
 use Rattle.editor.proofs.Fine.{Fine}
 use Rattle.session.specs.Prints.{prompt, turnPrints, keyPrints, turnEnds, keyEnds}
 use Rattle.session.specs.Lines.{Form, tree, keys, formless, formOf, formBy, lineForm, Standing, withImage, withKeys as keyedNow, Taking, grown, pressing, refused, takeForm, takeLine}
-use Rattle.session.specs.Calls.{withWalk, withKeys, refusing, tookBy, imageBy, TakingLine, imageOf, isEnter, treeBefore, keyRoom, Kept, PressingKey, RefusingLine}
+use Rattle.session.specs.Calls.{withWalk, withKeys, refusing, tookBy, imageBy, TakingLine, imageOf, isEnter, treeBefore, Kept, PressingKey, RefusingLine}
+use Rattle.session.specs.Sizes.{keyRoom}
 use Rattle.session.specs.declared.running.Printing.{Printing}
 use Rattle.session.specs.declared.running.Printing.the-variants.{BadTree, BadState, NoRoom}
 use Rattle.session.specs.declared.pressing.Pressing.{Pressing}
@@ -40,7 +41,7 @@ use Rattle.session.proofs.Takings.{house-room, both-wide}
 use Rattle.session.proofs.Screens.{enters-byte}
 use Rattle.session.proofs.Held.{Holds}
 
--- what a line is by its house line: the frame of a tree line, and the keys behind a 20
+-- what a line is by its house line: the frame of a tree line, and the keys after a 20
 tree-told : (x : House) (bytes frame : List ℕ) → formBy x bytes ≡ tree frame → frame ≡ bytes
 unfolding formOf
 tree-told (Frame n) [] frame e = absurd (let z : _≡_ {A = ℕ} 0 1 = cc in omega arith)

@@ -19,7 +19,8 @@ use Rattle.editor.proofs.Called.{held-state}
 use Rattle.session.specs.Prints.{prompt, keyPrints, keyEnds}
 use Rattle.session.specs.Lines.{Standing, beginning, pressKey}
 use Rattle.session.specs.Held.{Laid}
-use Rattle.session.specs.Calls.{fresh, imageOf, turnIn, isEnter, treeBefore, keyRoom, PressingKey}
+use Rattle.session.specs.Calls.{fresh, imageOf, turnIn, isEnter, treeBefore, PressingKey}
+use Rattle.session.specs.Sizes.{keyRoom}
 use Rattle.session.specs.declared.standing.Session.{Session}
 use Rattle.session.specs.declared.pressing.Pressing.{Pressing}
 

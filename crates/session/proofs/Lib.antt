@@ -8,3 +8,4 @@ pub mod Takings
 pub mod Held
 pub mod Followed
 pub mod Examples
+pub mod Sums

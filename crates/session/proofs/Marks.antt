@@ -1,4 +1,4 @@
--- Laws of a buffer with a frame's kind at a place, whose rest behind it was lent: what came back stands there.
+-- Laws of a buffer with a frame's kind at a place, whose rest after it was lent: what came back stands there.
 use Prim.Native.Nat.{ℕ, zero, suc, _+_, _-_, _≤_, _<_}
 use mathlib.Core.Path.{_≡_, refl, ap, _∙_}
 use mathlib.Core.List.{List, [], _∷_, _++_}

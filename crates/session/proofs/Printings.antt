@@ -1,4 +1,4 @@
--- Laws of frames printed as house lines, one behind the other.
+-- Laws of frames printed as house lines, one after the other.
 use Prim.Native.Nat.{ℕ, _+_, _-_, _*_, _≤_, _<_}
 use mathlib.Core.Path.{_≡_, refl, sym, ap, _∙_}
 use mathlib.Core.List.{List, [], _∷_, _++_, append-assoc, append-nil}
@@ -50,7 +50,7 @@ unfolding linesOf
 lines-both [] b = refl
 lines-both (p ∷ a) b = ap (λ (x : List ℕ). houseLine (frameOf p) ++ x) (lines-both a b) ∙ sym (append-assoc (houseLine (frameOf p)) (linesOf a) (linesOf b))
 
--- screen bytes behind their kind: no bytes are not printed
+-- screen bytes after their kind: no bytes are not printed
 pub shown-none : (bytes : List ℕ) → length bytes ≤ 0 → linesOf (shown bytes) ≡ []
 unfolding linesOf shown
 shown-none [] h = refl
@@ -86,7 +86,7 @@ module _ (frame out e : List ℕ) (at n : ℕ) (r : Lined) (h : at + (2 * length
   pub print-told : r ≡ Done n → Pushed (houseLine frame) out at (at + n) (putMid at (length out - at) out e)
   print-told s = rw (counted s) (printed-at frame out e at r h w .1)
 
--- screen bytes behind their kind
+-- screen bytes after their kind
 module _ (frame out : List ℕ) where
   pub screen-none : (at : ℕ) → frame ≡ 0x22 ∷ drop 1 frame → length frame ≤ 1 → Pushed (linesOf (shown (drop 1 frame))) out at at out
   screen-none at k h =

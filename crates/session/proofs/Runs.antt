@@ -30,7 +30,7 @@ use Rattle.session.specs.declared.running.Printing.the-variants.{Goes, E
 use Rattle.session.proofs.Marks.{lent-size, returned-size, returned-kind, returned-behind}
 use Rattle.session.proofs.Printings.{lines-both, line-alone, shown-size}
 
--- a text behind its kind
+-- a text after its kind
 module _ (s : List ℕ) (size : ℕ) (full : length s ≡ 65536) (h : size ≤ 65533) where
   pub text-frame : (n : ℕ) → n ≡ suc size → getD s 2 0 ≡ 0x22 → take n (drop 2 s) ≡ 0x22 ∷ take size (drop 3 s)
   text-frame n e k =
@@ -41,12 +41,12 @@ module _ (s : List ℕ) (size : ℕ) (full : length s ≡ 65536) (h : size ≤ 6
   pub text-size : length (take size (drop 3 s)) ≡ size
   text-size = let d = length-drop 3 s in length-take-le size (drop 3 s) (omega arith)
 
-  -- a report behind the head that was put before it
+  -- a report after the head that was put before it
   pub handler-frame : (number : ℕ) → take (3 + size) (over (0x21 ∷ wide number) s) ≡ frameOf (handler number (take size (drop 3 s)))
   unfolding over wide frameOf
   handler-frame number = take-append-add (0x21 ∷ wide number) (drop 3 s) size
 
-  -- room behind them
+  -- room after them
   pub text-room : (out left : List ℕ) (at r : ℕ) → at + 131096 ≤ length out → Pushed (linesOf (shown (take size (drop 3 s)))) out at r left → r + 23 ≤ length left
   text-room out left at r room p =
       let a = shown-size (take size (drop 3 s)) in
@@ -104,7 +104,7 @@ module _ (said : Said) (ran : Ran) (s : List ℕ) (h : Says said ran s) (out lef
       by farewell k = absurd (miss (0 ∷ 4 ∷ 5 ∷ 6 ∷ []) 2 tt k)
       by (handed m b) k = absurd (miss (0 ∷ 4 ∷ 5 ∷ 6 ∷ []) 3 tt k)
 
-  -- what a text prints, with whatever is printed behind it
+  -- what a text prints, with whatever is printed after it
   shown-behind : (b : List ℕ) (n p : ℕ) (mid : List ℕ) (more : List Printed) → n ≡ length b → take (length b) (drop 3 s) ≡ b → n ≤ 65533 → at + 131096 ≤ length out
       → Pushed (linesOf (shown (take n (drop 3 s)))) out at p mid → Pushed (linesOf more) mid p r left → Pushed (linesOf (shown b ++ more)) out at r left
   shown-behind b n p mid more e k fits room x y =
@@ -159,7 +159,7 @@ module _ (said : Said) (ran : Ran) (s : List ℕ) (h : Says said ran s) (out lef
           let narrow : at + length (linesOf (handler number b ∷ [])) ≤ length out = let w = ap length line in omega arith in
           goes (handed number b) out left at r refl (both (handler number b ∷ []) (shown prompt) out mid left at p r narrow (subst (λ (z : List ℕ). Pushed z out at p mid) line x) y)
 
--- a line that was run under a well-formed tree, into the part behind the kind of a text
+-- a line that was run under a well-formed tree, into the part after the kind of a text
 module _ (s e : List ℕ) (full : length s ≡ 65536) (image line : List ℕ) (ran : Ran) (bytes : Bytes image) (good : checkTree image ≡ Good) (short : length line ≤ 255)
     (r : Running image line (take (length (set s 2 0x22) - 3) (drop 3 (set s 2 0x22))) ran e) where
   abbrev heard : Said

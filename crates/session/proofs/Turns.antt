@@ -39,7 +39,8 @@ use Rattle.editor.proofs.drawing.Pressed.{the-type}
 use Rattle.shell.specs.Lines.{Said, saidOf}
 use Rattle.session.specs.Prints.{badLine, frameOf, linesOf, shown, prompt, answered, leaves, turnPrints, keyPrints, turnEnds, keyEnds}
 use Rattle.session.specs.Held.{printing, Answers, Laid, Enters, Within, Tells}
-use Rattle.session.specs.Calls.{withState, withKey, imageOf, turnIn, treeBefore, keyRoom, PressingKey}
+use Rattle.session.specs.Calls.{withState, withKey, imageOf, turnIn, treeBefore, PressingKey}
+use Rattle.session.specs.Sizes.{keyRoom}
 use Rattle.session.specs.declared.running.Printing.{Printing}
 use Rattle.session.specs.declared.running.Printing.the-variants.{Goes, Ends, BadTree, BadState, NoRoom}
 use Rattle.session.specs.declared.standing.Session.{Session}
@@ -47,7 +48,7 @@ use Rattle.session.proofs.Printings.{line-alone, lines-both, shown-some
 use Rattle.session.proofs.Marks.{lent-size, returned-size, returned-kind, returned-behind}
 use Rattle.session.proofs.Screens.{screen-short, submitted-short, enters-tested}
 
--- screen bytes behind their kind
+-- screen bytes after their kind
 module _ (s : List ℕ) (size : ℕ) (h : size ≤ 1023) (k : getD s 0 0 ≡ 0x22) where
   pub shown-frame : take (size + 1) s ≡ 0x22 ∷ take size (drop 1 s)
   shown-frame = ap (λ (n : ℕ). take n s) (let e : size + 1 ≡ suc size = omega arith in e) ∙ by s k
@@ -67,7 +68,7 @@ module _ (s : List ℕ) (size : ℕ) (h : size ≤ 1023) (k : getD s 0 0 ≡ 0x2
       → Pushed (linesOf (shown (take size (drop 1 s)))) out 0 r left
   shown-done out frame left r f p = subst (λ (x : List ℕ). Pushed (linesOf (shown x)) out 0 r left) (ap (λ (x : List ℕ). drop 1 x) (f ∙ shown-frame)) p
 
--- Enter: the line feed, and what the line says behind it
+-- Enter: the line feed, and what the line says after it
 feed-line : linesOf (shown lineFeed) ≡ houseLine (0x22 ∷ 0x0A ∷ [])
 feed-line = shown-some lineFeed (omega arith)
 

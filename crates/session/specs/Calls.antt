@@ -24,6 +24,7 @@ use Rattle.editor.specs.Answer.{stateOf, editorOf, historyOf, slotsOf, goodStat
 use Rattle.session.specs.Prints.{badLine, prompt, keyPrints, keyEnds}
 use Rattle.session.specs.Lines.{Form, tree, keys, formless, lineForm}
 use Rattle.session.specs.Held.{Laid}
+use Rattle.session.specs.Sizes.{keyRoom}
 use Rattle.session.specs.declared.running.Printing.{Printing}
 use Rattle.session.specs.declared.running.Printing.the-variants.{BadTree, BadState, NoRoom}
 use Rattle.session.specs.declared.standing.Session.{Session}
@@ -92,10 +93,6 @@ isEnter byte = cond (eqb byte 0x0D) true (eqb byte 0x0A)
 
 unfoldable pub treeBefore : ℕ → List ℕ → Checked
 treeBefore byte image = cond (isEnter byte) (checkTree image) Good
-
--- how many bytes a key may print at most: the line feed, 65,536 bytes of a frame, the prompt
-abbrev pub keyRoom : ℕ
-keyRoom = 131101
 
 -- a refusal keeps the session and every byte
 pub record Kept (h : Session) (slots out : List ℕ) (r : Pressing) (slots′ out′ : List ℕ) : Type 0 where

@@ -62,7 +62,7 @@ Within image BadKey = Unit {0}
 Within image (BadPrompt n) = Unit {0}
 Within image (NoScreen n) = Unit {0}
 
--- what a key did, by its answer, the line that it submitted and the screen bytes behind their kind
+-- what a key did, by its answer, the line that it submitted and the screen bytes after their kind
 abbrev pub Tells : Pressed → List ℕ → List ℕ → List ℕ → List ℕ → Printing → List ℕ → Type 0
 Tells (Shown n) image line screen out r left = Laid (shown (take n (drop 1 screen))) false out r left
 Tells (Entered n) image line screen out r left = Enters (framesOf image) (take n line) out r left

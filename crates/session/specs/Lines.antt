@@ -1,4 +1,4 @@
--- Where a session stands, what a line makes of it and prints, and a whole session (01, "One session in full").
+-- Where a session stands, what a line makes of it and prints, and a whole session (STANDARD 11).
 use Prim.Native.Nat.{ℕ, _+_}
 use mathlib.Core.Bool.{Bool, true, false, cond}
 use mathlib.Core.List.{List, [], _∷_, _++_}
@@ -12,7 +12,7 @@ use Rattle.tree.specs.Growth.{takes}
 use Rattle.editor.specs.Turns.{State, freshState, turnOf}
 use Rattle.session.specs.Prints.{Printed, badLine, prompt, keyPrints, keyEnds}
 
--- what a house line is: a tree frame, keys behind a 20, or of no such form
+-- what a house line is: a tree frame, keys after a 20, or of no such form
 pub data Form : Type 0 where
   tree : (frame : List ℕ) → Form
   keys : (bytes : List ℕ) → Form

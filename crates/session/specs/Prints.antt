@@ -1,4 +1,4 @@
--- What a session prints (01, "One session in full"): frames 22, 21, 23 and 2F, a house line each.
+-- What a session prints (STANDARD 11): frames 22, 21, 23 and 2F, a house line each.
 use Prim.Native.Nat.{ℕ, _/_, _%_}
 use mathlib.Core.Bool.{Bool, true, false}
 use mathlib.Core.List.{List, [], _∷_, _++_}

@@ -5,6 +5,7 @@ mod running;
 mod standing;
 mod taking;
 
+pub use pressing::KEY_ROOM;
 pub use pressing::Pressing;
 pub use pressing::press;
 pub use pressing::refuse;

@@ -19,7 +19,11 @@ ghost use Rattle.tree.specs.Rules.{checkTree};
 ghost use Rattle.tree.specs.declared.check.Checked.the-variants.{Good};
 ghost use Rattle.session.specs.Prints.{linesOf, shown};
 ghost use Rattle.session.specs.Held.{Within, Enters, Tells};
-ghost use Rattle.session.specs.Calls.{withKey, imageOf, treeBefore, keyRoom, PressingKey, RefusingLine};
+ghost use Rattle.session.specs.Calls.{withKey, imageOf, treeBefore, PressingKey, RefusingLine};
+ghost use Rattle.session.specs.Sizes.{keyRoom};
+
+// How many bytes a key prints at most: the line feed, a frame, the prompt, each as a house line.
+pub const KEY_ROOM: usize = 5 + 131073 + 23;
 
 // The session after a key, and what the key prints.
 pub struct Pressing {
@@ -45,7 +49,7 @@ impl Session {
     }
 }
 
-// Prints screen bytes of that size, which stand behind their frame's kind.
+// Prints screen bytes of that size, which stand after their frame's kind.
 fn print_shown(screen: &[u8], size: usize, out: &mut [u8]) -> usize
     requires { ⌜ (size ≤ 1023) × (getD (now screen) 0 0 ≡ 0x22) × (keyRoom ≤ length (now out)) ⌝ }
     ensures { λ r. ⌜ Pushed (linesOf (shown (take size (drop 1 (now (screen .entry)))))) (now (out .entry)) 0 r (now (out .exit)) ⌝ }
@@ -126,10 +130,10 @@ fn press_with(
 pub fn press(session: Session, image: &[u8], slots: &mut [u8], byte: u8, out: &mut [u8]) -> Pressing
     ensures { λ r. ⌜ PressingKey session (now (image .entry)) (now (slots .entry)) byte (now (out .entry)) r (now (slots .exit)) (now (out .exit)) ⌝ }
 {
-    if out.len() < 131101 {
+    if out.len() < KEY_ROOM {
         return Pressing {
             session,
-            answer: Printing::NoRoom(131101),
+            answer: Printing::NoRoom(KEY_ROOM),
         };
     }
     if let Checked::BadFrame(n) = check_before(byte, part(image, 0, session.walk.at)) {

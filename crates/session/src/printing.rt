@@ -1,4 +1,4 @@
-// Frames printed as house lines, one behind the other in a lent buffer.
+// Frames printed as house lines, one after the other in a lent buffer.
 use frame::Lined;
 use frame::write_line;
 ghost use mathlib.Core.Path.{_≡_};
@@ -9,7 +9,7 @@ ghost use Rattle.buffer.specs.Write.{Pushed};
 ghost use Rattle.frame.specs.House.{houseLine};
 ghost use Rattle.session.specs.Prints.{badLine, frameOf, linesOf, shown, prompt};
 
-// Prints a frame at a place of out and returns the place behind it.
+// Prints a frame at a place of out and returns the place after it.
 pub fn print(frame: &[u8], out: &mut [u8], at: usize) -> usize
     requires { ⌜ at + (2 * length (now frame) + 1) ≤ length (now out) ⌝ }
     ensures { λ r. ⌜ Pushed (houseLine (now (frame .entry))) (now (out .entry)) at r (now (out .exit)) ⌝ }

@@ -15,6 +15,7 @@ ghost use Rattle.tree.specs.Images.{framesOf};
 ghost use Rattle.tree.specs.Rules.{checkTree};
 ghost use Rattle.tree.specs.declared.check.Checked.the-variants.{Good};
 ghost use Rattle.shell.specs.Lines.{Said, saidOf};
+ghost use Rattle.session.specs.Sizes.{frameSize, textSize, frameLine, answerRoom};
 ghost use Rattle.session.specs.Prints.{wide, frameOf, linesOf, shown, handler as handed};
 ghost use Rattle.session.specs.Held.{Fits, Says, Answers};
 
@@ -32,9 +33,9 @@ pub enum Printing {
     NoRoom(usize),
 }
 
-// Prints a text of that size, which stands behind its frame's kind from place 3 on.
+// Prints a text of that size, which stands after its frame's kind from place 3 on.
 fn print_text(text: &[u8], size: usize, out: &mut [u8], at: usize) -> usize
-    requires { ⌜ (length (now text) ≡ 65536) × (size ≤ 65533) × (getD (now text) 2 0 ≡ 0x22) × (at + 131073 ≤ length (now out)) ⌝ }
+    requires { ⌜ (length (now text) ≡ frameSize) × (size ≤ textSize) × (getD (now text) 2 0 ≡ 0x22) × (at + frameLine ≤ length (now out)) ⌝ }
     ensures { λ r. ⌜ Pushed (linesOf (shown (take size (drop 3 (now (text .entry)))))) (now (out .entry)) at r (now (out .exit)) ⌝ }
 {
     let end = 3 + size;
@@ -60,7 +61,7 @@ fn print_first(text: &[u8], size: usize, out: &mut [u8], at: usize) -> usize
 
 // Prints a report of that size, which stands from place 3 on, for a handler.
 fn print_handler(handler: usize, text: &mut [u8], size: usize, out: &mut [u8], at: usize) -> usize
-    requires { ⌜ (length (now text) ≡ 65536) × (size ≤ 65533) × (at + 131073 ≤ length (now out)) ⌝ }
+    requires { ⌜ (length (now text) ≡ frameSize) × (size ≤ textSize) × (at + frameLine ≤ length (now out)) ⌝ }
     ensures { λ r. ⌜ Pushed (houseLine (frameOf (handed handler (take size (drop 3 (now (text .entry))))))) (now (out .entry)) at r (now (out .exit)) ⌝ }
 {
     put_head(handler, text);
@@ -69,7 +70,7 @@ fn print_handler(handler: usize, text: &mut [u8], size: usize, out: &mut [u8], a
 
 // Prints what a line said, and the prompt unless that is the end. The line was not refused: what is left at last is that it said nothing.
 fn print_ran(ran: Ran, text: &mut [u8], out: &mut [u8], at: usize) -> Printing
-    requires { ⌜ Fits ran 65533 × (length (now text) ≡ 65536) × (getD (now text) 2 0 ≡ 0x22) × (at + 131096 ≤ length (now out)) ⌝ }
+    requires { ⌜ Fits ran textSize × (length (now text) ≡ frameSize) × (getD (now text) 2 0 ≡ 0x22) × (at + answerRoom ≤ length (now out)) ⌝ }
     ensures { λ r. ⌜ ((said : Said) → Says said ran (now (text .entry)) → Answers said (now (out .entry)) at r (now (out .exit))) ⌝ }
 {
     match ran {
@@ -91,7 +92,7 @@ fn print_ran(ran: Ran, text: &mut [u8], out: &mut [u8], at: usize) -> Printing
 
 // Runs a line under a tree, with a buffer for what it says, and prints that at a place of out.
 fn run_in(image: &[u8], line: &[u8], text: &mut [u8], out: &mut [u8], at: usize) -> Printing
-    requires { ⌜ (checkTree (now image) ≡ Good) × (length (now line) ≤ 255) × (length (now text) ≡ 65536) × (at + 131096 ≤ length (now out)) ⌝ }
+    requires { ⌜ (checkTree (now image) ≡ Good) × (length (now line) ≤ 255) × (length (now text) ≡ frameSize) × (at + answerRoom ≤ length (now out)) ⌝ }
     ensures { λ r. ⌜ Answers (saidOf (framesOf (now (image .entry))) (now (line .entry))) (now (out .entry)) at r (now (out .exit)) ⌝ }
 {
     text[2] = 0x22;
@@ -101,7 +102,7 @@ fn run_in(image: &[u8], line: &[u8], text: &mut [u8], out: &mut [u8], at: usize)
 
 // Runs a line under a tree and prints what it says at a place of out.
 pub fn run_line(image: &[u8], line: &[u8], out: &mut [u8], at: usize) -> Printing
-    requires { ⌜ (checkTree (now image) ≡ Good) × (length (now line) ≤ 255) × (at + 131096 ≤ length (now out)) ⌝ }
+    requires { ⌜ (checkTree (now image) ≡ Good) × (length (now line) ≤ 255) × (at + answerRoom ≤ length (now out)) ⌝ }
     ensures { λ r. ⌜ Answers (saidOf (framesOf (now (image .entry))) (now (line .entry))) (now (out .entry)) at r (now (out .exit)) ⌝ }
 {
     let mut text = [0u8; 65536];

@@ -64,7 +64,7 @@ fn take_frame(session: Session, bytes: &[u8], image: &mut [u8]) -> Took
     }
 }
 
-// Takes a house line: a frame of the tree is put behind the image in its buffer, keys are left in the buffer for a frame.
+// Takes a house line: a frame of the tree is put after the image in its buffer, keys are left in the buffer for a frame.
 pub fn take_line(session: Session, line: &[u8], image: &mut [u8], frame: &mut [u8]) -> Took
     ensures { λ r. ⌜ TakingLine session (now (line .entry)) (now (image .entry)) (now (frame .entry)) r (now (image .exit)) (now (frame .exit)) ⌝ }
 {

@@ -39,7 +39,7 @@ frames =
     ∷ flag 0x66 (ascii "force") (present (ascii "force")) (ascii "No question")
     ∷ []
 
--- 01's session; `log a\ ` is trimmed before it is split; a child with its flag
+-- the standard's session; `log a\ ` is trimmed before it is split; a child with its flag
 handlers :
     (saidOf frames (ascii "log") ≡ handed 2 (0x11 ∷ 0 ∷ 3 ∷ ascii "log"))
     × (saidOf frames (ascii "log a\\ ") ≡ handed 2 (0x11 ∷ 0 ∷ 3 ∷ ascii "log" ++ 0x14 ∷ 0 ∷ 1 ∷ ascii "a"))

@@ -20,7 +20,7 @@ use Rattle.text.proofs.Splits.{trimming, bytes-append}
 use Rattle.frame.specs.Series.{textsFrom, textsIn}
 use Rattle.frame.proofs.Series.{all-none}
 use Rattle.words.specs.Tokens.{wordsOf}
-use Rattle.words.proofs.Kept.{nothing}
+use Rattle.words.proofs.GoodWords.{nothing}
 use Rattle.arguments.specs.Inner.{WellSplit}
 use Rattle.words.specs.declared.tokenizer.Tokens.{Tokens}
 use Rattle.words.specs.declared.tokenizer.Tokens.the-variants.{Words, LineTooLong as TooLong, IllFormed as Ill, NoRoom as TooShort}

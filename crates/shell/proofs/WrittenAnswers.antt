@@ -9,7 +9,7 @@ use lib.Dec.{ltb}
 use lib.ListN.{length}
 use Rattle.buffer.specs.Write.{over, overIfFits}
 use Rattle.buffer.proofs.Choices.{else-is}
-use Rattle.buffer.specs.Showing.{showAnswer, leavesBy as showLeavesBy, overIfFits, Showing}
+use Rattle.buffer.specs.Showing.{showAnswer, Showing}
 use Rattle.buffer.specs.declared.show.Shown.{Shown}
 use Rattle.buffer.specs.declared.show.Shown.the-variants.{Text as ShownText, NoRoom as ShownShort}
 use Rattle.report.specs.Inner.{reportAnswer, leavesBy as reportLeavesBy, reportLeaves, Reporting}

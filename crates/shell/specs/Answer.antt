@@ -1,4 +1,4 @@
--- What `run` answers and leaves (01, "Numbers given back": 1, 2, then its text, 9, in that order).
+-- What `run` answers and leaves (STANDARD 10: 1, 2, then its text, 9, in that order).
 use Prim.Native.Nat.{ℕ, min}
 use mathlib.Core.Path.{_≡_}
 use mathlib.Core.Bool.{cond}
@@ -57,7 +57,7 @@ kind (BadTree n) = 0
 kind (LineTooLong n) = 0
 kind (NoRoom n) = 0
 
--- the refusal's number in 01 (0: none), and the value that goes with it: the length of what is written, or what 01 says
+-- the refusal's number (STANDARD 10.2; 0: none), and the value that goes with it: the length of what is written, or what the standard says
 abbrev pub number : Ran → ℕ
 number Nothing = 0
 number (Text m n) = 0

@@ -1,4 +1,4 @@
--- What a line is answered (01, "Running a line and help"; `handle_builtin_commands`, `run_cmd_bytes` and `execute_command` of 000).
+-- What a line is answered (STANDARD 9; `handle_builtin_commands`, `run_cmd_bytes` and `execute_command` of 000).
 use Prim.Native.Nat.{ℕ}
 use mathlib.Core.Bool.{Bool, cond}
 use mathlib.Core.List.{List, [], _∷_, _++_}
@@ -23,7 +23,7 @@ use Rattle.parse.specs.Answer.{toldIn}
 use Rattle.shell.specs.declared.builtin.Builtin.{Builtin}
 use Rattle.shell.specs.declared.builtin.Builtin.the-variants.{Help, Exit, Clear, None}
 
--- nothing; a text, with the number of 01 beside it, 0 where it is no refusal; the end, with its text; or a handler with the report for it
+-- nothing; a text, with the number of the standard beside it, 0 where it is no refusal; the end, with its text; or a handler with the report for it
 pub data Said : Type 0 where
   silence : Said
   text : (number : ℕ) (bytes : List ℕ) → Said

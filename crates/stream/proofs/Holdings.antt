@@ -1,4 +1,4 @@
--- Bytes put behind those that are held: a turn of the loop, and its three ends.
+-- Bytes put after those that are held: a turn of the loop, and its three ends.
 use Prim.Native.Nat.{ℕ, suc, _+_, _≤_, _<_}
 use mathlib.Core.Path.{_≡_, refl, sym, ap, _∙_}
 use mathlib.Core.Bool.{Bool, true, false, cond}
@@ -17,7 +17,7 @@ use Rattle.frame.specs.House.{LF}
 use Rattle.stream.specs.Bytes.{lineRoom, closes}
 use Rattle.stream.specs.Held.{reach, isClosed, Holding}
 
--- one byte more: it ends the line, or the line goes on behind it
+-- one byte more: it ends the line, or the line goes on after it
 module _ (held byte : ℕ) (bytes : List ℕ) where
   pub closes-lf : byte ≡ LF → closes held byte ≡ true
   unfolding closes

@@ -1,4 +1,4 @@
--- Moves made one after the other: each prints behind the one before, and together they are one move.
+-- Moves made one after the other: each prints after the one before, and together they are one move.
 use Prim.Native.Nat.{ℕ, _+_, _≤_}
 use mathlib.Core.Path.{_≡_, refl, sym, ap, _∙_}
 use mathlib.Core.List.{List, [], _++_}
@@ -18,7 +18,7 @@ pub size-none : size [] ≡ 0
 unfolding linesOf
 size-none = refl
 
--- a move made at a place of a buffer comes to the same as another made at another place before: where the stream stands, the place behind, and the bytes
+-- a move made at a place of a buffer comes to the same as another made at another place before: where the stream stands, the place after, and the bytes
 pub record Same (m : Move) (out : List ℕ) (at : ℕ) (m₀ : Move) (out₀ : List ℕ) (at₀ : ℕ) : Type 0 where
   pub after : m .after ≡ m₀ .after
   pub place : at + size (m .prints) ≡ at₀ + size (m₀ .prints)
@@ -31,7 +31,7 @@ same-self m out at = record { after = refl; place = refl; bytes = refl }
 pub same-as : (m n : Move) (out : List ℕ) (at : ℕ) (m₀ : Move) (out₀ : List ℕ) (at₀ : ℕ) → n ≡ m → Same m out at m₀ out₀ at₀ → Same n out at m₀ out₀ at₀
 same-as m n out at m₀ out₀ at₀ e s = rw e s
 
--- what is printed first stands in the buffer, and the rest is made behind it
+-- what is printed first stands in the buffer, and the rest is made after it
 pub same-on : (before : List Printed) (m : Move) (out : List ℕ) (at : ℕ) (m₀ : Move) (out₀ : List ℕ) (at₀ : ℕ) → Same (printing before m) out at m₀ out₀ at₀ → at + size before ≤ length out
     → Same m (overAt (linesOf before) out at) (at + size before) m₀ out₀ at₀
 same-on before m out at m₀ out₀ at₀ s fits =

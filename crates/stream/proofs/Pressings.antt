@@ -15,7 +15,8 @@ use Rattle.buffer.proofs.Lending.{rest-lent, rest-written}
 use Rattle.session.specs.Prints.{linesOf}
 use Rattle.session.specs.Lines.{Standing, pressKey}
 use Rattle.session.specs.Held.{Laid, printing as answering}
-use Rattle.session.specs.Calls.{keyRoom, PressingKey}
+use Rattle.session.specs.Calls.{PressingKey}
+use Rattle.session.specs.Sizes.{keyRoom}
 use Rattle.session.specs.declared.running.Printing.{Printing}
 use Rattle.session.specs.declared.running.Printing.the-variants.{Goes, Ends}
 use Rattle.session.specs.declared.standing.Session.{Session}
@@ -187,7 +188,7 @@ module _ (line image : List ℕ) (keys : ℕ) (m₀ : Move) (out₀ : List ℕ) 
             sound = sound-stopped (r .session) line image slots′ key-ready;
           })
 
-  -- behind the last key the line is at its end
+  -- after the last key the line is at its end
   pub keys-done : keys ≤ next → (s : _) → s ≡ settled here → Moved m₀ out₀ at₀ (record { stream = s; printed = printed }) line image slots out
   keys-done h s e =
       rw e

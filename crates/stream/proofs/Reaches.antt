@@ -11,7 +11,7 @@ use borrow.Author.Tests.{le-ltb, leb-false, eqb-true}
 use Rattle.buffer.proofs.Choices.{else-is, true-is-not-false}
 use Rattle.frame.specs.House.{LF, ended}
 use Rattle.session.specs.Lines.{Standing}
-use Rattle.session.specs.Calls.{keyRoom}
+use Rattle.session.specs.Sizes.{keyRoom}
 use Rattle.stream.specs.Bytes.{lineRoom, closes}
 use Rattle.stream.specs.Moves.{reads, Move, size, lineMove, Went, stays, printed, takeSome}
 use Rattle.stream.specs.Held.{reach, isClosed, lineOf}
@@ -52,7 +52,7 @@ reach-room held (byte ∷ bytes) h = by (closes held byte) refl (reach-room (hel
     by true e k = omega arith
     by false e k = let l = k (go-on held byte e .1) in omega arith
 
--- bytes that end no line are all held, and there is room behind them
+-- bytes that end no line are all held, and there is room after them
 pub open-all : (held : ℕ) (bytes : List ℕ) → isClosed held bytes ≡ false → held < lineRoom → (reach held bytes ≡ length bytes) × (held + length bytes < lineRoom)
 unfolding reach isClosed
 open-all held [] e h = (refl, omega arith)
@@ -91,7 +91,7 @@ open-unended held (byte ∷ bytes) e c = by (closes (length held) byte) refl c (
 
 -- the definition, line by line
 module _ (room : ℕ) (roomy : keyRoom ≤ room) (at : Standing) where
-  -- a line that is at its end, or bytes that are held, and the bytes behind them
+  -- a line that is at its end, or bytes that are held, and the bytes after them
   abbrev goes : Bool → List ℕ → List ℕ → List ℕ → Went
   goes b text all left =
       let move : Move = cond b (lineMove room at text) (record { prints = []; after = reads at all }) in

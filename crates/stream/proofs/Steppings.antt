@@ -15,7 +15,8 @@ use Rattle.buffer.proofs.Choices.{then-is, else-is, true-is-not-false}
 use Rattle.buffer.proofs.Lending.{length-overAt, overAt-front, overAt-nothing}
 use Rattle.frame.specs.House.{ended}
 use Rattle.session.specs.Prints.{Printed, badLine, linesOf}
-use Rattle.session.specs.Calls.{keyRoom, RefusingLine}
+use Rattle.session.specs.Calls.{RefusingLine}
+use Rattle.session.specs.Sizes.{keyRoom}
 use Rattle.session.specs.declared.running.Printing.{Printing}
 use Rattle.session.specs.declared.running.Printing.the-variants.{Ends}
 use Rattle.session.proofs.running.Printing.{the-type}
@@ -51,7 +52,7 @@ module _ (s : Stream) (line image slots : List ℕ) where
   unfolding standOf
   stands-waiting p q = else-is _ _ _ p ∙ then-is _ _ _ q
 
--- bytes behind those that are held, in the buffer for a line
+-- bytes after those that are held, in the buffer for a line
 module _ (line : List ℕ) (held : ℕ) (bytes : List ℕ) (r : Held) (line′ : List ℕ) (h : Holding line held bytes r line′) (whole : length line ≡ lineRoom) (short : held < lineRoom) where
   some : length (take (reach held bytes) bytes) ≡ reach held bytes
   some = length-take-le (reach held bytes) bytes (reach-within held bytes)

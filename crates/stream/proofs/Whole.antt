@@ -13,7 +13,7 @@ use Rattle.frame.specs.Hex.{unhex}
 use Rattle.frame.specs.declared.house.House.{House}
 use Rattle.session.specs.Prints.{Printed, badLine, linesOf}
 use Rattle.session.specs.Lines.{formBy, formless, Form, lineForm, Standing, beginning, Taking, grown, pressing, refused, takeForm, takeLine, Course, behind, pressKey, pressKeys, onTaking, lineCourse, session}
-use Rattle.session.specs.Calls.{keyRoom}
+use Rattle.session.specs.Sizes.{keyRoom}
 use Rattle.session.proofs.Printings.{lines-both}
 use Rattle.stream.specs.Bytes.{closes, cut, linesIn, console}
 use Rattle.stream.specs.Moves.{Stand, reads, waits, closed, start, onward, rest, behindLine, Move, printing, size, pressSome, moveBy, lineMove, Went, stays, printed, takeSome, resume, stepBy, last}
@@ -171,7 +171,7 @@ resume-fit room (reads at held) f = f
 resume-fit room (waits at keys) f = press-fit room at keys
 resume-fit room closed f = tt
 
--- ONE STEP: what it prints comes next, and what is still to be printed then is what the definition prints behind it
+-- ONE STEP: what it prints comes next, and what is still to be printed then is what the definition prints after it
 pub step-comes : (room : ℕ) (s : Stand) (piece more : List ℕ) → Fit s → Comes s (stepBy room s piece) piece more
 unfolding stepBy
 step-comes room s piece more f =

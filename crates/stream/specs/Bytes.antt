@@ -1,4 +1,4 @@
--- From bytes in to bytes out (01, "One session in full"): bytes are cut into lines, the lines are a session, and what it prints is a house line a frame.
+-- From bytes in to bytes out (STANDARD 11): bytes are cut into lines, the lines are a session, and what it prints is a house line a frame.
 use Prim.Native.Nat.{ℕ, _+_}
 use mathlib.Core.Bool.{Bool, true, cond}
 use mathlib.Core.List.{List, [], _∷_, _++_}

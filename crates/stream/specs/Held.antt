@@ -22,7 +22,7 @@ use Rattle.stream.specs.declared.standing.Printout.{Printout}
 use Rattle.stream.specs.declared.holding.Held.{Held}
 use Rattle.stream.specs.declared.pressing.Keyed.{Keyed}
 
--- a session with so many bytes of a line, with keys to be pressed, behind a line, and at its end
+-- a session with so many bytes of a line, with keys to be pressed, after a line, and at its end
 abbrev pub reading : Session → ℕ → Stream
 reading h held = record { session = h; held = held; next = 0; keys = 0; over = false }
 
@@ -71,7 +71,7 @@ pub record Sound (s : Stream) (line image slots : List ℕ) : Type 0 where
   pub early : s .over ≡ false → ltb (s .next) (s .keys) ≡ false → s .session .lines < 65535
   pub unended : ended (take (s .held) line) ≡ false
 
--- bytes put behind those that are held: how many up to one that ends the line, and whether there is one
+-- bytes put after those that are held: how many up to one that ends the line, and whether there is one
 unfoldable pub reach : ℕ → List ℕ → ℕ
 reach held [] = 0
 reach held (byte ∷ bytes) = cond (closesAt held byte) 1 (suc (reach (held + 1) bytes))
@@ -94,7 +94,7 @@ pub record KeyMade (course : Course) (image slots out : List ℕ) (at : ℕ) (r 
   pub outs : length out′ ≡ length out
   pub slot : length slots′ ≡ length slots
 
--- a move, printed at a place: where the stream stands then, the place behind what was printed, and the bytes
+-- a move, printed at a place: where the stream stands then, the place after what was printed, and the bytes
 pub record Makes (move : Move) (out : List ℕ) (at : ℕ) (s : Stand) (printed : ℕ) (out′ : List ℕ) : Type 0 where
   pub after : s ≡ move .after
   pub place : printed ≡ at + size (move .prints)

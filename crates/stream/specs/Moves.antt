@@ -6,7 +6,7 @@ use lib.Dec.{ltb}
 use lib.ListN.{length}
 use Rattle.session.specs.Prints.{Printed, badLine, linesOf}
 use Rattle.session.specs.Lines.{Standing, beginning, Course, Taking, grown, pressing, refused, takeLine, pressKey, pressKeys, session}
-use Rattle.session.specs.Calls.{keyRoom}
+use Rattle.session.specs.Sizes.{keyRoom}
 use Rattle.stream.specs.Bytes.{closes, cut}
 
 -- some bytes of a line have come; keys of the last line are still to be pressed; the session is at its end

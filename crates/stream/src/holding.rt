@@ -1,4 +1,4 @@
-// The bytes of a line, put behind those that came before.
+// The bytes of a line, put after those that came before.
 ghost use mathlib.Core.Path.{_≡_};
 ghost use Prim.Native.Nat.{_<_};
 ghost use lib.ListN.{length};
@@ -11,7 +11,7 @@ pub struct Held {
     pub closed: bool,
 }
 
-// Puts bytes behind those that are held, up to one that ends the line: the LF, or the last one that there is room for.
+// Puts bytes after those that are held, up to one that ends the line: the LF, or the last one that there is room for.
 pub fn hold(line: &mut [u8], held: usize, bytes: &[u8]) -> Held
     requires { ⌜ (length (now line) ≡ lineRoom) × (held < lineRoom) ⌝ }
     ensures { λ r. ⌜ Holding (now (line .entry)) held (now (bytes .entry)) r (now (line .exit)) ⌝ }

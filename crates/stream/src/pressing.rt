@@ -1,6 +1,7 @@
 // Keys that wait are pressed, as long as there is room for what one of them may print.
 use super::standing::Printout;
 use super::standing::Stream;
+use session::KEY_ROOM;
 use session::Printing;
 use session::Session;
 use session::press;
@@ -8,13 +9,13 @@ ghost use mathlib.Core.Path.{_≡_};
 ghost use Prim.Native.Nat.{_+_, _-_, _≤_};
 ghost use lib.ListN.{length};
 ghost use Rattle.session.specs.Lines.{pressKey};
-ghost use Rattle.session.specs.Calls.{keyRoom};
+ghost use Rattle.session.specs.Sizes.{keyRoom};
 ghost use Rattle.session.proofs.Held.{Holds};
 ghost use Rattle.stream.specs.Moves.{pressSome};
 ghost use Rattle.stream.specs.Bytes.{lineRoom};
 ghost use Rattle.stream.specs.Held.{standingOf, keysOf, Ready, KeyMade, Moved};
 
-// A session after a key, the place behind what the key printed, and whether it was the last.
+// A session after a key, the place after what the key printed, and whether it was the last.
 pub struct Keyed {
     pub session: Session,
     pub printed: usize,
@@ -74,7 +75,7 @@ pub fn press_some(
     let mut next = next;
     let mut printed = at;
     while next < keys {
-        if out.len() - printed < 131101 {
+        if out.len() - printed < KEY_ROOM {
             return Printout {
                 stream: Stream::waiting(here, next, keys),
                 printed,

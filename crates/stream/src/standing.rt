@@ -20,7 +20,7 @@ pub struct Step {
     pub printed: usize,
 }
 
-// A stream after a move, and the place behind what is printed.
+// A stream after a move, and the place after what is printed.
 pub struct Printout {
     pub stream: Stream,
     pub printed: usize,
@@ -66,7 +66,7 @@ impl Stream {
         }
     }
 
-    // A session behind a line. Nothing is read past line 65,535.
+    // A session after a line. Nothing is read past line 65,535.
     pub fn settled(session: Session) -> Stream
         ensures { λ r. ⌜ r ≡ settled session ⌝ }
     {

@@ -5,6 +5,7 @@ use super::standing::Step;
 use super::standing::Stream;
 use super::taking::take_bytes;
 use buffer::rest;
+use session::KEY_ROOM;
 use session::Printing;
 use session::refuse;
 ghost use mathlib.Core.Path.{_≡_};
@@ -67,7 +68,7 @@ fn take_piece(
                 printed,
             };
         }
-        if out.len() - printed < 131101 {
+        if out.len() - printed < KEY_ROOM {
             return Step {
                 stream: here,
                 took,

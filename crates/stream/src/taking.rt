@@ -17,7 +17,7 @@ ghost use mathlib.Core.Path.{_≡_};
 ghost use mathlib.Core.Bool.{false};
 ghost use Prim.Native.Nat.{_+_, _-_, _<_, _≤_};
 ghost use lib.ListN.{length, take};
-ghost use Rattle.session.specs.Calls.{keyRoom};
+ghost use Rattle.session.specs.Sizes.{keyRoom};
 ghost use Rattle.stream.specs.Moves.{pressSome, lineMove};
 ghost use Rattle.stream.specs.Held.{busyWith, standingOf, Ready, Sound, reach, LineRead, Refuses, Moved, lineOf, Takes};
 

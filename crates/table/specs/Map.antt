@@ -1,4 +1,4 @@
--- The map of keys and values (01, "Arguments": options and flags by key bytes, a later value replaces an earlier one), as the Rust's
+-- The map of keys and values (STANDARD 7: options and flags by key bytes, a later value replaces an earlier one), as the Rust's
 -- BTreeMap<String, String> has it: an association list whose keys rise strictly by bytes. Flags are such a map with empty values.
 use Prim.Native.Nat.{ℕ}
 use mathlib.Core.Path.{_≡_}

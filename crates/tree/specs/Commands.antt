@@ -1,4 +1,4 @@
--- The command that words name (01, "Arguments"): the first word names a node of depth 0, and words are followed while they name a child.
+-- The command that words name (STANDARD 7): the first word names a node of depth 0, and words are followed while they name a child.
 use Prim.Native.Nat.{ℕ, suc}
 use mathlib.Core.List.{List, [], _∷_, _++_}
 use Rattle.frame.specs.Series.{textsIn}

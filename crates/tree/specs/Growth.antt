@@ -1,4 +1,4 @@
--- An image that grows by one frame at a time (01, "The tree image", "One session in full").
+-- An image that grows by one frame at a time (STANDARD 6 and 11).
 use Prim.Native.Nat.{ℕ, _+_}
 use mathlib.Core.Path.{_≡_}
 use mathlib.Core.Bool.{Bool, true, false, cond}
@@ -51,7 +51,7 @@ passedBy walk (read f n) = passed walk f n
 passedBy walk broken = walk
 passedBy walk ended = walk
 
--- One frame more, or all as it was. The answer says no more than whether it was taken: a frame that comes by itself has no number in the table of 01. In a session the line that
+-- One frame more, or all as it was. The answer says no more than whether it was taken: a frame that comes by itself has no number in the table of the standard. In a session the line that
 -- held it is the console's to answer, by a frame 2F with the line's number; an image that is lent whole is refused by 1 with the frame's number.
 pub record Grows (walk : Walk) (frame buffer : List ℕ) (r : Step) (left : List ℕ) : Type 0 where
   pub answer : r ≡ stepIf (admits walk frame buffer) walk (passedBy walk (readFirst frame))

@@ -1,4 +1,4 @@
--- What `tokenize` answers and leaves (01, "Numbers given back": 2, 3, 9, in that order).
+-- What `tokenize` answers and leaves (STANDARD 10: 2, 3, 9, in that order).
 use Prim.Native.Nat.{ℕ, min}
 use mathlib.Core.Path.{_≡_}
 use mathlib.Core.Bool.{cond}
@@ -38,7 +38,7 @@ pub record Tokenized (line out : List ℕ) (r : Tokens) (left : List ℕ) : Type
   pub answer : r ≡ answerFor line (length out)
   pub bytes : left ≡ leavesFor line out
 
--- the refusal's number in 01 (0: none), and the value that goes with it
+-- the refusal's number (STANDARD 10.2; 0: none), and the value that goes with it
 abbrev pub number : Tokens → ℕ
 number (Words n) = 0
 number (LineTooLong n) = 2

@@ -1,4 +1,4 @@
--- The words of a line (01, "Words"; the Rust's `tokenize`): left to right by character.
+-- The words of a line (STANDARD 5; the Rust's `tokenize`): left to right by character.
 use Prim.Native.Nat.{ℕ}
 use mathlib.Core.Bool.{Bool, true, false, cond, not}
 use mathlib.Core.List.{List, [], _∷_, _++_, map}

@@ -1,6 +1,6 @@
 -- `history::testing::are_good` meets its contract. The rest is good exactly if the whole is.
 use Rattle.history.proofs.Judging.{judged-begin, judged-bad, judged-repeated, judged-on, judged-end}
-use Rattle.history.specs.Steps.{slotBefore, judged}
+use Rattle.history.specs.Inner.{slotBefore, judged}
 use borrow.Author.Tests.{not-true, not-false}
 use native.Mathlib.Omega.{arith}
 use Prim.Native.Nat.{_+_, _-_, _*_, _≤_}

@@ -1,4 +1,4 @@
--- `session::printing::print_prompt` meets its contract: the constant is the prompt behind its kind.
+-- `session::printing::print_prompt` meets its contract: the constant is the prompt after its kind.
 use Rattle.session.specs.Prints.{prompt}
 use Rattle.buffer.specs.Ascii.{ascii}
 use borrow.Author.Needs.{needs}

@@ -1,4 +1,4 @@
--- `session::running::run_in` meets its contract: what the line says stands behind the place of its kind.
+-- `session::running::run_in` meets its contract: what the line says stands after the place of its kind.
 use Rattle.frame.specs.Text.{Bytes}
 use Rattle.session.proofs.Runs.{run-back, run-ready, run-says}
 use native.Mathlib.Omega.{arith}

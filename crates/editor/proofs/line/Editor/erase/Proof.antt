@@ -1,4 +1,4 @@
--- `editor::line::Editor::erase` meets its contract. What stood behind the cursor has moved back up to i.
+-- `editor::line::Editor::erase` meets its contract. What stood after the cursor has moved back up to i.
 use Rattle.editor.specs.Line.{lineOf}
 use Rattle.editor.proofs.Lines.{good-line, length-of, Erasing, erase-start, erase-turn, erase-end}
 use native.Mathlib.Omega.{arith}

@@ -1,4 +1,4 @@
--- `editor::line::Editor::insert` meets its contract. What stood at the cursor and behind it has moved on up to i.
+-- `editor::line::Editor::insert` meets its contract. What stood at the cursor and after it has moved on up to i.
 use Rattle.editor.proofs.Lines.{below-limit, good-line, length-of, Inserting, insert-begin, insert-turn, insert-end}
 use native.Mathlib.Omega.{arith}
 use Prim.Native.Nat.{_+_, _-_, _≤_}

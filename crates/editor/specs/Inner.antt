@@ -1,4 +1,4 @@
--- How the code goes: what a turn comes to, given the room on the screen.
+-- What only contracts of inner functions cite: what a turn comes to, given the room on the screen.
 use Prim.Native.Nat.{ℕ}
 use mathlib.Core.Path.{_≡_}
 use mathlib.Core.Bool.{cond}

@@ -1,0 +1,26 @@
+-- How many bytes a key prints at most, each number once.
+use Prim.Native.Nat.{ℕ, _+_, _*_}
+
+-- a frame with its kind, and the text that stands in one after the kind and a handler's number
+abbrev pub frameSize : ℕ
+frameSize = 65536
+
+abbrev pub textSize : ℕ
+textSize = 65533
+
+-- as house lines: the line feed of Enter, a frame, the prompt
+abbrev pub feedLine : ℕ
+feedLine = 5
+
+abbrev pub frameLine : ℕ
+frameLine = 131073
+
+abbrev pub promptLine : ℕ
+promptLine = 23
+
+-- what a line that is run prints, with the prompt after it; and with the line feed before it, what a key prints
+abbrev pub answerRoom : ℕ
+answerRoom = 131096
+
+abbrev pub keyRoom : ℕ
+keyRoom = 131101
