@@ -106,7 +106,7 @@ impl Lent {
     /// The entries of the history, as the library left them.
     pub fn entries(&self) -> Vec<&[u8]> {
         let slots = self.slots.found().chunks_exact(saved::SLOT);
-        slots.take(usize::from(self.state.found()[3])).map(|slot| &slot[1..][..usize::from(slot[0])]).collect()
+        slots.take(usize::from(self.state.found()[saved::EDITOR])).map(|slot| &slot[1..][..usize::from(slot[0])]).collect()
     }
 
     // A line buffer that is too short is refused before a screen that is.
