@@ -23,6 +23,14 @@ original() {
         --extern "log=$built/liblog.rlib" "$@"
 }
 
+# answers NAME FOLDER: builds compare/NAME.rs and lets it write the stored input and answers into the folder.
+answers() {
+    compile --crate-type bin --crate-name "$1" -o "$built/$1" "compare/$1.rs" \
+        --extern "axstd=$built/libaxstd.rlib" --extern "forest=$built/libforest.rlib" \
+        --extern "original=$built/liboriginal.rlib" --extern "original_fs=$built/liboriginal_fs.rlib"
+    "$built/$1" "$2"
+}
+
 rm -rf "$built/original"
 mkdir -p "$built/original/shell/command/vm"
 for file in shell/mod.rs shell/command/mod.rs shell/command/history.rs shell/command/base.rs; do

@@ -3,7 +3,4 @@
 set -eu
 cd "$(dirname "$0")/.."
 . compare/original.sh
-compile --crate-type bin --crate-name parse_answers -o "$built/parse_answers" compare/parse_answers.rs \
-    --extern "forest=$built/libforest.rlib" --extern "original=$built/liboriginal.rlib" \
-    --extern "original_fs=$built/liboriginal_fs.rlib"
-"$built/parse_answers" crates/replay_parse
+answers parse_answers crates/replay_parse
