@@ -20,10 +20,7 @@ export RISSEMAT_CONSOLE
 
 # program NAME FILE: a program over the original, in both its forms, and over the library.
 program() {
-    compile --crate-type bin --crate-name "$1" -o "$built/$1" "$2" \
-        --extern "axstd=$built/libaxstd.rlib" --extern "calls=$built/libcalls.rlib" \
-        --extern "forest=$built/libforest.rlib" --extern "original=$built/liboriginal.rlib" \
-        --extern "original_fs=$built/liboriginal_fs.rlib" -C "link-arg=$library"
+    over_original "$1" "$2" --extern "calls=$built/libcalls.rlib" -C "link-arg=$library"
 }
 
 rlib calls compare/calls.rs

@@ -23,11 +23,19 @@ original() {
         --extern "log=$built/liblog.rlib" "$@"
 }
 
+# over_original NAME FILE WORDS..: a program over the original, in both its forms. The WORDS go to rustc.
+over_original() {
+    name=$1
+    file=$2
+    shift 2
+    compile --crate-type bin --crate-name "$name" -o "$built/$name" "$file" \
+        --extern "axstd=$built/libaxstd.rlib" --extern "forest=$built/libforest.rlib" \
+        --extern "original=$built/liboriginal.rlib" --extern "original_fs=$built/liboriginal_fs.rlib" "$@"
+}
+
 # answers NAME FOLDER: builds compare/NAME.rs and lets it write the stored input and answers into the folder.
 answers() {
-    compile --crate-type bin --crate-name "$1" -o "$built/$1" "compare/$1.rs" \
-        --extern "axstd=$built/libaxstd.rlib" --extern "forest=$built/libforest.rlib" \
-        --extern "original=$built/liboriginal.rlib" --extern "original_fs=$built/liboriginal_fs.rlib"
+    over_original "$1" "compare/$1.rs"
     "$built/$1" "$2"
 }
 
