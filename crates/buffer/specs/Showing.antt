@@ -16,7 +16,7 @@ pub record Showing (text out : List ℕ) (r : Shown) (left : List ℕ) : Type 0 
   pub answer : r ≡ showAnswer text (length out)
   pub bytes : left ≡ overIfFits text out
 
--- the refusal's number (STANDARD 10.2; 0: none), and the value that goes with it
+-- the refusal's number (STANDARD 10.1; 0: none), and the value that goes with it
 abbrev pub number : Shown → ℕ
 number (Text n) = 0
 number (NoRoom n) = 9

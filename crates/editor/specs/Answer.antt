@@ -75,7 +75,7 @@ pub record Pressing (e : Editor) (h : History) (slots prompt : List ℕ) (byte :
   pub given : line′ ≡ cond (refused (k .answer)) line (over (turnOf prompt (stateOf e h slots) byte .submitted) line)
   pub shown : screen′ ≡ cond (refused (k .answer)) screen (over (turnOf prompt (stateOf e h slots) byte .screen) screen)
 
--- the refusal's number (STANDARD 10.2; 0: none), and the value that goes with it
+-- the refusal's number (STANDARD 10.1; 0: none), and the value that goes with it
 abbrev pub number : Pressed → ℕ
 number (Shown n) = 0
 number (Entered n) = 0

@@ -89,7 +89,7 @@ pub record Helping (image line out : List ℕ) (r : Helped) (left : List ℕ) : 
   pub answer : r ≡ answerFor image line (length out)
   pub bytes : left ≡ leavesFor image line out
 
--- the refusal's number (STANDARD 10.2; 0: none), and the value that goes with it
+-- the refusal's number (STANDARD 10.1; 0: none), and the value that goes with it
 abbrev pub number : Helped → ℕ
 number (Text n) = 0
 number (BadTree n) = 1

@@ -50,7 +50,7 @@ pub record Addition (h : History) (slots text : List ℕ) (r : History) (told : 
   pub state : r ≡ recordBy (addAnswer h slots text) h (offered text (journalOf h slots))
   pub bytes : left ≡ slotsBy (addAnswer h slots text) slots (offered text (journalOf h slots))
 
--- the refusal's number (STANDARD 10.2; 0: none), and the value that goes with it
+-- the refusal's number (STANDARD 10.1; 0: none), and the value that goes with it
 abbrev pub number : Added → ℕ
 number Done = 0
 number BadState = 12

@@ -57,7 +57,7 @@ pub record Parsing (image line out : List ℕ) (r : Parsed) (left : List ℕ) : 
   pub answer : r ≡ parseAnswer image line (length out)
   pub bytes : left ≡ parseLeaves image line out
 
--- the refusal's number (STANDARD 10.2; 0: none), and the value that goes with it; a fault's text stands in its frame, whose length that is
+-- the refusal's number (STANDARD 10.1; 0: none), and the value that goes with it; a fault's text stands in its frame, whose length that is
 abbrev pub number : Parsed → ℕ
 number (Report n) = 0
 number (BadTree n) = 1

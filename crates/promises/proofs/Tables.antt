@@ -6,7 +6,7 @@ use mathlib.Core.List.{List, [], _∷_}
 use lib.Dec.{ltb}
 use lib.ListN.{length}
 
--- what a call tells: the refusal's number (STANDARD 10.2; 0: none), the value that goes with it, and what stands in each lent buffer and state
+-- what a call tells: the refusal's number (STANDARD 10.1; 0: none), the value that goes with it, and what stands in each lent buffer and state
 pub record Answered (L : Type 0) : Type 0 where
   pub number : ℕ
   pub value : ℕ

@@ -46,7 +46,7 @@ pub record Quotation (words out : List ℕ) (r : Quoted) (left : List ℕ) : Typ
   pub answer : r ≡ quoteAnswer words (length out)
   pub bytes : left ≡ quoteLeaves words out
 
--- the refusal's number (STANDARD 10.2; 0: none), and the value that goes with it
+-- the refusal's number (STANDARD 10.1; 0: none), and the value that goes with it
 abbrev pub number : Quoted → ℕ
 number (Line n) = 0
 number (BadWord n) = 10

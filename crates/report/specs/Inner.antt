@@ -37,7 +37,7 @@ pub record Reporting (frames out : List ℕ) (r : Reported) (left : List ℕ) : 
   pub answer : r ≡ reportAnswer frames (length out)
   pub bytes : left ≡ reportLeaves frames out
 
--- the refusal's number (STANDARD 10.2; 0: none), and the value that goes with it
+-- the refusal's number (STANDARD 10.1; 0: none), and the value that goes with it
 abbrev pub number : Reported → ℕ
 number (Report n) = 0
 number (NoRoom n) = 9

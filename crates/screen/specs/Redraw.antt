@@ -35,7 +35,7 @@ pub record Redraw (prompt content : List ℕ) (cursor : ℕ) (out : List ℕ) (r
   pub answer : r ≡ roomAnswer (length (redraw prompt content cursor)) (length out)
   pub bytes : left ≡ overIfFits (redraw prompt content cursor) out
 
--- the refusal's number (STANDARD 10.2; 0: none), and the value that goes with it
+-- the refusal's number (STANDARD 10.1; 0: none), and the value that goes with it
 abbrev pub number : Redrawn → ℕ
 number (Shown n) = 0
 number (NoRoom n) = 9

@@ -5,7 +5,7 @@ use Rattle.session.specs.declared.running.Printing.the-variants.{Goes, E
 use Rattle.session.specs.declared.taking.Taken.{Taken}
 use Rattle.session.specs.declared.taking.Taken.the-variants.{Tree, Keys, BadLine, Over, NoRoom as NoBuffer}
 
--- the refusal's number (STANDARD 10.2; 0: none), and the value that goes with it: the length of what is printed, or what the standard says
+-- the refusal's number (STANDARD 10.1; 0: none), and the value that goes with it: the length of what is printed, or what the standard says
 abbrev pub number : Printing → ℕ
 number (Goes n) = 0
 number (Ends n) = 0

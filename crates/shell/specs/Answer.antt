@@ -57,7 +57,7 @@ kind (BadTree n) = 0
 kind (LineTooLong n) = 0
 kind (NoRoom n) = 0
 
--- the refusal's number (STANDARD 10.2; 0: none), and the value that goes with it: the length of what is written, or what the standard says
+-- the refusal's number (STANDARD 10.1; 0: none), and the value that goes with it: the length of what is written, or what the standard says
 abbrev pub number : Ran → ℕ
 number Nothing = 0
 number (Text m n) = 0

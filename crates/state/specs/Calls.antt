@@ -33,7 +33,7 @@ isReady Ready = true
 isReady (NoRoom n) = false
 isReady BadState = false
 
--- the refusal's number (STANDARD 10.2; 0: none), and the value that goes with it
+-- the refusal's number (STANDARD 10.1; 0: none), and the value that goes with it
 abbrev pub number : Begun → ℕ
 number Ready = 0
 number (NoRoom n) = 9

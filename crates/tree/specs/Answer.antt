@@ -3,7 +3,7 @@ use Prim.Native.Nat.{ℕ}
 use Rattle.tree.specs.declared.check.Checked.{Checked}
 use Rattle.tree.specs.declared.check.Checked.the-variants.{Good, BadFrame}
 
--- the refusal's number (STANDARD 10.2; 0: none), and the value that goes with it
+-- the refusal's number (STANDARD 10.1; 0: none), and the value that goes with it
 abbrev pub number : Checked → ℕ
 number Good = 0
 number (BadFrame n) = 1

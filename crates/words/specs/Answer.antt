@@ -38,7 +38,7 @@ pub record Tokenized (line out : List ℕ) (r : Tokens) (left : List ℕ) : Type
   pub answer : r ≡ answerFor line (length out)
   pub bytes : left ≡ leavesFor line out
 
--- the refusal's number (STANDARD 10.2; 0: none), and the value that goes with it
+-- the refusal's number (STANDARD 10.1; 0: none), and the value that goes with it
 abbrev pub number : Tokens → ℕ
 number (Words n) = 0
 number (LineTooLong n) = 2
