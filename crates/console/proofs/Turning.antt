@@ -46,7 +46,7 @@ module _ (c : Console) (input line image slots out : List ℕ) (k : Ready c inpu
   left : drop (r .took) piece ≡ stepBy (length out) (standOf (c .stream) line image slots) (pieceOf c input) .left
   left = s .left ∙ ap (λ (l : List ℕ). stepBy (length out) (standOf (c .stream) line image slots) l .left) part
 
-  pub turn-stops : (q : Console) → q ≡ stopped (r .stream) → Turned c (stepBy (length out) (standOf (c .stream) line image slots) (pieceOf c input)) input q input line′ image′ slots′ out′
+  pub turn-stops : (q : Console) → q ≡ stopped (r .stream) → Turned (stepBy (length out) (standOf (c .stream) line image slots) (pieceOf c input)) q input line′ image′ slots′ out′
   turn-stops q e =
       rw e
       (record {
@@ -55,7 +55,7 @@ module _ (c : Console) (input line image slots out : List ℕ) (k : Ready c inpu
         kept = λ o. absurd (true-is-not-false o);
       })
 
-  pub turn-goes : Turned c (stepBy (length out) (standOf (c .stream) line image slots) (pieceOf c input)) input
+  pub turn-goes : Turned (stepBy (length out) (standOf (c .stream) line image slots) (pieceOf c input))
       (record { stream = r .stream; at = c .at + r .took; end = c .end; over = false }) input line′ image′ slots′ out′
   turn-goes =
       record {
@@ -65,7 +65,7 @@ module _ (c : Console) (input line image slots out : List ℕ) (k : Ready c inpu
       }
 
   pub turn-reads : c .end ≤ c .at + r .took → busyWith (r .stream) ≡ false → (q : Console) (input′ out″ : List ℕ) → ReadOn (r .stream) input out′ q input′ out″
-      → Turned c (stepBy (length out) (standOf (c .stream) line image slots) (pieceOf c input)) input q input′ line′ image′ slots′ out″
+      → Turned (stepBy (length out) (standOf (c .stream) line image slots) (pieceOf c input)) q input′ line′ image′ slots′ out″
   turn-reads h idle q input′ out″ p =
       let all : r .took ≡ length piece = let n = size in let w = next-within in let t = s .took in omega arith in
       let none : drop (r .took) piece ≡ [] = ap (λ (n : ℕ). drop n piece) all ∙ drop-length piece in

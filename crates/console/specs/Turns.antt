@@ -5,7 +5,7 @@ use mathlib.Core.Bool.{true, false}
 use mathlib.Core.List.{List, []}
 use mathlib.Core.Logic.{_⊎_}
 use lib.ListN.{length, take, drop}
-use Rattle.stream.specs.Moves.{Went}
+use Rattle.stream.specs.Moves.{Went, stepBy}
 use Rattle.stream.specs.Held.{starting as fresh, busyWith, standOf, Sound}
 use Rattle.stream.specs.declared.standing.Stream.{Stream}
 use Rattle.console.specs.declared.channels.Got.{Got}
@@ -46,7 +46,11 @@ pub record ReadOn (s : Stream) (input out : List ℕ) (r : Console) (input′ ou
   pub outs : length out′ ≡ length out
 
 -- a turn makes the step that the definition makes, and loses no byte: what the step left is still there, or it left nothing and the next piece is read
-pub record Turned (c : Console) (went : Went) (input : List ℕ) (r : Console) (input′ line′ image′ slots′ out′ : List ℕ) : Type 0 where
+pub record Turned (went : Went) (r : Console) (input′ line′ image′ slots′ out′ : List ℕ) : Type 0 where
   pub ready : Ready r input′ line′ image′ slots′ out′
   pub after : standOf (r .stream) line′ image′ slots′ ≡ went .move .after
   pub kept : r .over ≡ false → (pieceOf r input′ ≡ went .left) ⊎ ((went .left ≡ []) × (busyWith (r .stream) ≡ false))
+
+abbrev pub Turning : Console → List ℕ → List ℕ → List ℕ → List ℕ → List ℕ → Console → List ℕ → List ℕ → List ℕ → List ℕ → List ℕ → Type 0
+Turning c input line image slots out r input′ line′ image′ slots′ out′ =
+    Turned (stepBy (length out) (standOf (c .stream) line image slots) (pieceOf c input)) r input′ line′ image′ slots′ out′

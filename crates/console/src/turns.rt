@@ -17,9 +17,7 @@ ghost use Prim.Native.Nat.{_≤_};
 ghost use lib.ListN.{length};
 ghost use Rattle.history.specs.Journal.{noEntries, slotsOf};
 ghost use Rattle.stream.specs.Bytes.{lineRoom};
-ghost use Rattle.stream.specs.Moves.{stepBy};
-ghost use Rattle.stream.specs.Held.{standOf};
-ghost use Rattle.console.specs.Turns.{starting, stopped, pieceOf, Ready, ReadOn, Turned};
+ghost use Rattle.console.specs.Turns.{starting, stopped, Ready, ReadOn, Turning};
 
 // The stream, where what is left of the piece that was read lies in its buffer, and whether the console is at its end.
 pub struct Console {
@@ -86,7 +84,7 @@ fn turn(
     out: &mut [u8],
 ) -> Console
     requires { ⌜ Ready console (now input) (now line) (now image) (now slots) (now out) ⌝ }
-    ensures { λ r. ⌜ Turned console (stepBy (length (now (out .entry))) (standOf (console .stream) (now (line .entry)) (now (image .entry)) (now (slots .entry))) (pieceOf console (now (input .entry)))) (now (input .entry)) r (now (input .exit)) (now (line .exit)) (now (image .exit)) (now (slots .exit)) (now (out .exit)) ⌝ }
+    ensures { λ r. ⌜ Turning console (now (input .entry)) (now (line .entry)) (now (image .entry)) (now (slots .entry)) (now (out .entry)) r (now (input .exit)) (now (line .exit)) (now (image .exit)) (now (slots .exit)) (now (out .exit)) ⌝ }
 {
     let at = console.at;
     let end = console.end;

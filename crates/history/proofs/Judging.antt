@@ -6,12 +6,13 @@ use mathlib.Core.List.{List, [], _∷_, _++_, append-assoc}
 use native.Mathlib.Omega.{arith}
 use lib.Dec.{eqb}
 use lib.ListN.{length, take, drop, getD, length-drop, take-append-drop}
-use lib.Seq.{take-add, drop-drop, getD-drop, length-take-le}
+use lib.Seq.{take-add, take-take, drop-drop, getD-drop, length-take-le}
 use borrow.Author.Tests.{eq-eqb, ne-eqb, lt-ltb, le-ltb, le-leb}
 use Rattle.buffer.proofs.Choices.{then-is, else-is, true-is-not-false}
 use Rattle.buffer.proofs.Lists.{drop-step}
 use Rattle.buffer.proofs.Zeros.{zero-bytes}
 use Rattle.buffer.proofs.Lending.{rest-lent}
+use Rattle.buffer.proofs.Greatest.{greatest-append}
 use Rattle.buffer.proofs.Ordering.{same-append, same-behind, same-as, same-is}
 use Rattle.buffer.specs.Compare.{sameBytes}
 use Rattle.buffer.specs.Greatest.{greatest}
@@ -252,6 +253,19 @@ pub judged-begin : (s : List ℕ) (n : ℕ) → judged (slotBefore 0 s) (n - 0) 
 judged-begin s n =
     let e : n - 0 ≡ n = omega arith in
     ap (λ (b : List ℕ). judged b (n - 0) s) (before-first s 0 (omega arith)) ∙ ap (λ (k : ℕ). judged [] k s) e
+
+-- no byte of the entry is above the greatest of its slot
+greatest-first : (s : List ℕ) (i j : ℕ) → i ≤ j → greatest (take i s) ≤ greatest (take j s)
+greatest-first s i j h =
+    let parts : greatest (take j s) ≡ max (greatest (take i s)) (greatest (drop i (take j s))) =
+    ap greatest (sym (take-append-drop i (take j s))) ∙ greatest-append (take i (take j s)) (drop i (take j s))
+    ∙ ap (λ (l : List ℕ). max (greatest l) (greatest (drop i (take j s)))) (take-take i j s h)
+    in
+    omega arith
+
+pub entry-below : (s : List ℕ) (at n top : ℕ) → n < 256 → top ≡ greatest (take (at + 256 - (at + 1)) (drop (at + 1) s))
+    → greatest (take (at + 1 + n - (at + 1)) (drop (at + 1) s)) ≤ top
+entry-below s at n top h e = let k = greatest-first (drop (at + 1) s) (at + 1 + n - (at + 1)) (at + 256 - (at + 1)) (omega arith) in omega arith
 
 -- a slot by its parts
 pub slot-bad : (s : List ℕ) (at n : ℕ) → n ≡ getD s at 0 → usable (take (at + 1 + n - (at + 1)) (drop (at + 1) s)) ≡ false → goodSlot (drop at s) ≡ false

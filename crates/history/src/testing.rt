@@ -4,6 +4,7 @@ ghost use mathlib.Core.Path.{_≡_};
 ghost use mathlib.Core.List.{[]};
 ghost use lib.ListN.{length, take, drop};
 ghost use Rattle.buffer.specs.Compare.{sameBytes};
+ghost use Rattle.buffer.specs.Greatest.{greatest};
 ghost use Rattle.history.specs.Entries.{usable};
 ghost use Rattle.history.specs.Journal.{good};
 ghost use Rattle.history.specs.Inner.{goodSlot, slotBefore, judged};
@@ -14,20 +15,22 @@ use buffer::same_throughout;
 use text::is_blank;
 use text::well_formed_prefix;
 
-// Whether a text is well-formed and not blank.
-fn is_usable(text: &[u8]) -> bool
+// Whether a text is well-formed and not blank, given a byte that none of its own exceeds: below 80 the text is ASCII.
+fn is_usable(text: &[u8], top: u8) -> bool
+    requires { ⌜ greatest (now text) ≤ top ⌝ }
     ensures { λ r. ⌜ r ≡ usable (now (text .entry)) ⌝ }
 {
     if is_blank(text) {
         return false;
     }
-    if greatest_byte(text) < 0x80 {
+    if top < 0x80 {
         return true;
     }
     well_formed_prefix(text) == text.len()
 }
 
-// Whether the slot at a place holds a usable entry, with zeros after it.
+// Whether the slot at a place holds a usable entry, with zeros after it. Its greatest byte is that of the whole slot: a pass of one length, whatever the
+// entry's, is the fastest.
 fn is_good_slot(slots: &[u8], at: usize) -> bool
     requires { ⌜ at + 256 ≤ length (now slots) ⌝ }
     ensures { λ r. ⌜ r ≡ goodSlot (drop at (now (slots .entry))) ⌝ }
@@ -35,7 +38,8 @@ fn is_good_slot(slots: &[u8], at: usize) -> bool
     let start = at + 1;
     let end = start + byte_at(slots, at);
     let next = at + 256;
-    if !is_usable(&slots[start..end]) {
+    let top = greatest_byte(&slots[start..next]);
+    if !is_usable(&slots[start..end], top) {
         return false;
     }
     greatest_byte(&slots[end..next]) == 0

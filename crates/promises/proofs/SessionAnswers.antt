@@ -10,8 +10,8 @@ use Rattle.tree.specs.declared.check.Checked.the-variants.{Good, BadFrame}
 use Rattle.history.specs.Journal.{noEntries, slotsOf as journalSlots}
 use Rattle.editor.specs.Answer.{goodState}
 use Rattle.session.specs.Lines.{Standing, beginning, takeLine, pressKey}
-use Rattle.session.specs.Held.{Laid}
-use Rattle.session.specs.Calls.{fresh, TakingLine, imageOf, isEnter, treeBefore, Kept, PressingKey, RefusingLine}
+use Rattle.session.specs.Calls.{fresh, TakingLine, imageOf, isEnter, treeBefore, Laid, Kept, PressingKey, RefusingLine}
+use Rattle.session.specs.Held.{Holds}
 use Rattle.session.specs.Sizes.{keyRoom}
 use Rattle.session.specs.Answer.{number, value, lineNumber, lineValue}
 use Rattle.session.specs.declared.running.Printing.{Printing}
@@ -25,7 +25,7 @@ use Rattle.stream.specs.Held.{starting, standOf, Sound}
 use Rattle.stream.proofs.Standings.{start-sound, start-stands}
 use Rattle.stream.proofs.Whole.{Fit, Comes, step-comes, Run, whole}
 use Rattle.session.proofs.Takings.{frame-narrow, image-narrow}
-use Rattle.session.proofs.Held.{Holds, holds-fresh, key-held}
+use Rattle.session.proofs.Held.{holds-fresh, key-held}
 use Rattle.session.proofs.Followed.{Brings, line-held}
 
 -- PRESS: 9, then 1 at a 0D or a 0A, then 12; each keeps the session and every byte

@@ -22,8 +22,7 @@ use Rattle.editor.proofs.Fine.{Fine, fine-of, turn-fine}
 use Rattle.editor.proofs.Called.{held-state}
 use Rattle.session.specs.Prints.{Printed, shown, prompt, answered, leaves, turnPrints, keyPrints, turnEnds, keyEnds}
 use Rattle.session.specs.Lines.{Standing, inState, Course, behind, pressKey, pressKeys}
-use Rattle.session.specs.Held.{Laid}
-use Rattle.session.specs.Calls.{imageOf, isEnter, treeBefore, PressingKey}
+use Rattle.session.specs.Calls.{imageOf, isEnter, treeBefore, Laid, PressingKey}
 use Rattle.session.specs.Sizes.{keyRoom}
 use Rattle.session.specs.declared.running.Printing.{Printing}
 use Rattle.session.specs.declared.standing.Session.{Session}

@@ -7,7 +7,7 @@ use mathlib.Core.List.{List, [], _∷_, _++_}
 use Rattle.editor.specs.Turns.{State}
 use Rattle.session.specs.Prints.{Printed, handler, exit, shown}
 use Rattle.session.specs.Lines.{keys, lineForm, Course}
-use Rattle.session.specs.Held.{Laid}
+use Rattle.session.specs.Calls.{Laid}
 use Rattle.session.specs.declared.running.Printing.{Printing}
 use Rattle.rust.specs.Tree.{Commands}
 use Rattle.rust.specs.Shell.{runLine}

@@ -39,7 +39,7 @@ use Rattle.session.specs.declared.taking.Taken.the-variants.{Tree, Keys,
 use Rattle.session.specs.declared.taking.Took.{Took}
 use Rattle.session.proofs.Takings.{house-room, both-wide}
 use Rattle.session.proofs.Screens.{enters-byte}
-use Rattle.session.proofs.Held.{Holds}
+use Rattle.session.specs.Held.{Holds}
 
 -- what a line is by its house line: the frame of a tree line, and the keys after a 20
 tree-told : (x : House) (bytes frame : List ℕ) → formBy x bytes ≡ tree frame → frame ≡ bytes

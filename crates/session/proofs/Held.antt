@@ -18,22 +18,11 @@ use Rattle.editor.proofs.Fine.{Fine, fresh-fine, turn-fine, fine-good}
 use Rattle.editor.proofs.Called.{held-state}
 use Rattle.session.specs.Prints.{prompt, keyPrints, keyEnds}
 use Rattle.session.specs.Lines.{Standing, beginning, pressKey}
-use Rattle.session.specs.Held.{Laid}
-use Rattle.session.specs.Calls.{fresh, imageOf, turnIn, isEnter, treeBefore, PressingKey}
+use Rattle.session.specs.Held.{Holds}
+use Rattle.session.specs.Calls.{fresh, imageOf, turnIn, isEnter, treeBefore, Laid, PressingKey}
 use Rattle.session.specs.Sizes.{keyRoom}
 use Rattle.session.specs.declared.standing.Session.{Session}
 use Rattle.session.specs.declared.pressing.Pressing.{Pressing}
-
--- a session that stands somewhere, as the code holds it: by value, in the buffer of the image and in the slots
-pub record Holds (s : Standing) (h : Session) (image slots : List ℕ) : Type 0 where
-  pub editor : h .editor ≡ editorOf (s .state)
-  pub history : h .history ≡ historyOf (s .state)
-  pub held : slots ≡ slotsOf (s .state)
-  pub fine : Fine (s .state)
-  pub stands : Stands image (h .walk)
-  pub tree : imageOf h image ≡ s .image
-  pub keyed : h .keyed ≡ s .keyed
-  pub lines : h .lines ≡ s .lines
 
 -- at the beginning
 pub holds-fresh : (image : List ℕ) → Holds beginning fresh image (journalSlots noEntries)

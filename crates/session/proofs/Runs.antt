@@ -25,7 +25,7 @@ use Rattle.shell.specs.declared.answer.Ran.the-variants.{Text, Exit, Handler}
 use Rattle.shell.proofs.Bounds.{said-fits, run-answered, run-written}
 use Rattle.shell.proofs.answer.Ran.{the-type}
 use Rattle.session.specs.Prints.{Printed, handler, exit, wide, frameOf, linesOf, shown, prompt, answered, leaves}
-use Rattle.session.specs.Held.{Fits, Says, Answers}
+use Rattle.session.specs.Inner.{Fits, Says, Answers}
 use Rattle.session.specs.declared.running.Printing.the-variants.{Goes, Ends}
 use Rattle.session.proofs.Marks.{lent-size, returned-size, returned-kind, returned-behind}
 use Rattle.session.proofs.Printings.{lines-both, line-alone, shown-size}

@@ -38,8 +38,8 @@ use Rattle.editor.proofs.Fine.{fine-of}
 use Rattle.editor.proofs.drawing.Pressed.{the-type}
 use Rattle.shell.specs.Lines.{Said, saidOf}
 use Rattle.session.specs.Prints.{badLine, frameOf, linesOf, shown, prompt, answered, leaves, turnPrints, keyPrints, turnEnds, keyEnds}
-use Rattle.session.specs.Held.{printing, Answers, Laid, Enters, Within, Tells}
-use Rattle.session.specs.Calls.{withState, withKey, imageOf, turnIn, treeBefore, PressingKey}
+use Rattle.session.specs.Inner.{Answers, Enters, Within, Tells}
+use Rattle.session.specs.Calls.{withState, withKey, imageOf, turnIn, treeBefore, printing, Laid, PressingKey}
 use Rattle.session.specs.Sizes.{keyRoom}
 use Rattle.session.specs.declared.running.Printing.{Printing}
 use Rattle.session.specs.declared.running.Printing.the-variants.{Goes, Ends, BadTree, BadState, NoRoom}

@@ -5,7 +5,7 @@ use mathlib.Core.Bool.{Bool, true, false, cond}
 use mathlib.Core.List.{List, [], _∷_}
 use lib.Dec.{eqb, ltb}
 use lib.ListN.{length, take}
-use Rattle.buffer.specs.Write.{overAt}
+use Rattle.buffer.specs.Write.{over, overAt}
 use Rattle.frame.specs.House.{houseLeaves}
 use Rattle.image.specs.Frames.{Frame}
 use Rattle.image.specs.Reading.{readFirst}
@@ -21,12 +21,11 @@ use Rattle.editor.specs.declared.drawing.KeyAnswer.{KeyAnswer}
 use Rattle.editor.specs.Line.{freshEditor}
 use Rattle.editor.specs.Turns.{State, Turn, turnOf}
 use Rattle.editor.specs.Answer.{stateOf, editorOf, historyOf, slotsOf, goodState}
-use Rattle.session.specs.Prints.{badLine, prompt, keyPrints, keyEnds}
+use Rattle.session.specs.Prints.{Printed, linesOf, badLine, prompt, keyPrints, keyEnds}
 use Rattle.session.specs.Lines.{Form, tree, keys, formless, lineForm}
-use Rattle.session.specs.Held.{Laid}
 use Rattle.session.specs.Sizes.{keyRoom}
 use Rattle.session.specs.declared.running.Printing.{Printing}
-use Rattle.session.specs.declared.running.Printing.the-variants.{BadTree, BadState, NoRoom}
+use Rattle.session.specs.declared.running.Printing.the-variants.{Goes, Ends, BadTree, BadState, NoRoom}
 use Rattle.session.specs.declared.standing.Session.{Session}
 use Rattle.session.specs.declared.pressing.Pressing.{Pressing}
 use Rattle.session.specs.declared.taking.Taken.the-variants.{Tree, Keys, BadLine, Over, NoRoom as NoBuffer}
@@ -93,6 +92,15 @@ isEnter byte = cond (eqb byte 0x0D) true (eqb byte 0x0A)
 
 unfoldable pub treeBefore : ℕ → List ℕ → Checked
 treeBefore byte image = cond (isEnter byte) (checkTree image) Good
+
+-- what was printed from the front on, and whether it is the last
+abbrev pub printing : Bool → ℕ → Printing
+printing true n = Ends n
+printing false n = Goes n
+
+pub record Laid (prints : List Printed) (ends : Bool) (out : List ℕ) (r : Printing) (left : List ℕ) : Type 0 where
+  pub answer : r ≡ printing ends (length (linesOf prints))
+  pub bytes : left ≡ over (linesOf prints) out
 
 -- a refusal keeps the session and every byte
 pub record Kept (h : Session) (slots out : List ℕ) (r : Pressing) (slots′ out′ : List ℕ) : Type 0 where

@@ -2,7 +2,8 @@
 -- calls answer and leave.
 pub mod Prints
 pub mod Lines
-pub mod Held
 pub mod Sizes
 pub mod Calls
+pub mod Held
 pub mod Answer
+pub mod Inner

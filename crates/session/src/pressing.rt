@@ -18,7 +18,7 @@ ghost use Rattle.tree.specs.Images.{framesOf};
 ghost use Rattle.tree.specs.Rules.{checkTree};
 ghost use Rattle.tree.specs.declared.check.Checked.the-variants.{Good};
 ghost use Rattle.session.specs.Prints.{linesOf, shown};
-ghost use Rattle.session.specs.Held.{Within, Enters, Tells};
+ghost use Rattle.session.specs.Inner.{Within, Enters, Tells};
 ghost use Rattle.session.specs.Calls.{withKey, imageOf, treeBefore, PressingKey, RefusingLine};
 ghost use Rattle.session.specs.Sizes.{keyRoom};
 

@@ -17,7 +17,7 @@ ghost use Rattle.tree.specs.declared.check.Checked.the-variants.{Good};
 ghost use Rattle.shell.specs.Lines.{Said, saidOf};
 ghost use Rattle.session.specs.Sizes.{frameSize, textSize, frameLine, answerRoom};
 ghost use Rattle.session.specs.Prints.{wide, frameOf, linesOf, shown, handler as handed};
-ghost use Rattle.session.specs.Held.{Fits, Says, Answers};
+ghost use Rattle.session.specs.Inner.{Fits, Says, Answers};
 
 // What a key prints.
 pub enum Printing {
@@ -75,16 +75,16 @@ fn print_ran(ran: Ran, text: &mut [u8], out: &mut [u8], at: usize) -> Printing
 {
     match ran {
         Ran::Text { number: _, length } => {
-            let behind = print_text(text, length, out, at);
-            Printing::Goes(print_prompt(out, behind))
+            let after = print_text(text, length, out, at);
+            Printing::Goes(print_prompt(out, after))
         }
         Ran::Exit(size) => {
-            let behind = print_text(text, size, out, at);
-            Printing::Ends(print(&[0x23], out, behind))
+            let after = print_text(text, size, out, at);
+            Printing::Ends(print(&[0x23], out, after))
         }
         Ran::Handler { handler, length } => {
-            let behind = print_handler(handler as usize, text, length, out, at);
-            Printing::Goes(print_prompt(out, behind))
+            let after = print_handler(handler as usize, text, length, out, at);
+            Printing::Goes(print_prompt(out, after))
         }
         _ => Printing::Goes(print_prompt(out, at)),
     }

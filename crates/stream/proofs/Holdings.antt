@@ -15,7 +15,7 @@ use Rattle.buffer.proofs.Choices.{then-is, else-is}
 use Rattle.buffer.proofs.Lending.{overAt-byte, overAt-both, overAt-nothing}
 use Rattle.frame.specs.House.{LF}
 use Rattle.stream.specs.Bytes.{lineRoom, closes}
-use Rattle.stream.specs.Held.{reach, isClosed, Holding}
+use Rattle.stream.specs.Inner.{reach, isClosed, Holding}
 
 -- one byte more: it ends the line, or the line goes on after it
 module _ (held byte : ℕ) (bytes : List ℕ) where

@@ -9,7 +9,7 @@ use Rattle.buffer.proofs.Lending.{overAt-both, overAt-nothing}
 use Rattle.session.specs.Prints.{Printed, linesOf}
 use Rattle.session.proofs.Printings.{lines-both}
 use Rattle.stream.specs.Moves.{Stand, Move, printing, size, printed}
-use Rattle.stream.specs.Held.{Makes}
+use Rattle.stream.specs.Inner.{Makes}
 
 pub size-both : (a b : List Printed) → size (a ++ b) ≡ size a + size b
 size-both a b = ap length (lines-both a b) ∙ length-append (linesOf a) (linesOf b)

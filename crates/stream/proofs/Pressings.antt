@@ -14,7 +14,7 @@ use Rattle.buffer.proofs.Choices.{then-is, else-is}
 use Rattle.buffer.proofs.Lending.{rest-lent, rest-written}
 use Rattle.session.specs.Prints.{linesOf}
 use Rattle.session.specs.Lines.{Standing, pressKey}
-use Rattle.session.specs.Held.{Laid, printing as answering}
+use Rattle.session.specs.Calls.{Laid, printing as answering}
 use Rattle.session.specs.Calls.{PressingKey}
 use Rattle.session.specs.Sizes.{keyRoom}
 use Rattle.session.specs.declared.running.Printing.{Printing}
@@ -22,10 +22,12 @@ use Rattle.session.specs.declared.running.Printing.the-variants.{Goes, Ends}
 use Rattle.session.specs.declared.standing.Session.{Session}
 use Rattle.session.specs.declared.pressing.Pressing.{Pressing}
 use Rattle.session.proofs.running.Printing.{the-type}
-use Rattle.session.proofs.Held.{Holds, key-held}
+use Rattle.session.specs.Held.{Holds}
+use Rattle.session.proofs.Held.{key-held}
 use Rattle.stream.specs.Bytes.{lineRoom}
 use Rattle.stream.specs.Moves.{waits, closed, behindLine, Move, printing, size, pressSome}
-use Rattle.stream.specs.Held.{waiting, settled, stopped, standingOf, keysOf, Ready, KeyMade, Moved}
+use Rattle.stream.specs.Held.{waiting, settled, stopped, standingOf, keysOf, Ready}
+use Rattle.stream.specs.Inner.{KeyMade, Moved}
 use Rattle.stream.specs.declared.pressing.Keyed.{Keyed}
 use Rattle.stream.proofs.Making.{Same, same-self, same-as, same-on, same-made, same-then, written-fits}
 use Rattle.stream.proofs.Standings.{holds-standing, holds-own, keys-first, keys-none, stands-waiting, stands-stopped, stands-settled, sound-waiting, sound-stopped, sound-settled}

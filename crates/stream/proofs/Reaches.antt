@@ -14,7 +14,7 @@ use Rattle.session.specs.Lines.{Standing}
 use Rattle.session.specs.Sizes.{keyRoom}
 use Rattle.stream.specs.Bytes.{lineRoom, closes}
 use Rattle.stream.specs.Moves.{reads, Move, size, lineMove, Went, stays, printed, takeSome}
-use Rattle.stream.specs.Held.{reach, isClosed, lineOf}
+use Rattle.stream.specs.Inner.{reach, isClosed, lineOf}
 
 -- how far bytes reach
 pub go-on : (held byte : ℕ) → closes held byte ≡ false → (byte ≡ LF → ⊥) × (held + 1 < lineRoom)

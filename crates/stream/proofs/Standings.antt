@@ -17,7 +17,8 @@ use Rattle.history.proofs.Journals.{none-zeros}
 use Rattle.session.specs.Lines.{Standing, beginning}
 use Rattle.session.specs.Calls.{fresh}
 use Rattle.session.specs.declared.standing.Session.{Session}
-use Rattle.session.proofs.Held.{Holds, holds-state, holds-fresh}
+use Rattle.session.specs.Held.{Holds}
+use Rattle.session.proofs.Held.{holds-state, holds-fresh}
 use Rattle.stream.specs.Bytes.{lineRoom}
 use Rattle.stream.specs.Moves.{reads, waits, closed, start, behindLine}
 use Rattle.stream.specs.Held.{starting, waiting, settled, stopped, standingOf, keysOf, standOf, Ready, Sound}

@@ -22,7 +22,8 @@ use Rattle.session.specs.declared.running.Printing.the-variants.{Ends}
 use Rattle.session.proofs.running.Printing.{the-type}
 use Rattle.stream.specs.Bytes.{lineRoom}
 use Rattle.stream.specs.Moves.{Stand, reads, waits, closed, Move, size, lineMove, Went, stays, printed, takeSome, resume, stepBy, pressSome}
-use Rattle.stream.specs.Held.{reading, busyWith, standingOf, keysOf, standOf, Ready, Sound, reach, isClosed, Holding, Makes, Moved, lineOf, Takes, Pieced, Stepped, lastOf, Finished}
+use Rattle.stream.specs.Held.{reading, busyWith, standingOf, keysOf, standOf, Ready, Sound, Stepped, lastOf, Finished}
+use Rattle.stream.specs.Inner.{reach, isClosed, Holding, Makes, Moved, lineOf, Takes, Pieced}
 use Rattle.stream.specs.declared.standing.Stream.{Stream}
 use Rattle.stream.specs.declared.standing.Step.{Step}
 use Rattle.stream.specs.declared.standing.Printout.{Printout}

@@ -20,11 +20,12 @@ use Rattle.session.specs.declared.taking.Taken.the-variants.{Tree, Keys, BadLin
 use Rattle.session.specs.declared.taking.Took.{Took}
 use Rattle.session.proofs.running.Printing.{the-type}
 use Rattle.session.proofs.taking.Taken.{the-type as taken-type}
-use Rattle.session.proofs.Held.{Holds}
+use Rattle.session.specs.Held.{Holds}
 use Rattle.session.proofs.Followed.{Brings, line-held}
 use Rattle.stream.specs.Bytes.{lineRoom}
 use Rattle.stream.specs.Moves.{behindLine, size, pressSome, moveBy, lineMove}
-use Rattle.stream.specs.Held.{settled, stopped, standingOf, keysOf, standOf, Ready, Moved, LineRead, Refuses}
+use Rattle.stream.specs.Held.{settled, stopped, standingOf, keysOf, standOf, Ready}
+use Rattle.stream.specs.Inner.{Moved, LineRead, Refuses}
 use Rattle.stream.specs.declared.standing.Stream.{Stream}
 use Rattle.stream.specs.declared.standing.Printout.{Printout}
 use Rattle.stream.proofs.Making.{written-fits}

@@ -1,26 +1,22 @@
--- How the code holds where a stream stands, and what its functions answer and leave.
-use Prim.Native.Nat.{ℕ, suc, _+_, _-_, _<_, _≤_}
+-- How the code holds where a stream stands, and what its calls answer and leave.
+use Prim.Native.Nat.{ℕ, _+_, _-_, _<_, _≤_}
 use mathlib.Core.Path.{_≡_}
 use mathlib.Core.Bool.{Bool, true, false, cond}
-use mathlib.Core.List.{List, [], _∷_, _++_}
+use mathlib.Core.List.{List, [], _∷_}
 use lib.Dec.{ltb, leb, eqb}
 use lib.ListN.{length, take, drop}
-use Rattle.buffer.specs.Write.{over, overAt}
+use Rattle.buffer.specs.Write.{over}
 use Rattle.frame.specs.House.{ended}
 use Rattle.editor.specs.Answer.{stateOf}
 use Rattle.session.specs.Prints.{Printed, badLine, linesOf}
-use Rattle.session.specs.Lines.{Standing, Course}
-use Rattle.session.specs.Calls.{fresh, imageOf, TakingLine}
+use Rattle.session.specs.Lines.{Standing}
+use Rattle.session.specs.Calls.{fresh, imageOf}
+use Rattle.session.specs.Held.{Holds}
 use Rattle.session.specs.declared.standing.Session.{Session}
-use Rattle.session.specs.declared.taking.Took.{Took}
-use Rattle.session.proofs.Held.{Holds}
-use Rattle.stream.specs.Bytes.{lineRoom, closes as closesAt}
-use Rattle.stream.specs.Moves.{Stand, reads, waits, closed, Move, size, lineMove, Went}
+use Rattle.stream.specs.Bytes.{lineRoom}
+use Rattle.stream.specs.Moves.{Stand, reads, waits, closed, size, Went, stepBy}
 use Rattle.stream.specs.declared.standing.Stream.{Stream}
 use Rattle.stream.specs.declared.standing.Step.{Step}
-use Rattle.stream.specs.declared.standing.Printout.{Printout}
-use Rattle.stream.specs.declared.holding.Held.{Held}
-use Rattle.stream.specs.declared.pressing.Keyed.{Keyed}
 
 -- a session with so many bytes of a line, with keys to be pressed, after a line, and at its end
 abbrev pub reading : Session → ℕ → Stream
@@ -71,73 +67,6 @@ pub record Sound (s : Stream) (line image slots : List ℕ) : Type 0 where
   pub early : s .over ≡ false → ltb (s .next) (s .keys) ≡ false → s .session .lines < 65535
   pub unended : ended (take (s .held) line) ≡ false
 
--- bytes put after those that are held: how many up to one that ends the line, and whether there is one
-unfoldable pub reach : ℕ → List ℕ → ℕ
-reach held [] = 0
-reach held (byte ∷ bytes) = cond (closesAt held byte) 1 (suc (reach (held + 1) bytes))
-
-unfoldable pub isClosed : ℕ → List ℕ → Bool
-isClosed held [] = false
-isClosed held (byte ∷ bytes) = cond (closesAt held byte) true (isClosed (held + 1) bytes)
-
-pub record Holding (line : List ℕ) (held : ℕ) (bytes : List ℕ) (r : Held) (line′ : List ℕ) : Type 0 where
-  pub count : r .count ≡ held + reach held bytes
-  pub closes : r .closed ≡ isClosed held bytes
-  pub left : line′ ≡ overAt (take (reach held bytes) bytes) line held
-
--- a key, printed at a place
-pub record KeyMade (course : Course) (image slots out : List ℕ) (at : ℕ) (r : Keyed) (slots′ out′ : List ℕ) : Type 0 where
-  pub ends : r .ends ≡ course .ends
-  pub place : r .printed ≡ at + size (course .prints)
-  pub holds : Holds (course .after) (r .session) image slots′
-  pub bytes : out′ ≡ overAt (linesOf (course .prints)) out at
-  pub outs : length out′ ≡ length out
-  pub slot : length slots′ ≡ length slots
-
--- a move, printed at a place: where the stream stands then, the place after what was printed, and the bytes
-pub record Makes (move : Move) (out : List ℕ) (at : ℕ) (s : Stand) (printed : ℕ) (out′ : List ℕ) : Type 0 where
-  pub after : s ≡ move .after
-  pub place : printed ≡ at + size (move .prints)
-  pub bytes : out′ ≡ overAt (linesOf (move .prints)) out at
-
-pub record Moved (move : Move) (out : List ℕ) (at : ℕ) (r : Printout) (line′ image′ slots′ out′ : List ℕ) : Type 0 where
-  pub makes : Makes move out at (standOf (r .stream) line′ image′ slots′) (r .printed) out′
-  pub outs : length out′ ≡ length out
-  pub sound : Sound (r .stream) line′ image′ slots′
-
--- a line given to the session: the buffers keep their lengths
-pub record LineRead (h : Session) (line image frame : List ℕ) (r : Took) (image′ frame′ : List ℕ) : Type 0 where
-  pub taking : TakingLine h line image frame r image′ frame′
-  pub images : length image′ ≡ length image
-  pub frames : length frame′ ≡ length frame
-
--- the 2F of a line, printed at a place
-pub record Refuses (h : Session) (number : ℕ) (out : List ℕ) (at : ℕ) (r : Printout) (out′ : List ℕ) : Type 0 where
-  pub stream : r .stream ≡ stopped h
-  pub place : r .printed ≡ at + size (badLine number ∷ [])
-  pub bytes : out′ ≡ overAt (linesOf (badLine number ∷ [])) out at
-  pub outs : length out′ ≡ length out
-
--- the move up to the end of a line, or over all bytes where there is none
-unfoldable pub lineOf : ℕ → Standing → List ℕ → List ℕ → Move
-lineOf room at held bytes =
-    cond (isClosed (length held) bytes) (lineMove room at (held ++ take (reach (length held) bytes) bytes))
-    (record { prints = []; after = reads at (held ++ bytes) })
-
-pub record Takes (move : Move) (count : ℕ) (out : List ℕ) (at : ℕ) (r : Step) (line′ image′ slots′ out′ : List ℕ) : Type 0 where
-  pub makes : Makes move out at (standOf (r .stream) line′ image′ slots′) (r .printed) out′
-  pub took : r .took ≡ count
-  pub outs : length out′ ≡ length out
-  pub sound : Sound (r .stream) line′ image′ slots′
-
--- bytes of a piece, and what they print at a place
-pub record Pieced (went : Went) (piece out : List ℕ) (at : ℕ) (r : Step) (line′ image′ slots′ out′ : List ℕ) : Type 0 where
-  pub makes : Makes (went .move) out at (standOf (r .stream) line′ image′ slots′) (r .printed) out′
-  pub took : r .took ≤ length piece
-  pub left : drop (r .took) piece ≡ went .left
-  pub outs : length out′ ≡ length out
-  pub sound : Sound (r .stream) line′ image′ slots′
-
 -- a step over a piece of the input, printed at the front
 pub record Stepped (went : Went) (piece out : List ℕ) (r : Step) (line′ image′ slots′ out′ : List ℕ) : Type 0 where
   pub after : standOf (r .stream) line′ image′ slots′ ≡ went .move .after
@@ -147,6 +76,11 @@ pub record Stepped (went : Went) (piece out : List ℕ) (r : Step) (line′ imag
   pub left : drop (r .took) piece ≡ went .left
   pub outs : length out′ ≡ length out
   pub sound : Sound (r .stream) line′ image′ slots′
+
+-- a step over a piece, from where a stream stands
+abbrev pub Stepping : Stream → List ℕ → List ℕ → List ℕ → List ℕ → List ℕ → Step → List ℕ → List ℕ → List ℕ → List ℕ → Type 0
+Stepping s piece line image slots out r line′ image′ slots′ out′ =
+    Stepped (stepBy (length out) (standOf s line image slots) piece) piece out r line′ image′ slots′ out′
 
 -- at the input's end
 unfoldable pub lastOf : Stream → List Printed

@@ -2,3 +2,4 @@
 pub mod Bytes
 pub mod Moves
 pub mod Held
+pub mod Inner

@@ -3,7 +3,7 @@ ghost use mathlib.Core.Path.{_≡_};
 ghost use Prim.Native.Nat.{_<_};
 ghost use lib.ListN.{length};
 ghost use Rattle.stream.specs.Bytes.{lineRoom};
-ghost use Rattle.stream.specs.Held.{Holding};
+ghost use Rattle.stream.specs.Inner.{Holding};
 
 // How many bytes of a line are held, and whether the last of them ends it.
 pub struct Held {

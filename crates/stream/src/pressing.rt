@@ -6,14 +6,13 @@ use session::Printing;
 use session::Session;
 use session::press;
 ghost use mathlib.Core.Path.{_≡_};
-ghost use Prim.Native.Nat.{_+_, _-_, _≤_};
+ghost use Prim.Native.Nat.{_+_, _≤_};
 ghost use lib.ListN.{length};
-ghost use Rattle.session.specs.Lines.{pressKey};
 ghost use Rattle.session.specs.Sizes.{keyRoom};
-ghost use Rattle.session.proofs.Held.{Holds};
-ghost use Rattle.stream.specs.Moves.{pressSome};
+ghost use Rattle.session.specs.Held.{Holds};
 ghost use Rattle.stream.specs.Bytes.{lineRoom};
-ghost use Rattle.stream.specs.Held.{standingOf, keysOf, Ready, KeyMade, Moved};
+ghost use Rattle.stream.specs.Held.{standingOf, keysOf, Ready};
+ghost use Rattle.stream.specs.Inner.{PressedAt, PressedSome};
 
 // A session after a key, the place after what the key printed, and whether it was the last.
 pub struct Keyed {
@@ -32,7 +31,7 @@ fn press_at(
     at: usize,
 ) -> Keyed
     requires { ⌜ Holds (standingOf session (now image) (now slots)) session (now image) (now slots) × (at + keyRoom ≤ length (now out)) ⌝ }
-    ensures { λ r. ⌜ KeyMade (pressKey (standingOf session (now (image .entry)) (now (slots .entry))) byte) (now (image .entry)) (now (slots .entry)) (now (out .entry)) at r (now (slots .exit)) (now (out .exit)) ⌝ }
+    ensures { λ r. ⌜ PressedAt session byte (now (image .entry)) (now (slots .entry)) (now (out .entry)) at r (now (slots .exit)) (now (out .exit)) ⌝ }
 {
     let pressing = press(session, image, slots, byte, &mut out[at..]);
     let after = pressing.session;
@@ -56,7 +55,7 @@ fn press_at(
     }
 }
 
-// Presses the keys of a line from `next` up to `keys`. Behind the last of them the line is at its end.
+// Presses the keys of a line from `next` up to `keys`. After the last of them the line is at its end.
 pub fn press_some(
     session: Session,
     next: usize,
@@ -69,7 +68,7 @@ pub fn press_some(
 ) -> Printout
     requires { ⌜ Ready session (now line) (now image) (now slots) ⌝ }
     requires { ⌜ (next ≤ keys) × (keys ≤ lineRoom) × (at ≤ length (now out)) ⌝ }
-    ensures { λ r. ⌜ Moved (pressSome (length (now (out .entry)) - at) (standingOf session (now (image .entry)) (now (slots .entry))) (keysOf (now (line .entry)) next keys)) (now (out .entry)) at r (now (line .entry)) (now (image .entry)) (now (slots .exit)) (now (out .exit)) ⌝ }
+    ensures { λ r. ⌜ PressedSome session (keysOf (now (line .entry)) next keys) (now (image .entry)) (now (slots .entry)) (now (out .entry)) at r (now (line .entry)) (now (slots .exit)) (now (out .exit)) ⌝ }
 {
     let mut here = session;
     let mut next = next;

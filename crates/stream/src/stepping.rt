@@ -9,10 +9,10 @@ use session::KEY_ROOM;
 use session::Printing;
 use session::refuse;
 ghost use mathlib.Core.Path.{_≡_};
-ghost use Prim.Native.Nat.{_-_, _≤_};
+ghost use Prim.Native.Nat.{_≤_};
 ghost use lib.ListN.{length};
-ghost use Rattle.stream.specs.Moves.{takeSome, resume, stepBy};
-ghost use Rattle.stream.specs.Held.{standOf, Sound, Moved, Pieced, Stepped, lastOf, Finished};
+ghost use Rattle.stream.specs.Held.{Sound, Stepping, lastOf, Finished};
+ghost use Rattle.stream.specs.Inner.{Resumed, TakesPiece};
 
 // Presses the keys that wait.
 fn resume_keys(
@@ -23,7 +23,7 @@ fn resume_keys(
     out: &mut [u8],
 ) -> Printout
     requires { ⌜ Sound stream (now line) (now image) (now slots) ⌝ }
-    ensures { λ r. ⌜ Moved (resume (length (now (out .entry))) (standOf stream (now (line .entry)) (now (image .entry)) (now (slots .entry)))) (now (out .entry)) 0 r (now (line .entry)) (now (image .entry)) (now (slots .exit)) (now (out .exit)) ⌝ }
+    ensures { λ r. ⌜ Resumed stream (now (line .entry)) (now (image .entry)) (now (slots .entry)) (now (out .entry)) r (now (slots .exit)) (now (out .exit)) ⌝ }
 {
     if stream.over {
         return Printout { stream, printed: 0 };
@@ -55,7 +55,7 @@ fn take_piece(
     at: usize,
 ) -> Step
     requires { ⌜ Sound stream (now line) (now image) (now slots) × (at ≤ length (now out)) ⌝ }
-    ensures { λ r. ⌜ Pieced (takeSome (length (now (out .entry)) - at) (standOf stream (now (line .entry)) (now (image .entry)) (now (slots .entry))) (now (piece .entry))) (now (piece .entry)) (now (out .entry)) at r (now (line .exit)) (now (image .exit)) (now (slots .exit)) (now (out .exit)) ⌝ }
+    ensures { λ r. ⌜ TakesPiece stream (now (piece .entry)) (now (line .entry)) (now (image .entry)) (now (slots .entry)) (now (out .entry)) at r (now (line .exit)) (now (image .exit)) (now (slots .exit)) (now (out .exit)) ⌝ }
 {
     let mut here = stream;
     let mut printed = at;
@@ -98,7 +98,7 @@ pub fn step(
     out: &mut [u8],
 ) -> Step
     requires { ⌜ Sound stream (now line) (now image) (now slots) ⌝ }
-    ensures { λ r. ⌜ Stepped (stepBy (length (now (out .entry))) (standOf stream (now (line .entry)) (now (image .entry)) (now (slots .entry))) (now (piece .entry))) (now (piece .entry)) (now (out .entry)) r (now (line .exit)) (now (image .exit)) (now (slots .exit)) (now (out .exit)) ⌝ }
+    ensures { λ r. ⌜ Stepping stream (now (piece .entry)) (now (line .entry)) (now (image .entry)) (now (slots .entry)) (now (out .entry)) r (now (line .exit)) (now (image .exit)) (now (slots .exit)) (now (out .exit)) ⌝ }
 {
     let first = resume_keys(stream, line, image, slots, out);
     let here = first.stream;

@@ -15,11 +15,11 @@ use session::refuse;
 use session::take_line;
 ghost use mathlib.Core.Path.{_≡_};
 ghost use mathlib.Core.Bool.{false};
-ghost use Prim.Native.Nat.{_+_, _-_, _<_, _≤_};
+ghost use Prim.Native.Nat.{_+_, _<_, _≤_};
 ghost use lib.ListN.{length, take};
 ghost use Rattle.session.specs.Sizes.{keyRoom};
-ghost use Rattle.stream.specs.Moves.{pressSome, lineMove};
-ghost use Rattle.stream.specs.Held.{busyWith, standingOf, Ready, Sound, reach, LineRead, Refuses, Moved, lineOf, Takes};
+ghost use Rattle.stream.specs.Held.{busyWith, Ready, Sound};
+ghost use Rattle.stream.specs.Inner.{PressedSome, LineRead, Refuses, LineMoved, TakesBytes};
 
 // Room for the frame of a line.
 fn blank_frame() -> [u8; 512]
@@ -70,7 +70,7 @@ fn press_keys(
 ) -> Printout
     requires { ⌜ Ready session (now line) (now image) (now slots) ⌝ }
     requires { ⌜ (length (now keys) ≤ 512) × (at ≤ length (now out)) ⌝ }
-    ensures { λ r. ⌜ Moved (pressSome (length (now (out .entry)) - at) (standingOf session (now (image .entry)) (now (slots .entry))) (now (keys .entry))) (now (out .entry)) at r (now (line .exit)) (now (image .entry)) (now (slots .exit)) (now (out .exit)) ⌝ }
+    ensures { λ r. ⌜ PressedSome session (now (keys .entry)) (now (image .entry)) (now (slots .entry)) (now (out .entry)) at r (now (line .exit)) (now (slots .exit)) (now (out .exit)) ⌝ }
 {
     let n = copy(keys, line);
     press_some(session, 0, n, line, image, slots, out, at)
@@ -88,7 +88,7 @@ fn take_whole(
 ) -> Printout
     requires { ⌜ Ready session (now line) (now image) (now slots) ⌝ }
     requires { ⌜ (session .lines < 65535) × (at + keyRoom ≤ length (now out)) ⌝ }
-    ensures { λ r. ⌜ Moved (lineMove (length (now (out .entry)) - at) (standingOf session (now (image .entry)) (now (slots .entry))) (take held (now (line .entry)))) (now (out .entry)) at r (now (line .exit)) (now (image .exit)) (now (slots .exit)) (now (out .exit)) ⌝ }
+    ensures { λ r. ⌜ LineMoved session (take held (now (line .entry))) (now (image .entry)) (now (slots .entry)) (now (out .entry)) at r (now (line .exit)) (now (image .exit)) (now (slots .exit)) (now (out .exit)) ⌝ }
 {
     let mut frame = blank_frame();
     let took = read_whole(session, held, line, image, &mut frame);
@@ -122,7 +122,7 @@ pub fn take_bytes(
     at: usize,
 ) -> Step
     requires { ⌜ Sound stream (now line) (now image) (now slots) × (busyWith stream ≡ false) × (at + keyRoom ≤ length (now out)) ⌝ }
-    ensures { λ r. ⌜ Takes (lineOf (length (now (out .entry)) - at) (standingOf (stream .session) (now (image .entry)) (now (slots .entry))) (take (stream .held) (now (line .entry))) (now (bytes .entry))) (reach (stream .held) (now (bytes .entry))) (now (out .entry)) at r (now (line .exit)) (now (image .exit)) (now (slots .exit)) (now (out .exit)) ⌝ }
+    ensures { λ r. ⌜ TakesBytes stream (now (bytes .entry)) (now (line .entry)) (now (image .entry)) (now (slots .entry)) (now (out .entry)) at r (now (line .exit)) (now (image .exit)) (now (slots .exit)) (now (out .exit)) ⌝ }
 {
     let session = stream.session;
     let held = hold(line, stream.held, bytes);

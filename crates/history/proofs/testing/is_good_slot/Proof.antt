@@ -1,6 +1,6 @@
 -- `history::testing::is_good_slot` meets its contract.
 use borrow.Author.Needs.{needs}
-use Rattle.history.proofs.Judging.{slot-bad, slot-good}
+use Rattle.history.proofs.Judging.{entry-below, slot-bad, slot-good}
 use borrow.Author.Tests.{not-true, not-false}
 use mathlib.Core.Path.{sym, _∙_}
 use Rattle.history.proofs.testing.is_good_slot.Statement.{statement}
@@ -18,21 +18,6 @@ add-end c = search needs
 add-next : tie.Need-add-next
 add-next c = search needs
 
-sub-is-usable : tie.Need-sub-is-usable
-sub-is-usable c = search needs
-
-part-is-usable-start : tie.Need-part-is-usable-start
-part-is-usable-start c = search needs
-
-part-is-usable-end : tie.Need-part-is-usable-end
-part-is-usable-end c = search needs
-
-is-usable-requires : tie.Need-is-usable-requires
-is-usable-requires c κs = search needs
-
-returns : tie.Need-returns
-returns c = sym (slot-bad (c .before .before .before .before .before .args .slots .now) (c .before .before .before .before .before .args .at) _ (c .before .before .before .byte-at .ensures .byte) (sym (c .before .is-usable .ensures) ∙ not-true (c .before .is-usable .result) (c .if1 .taken)))
-
 sub-greatest-byte : tie.Need-sub-greatest-byte
 sub-greatest-byte c = search needs
 
@@ -45,8 +30,38 @@ part-greatest-byte-end c = search needs
 greatest-byte-requires : tie.Need-greatest-byte-requires
 greatest-byte-requires c κs = search needs
 
+sub-is-usable : tie.Need-sub-is-usable
+sub-is-usable c = search needs
+
+part-is-usable-start : tie.Need-part-is-usable-start
+part-is-usable-start c = search needs
+
+part-is-usable-end : tie.Need-part-is-usable-end
+part-is-usable-end c = search needs
+
+is-usable-requires : tie.Need-is-usable-requires
+is-usable-requires c κs =
+    let args = c .before .before .before .before .before .args in
+    let byte-at = c .before .before .before .byte-at in
+    entry-below (args .slots .now) (args .at) _ _ (byte-at .ensures .small) (c .before .greatest-byte .ensures)
+
+returns : tie.Need-returns
+returns c = sym (slot-bad (c .before .before .before .before .before .before .before .args .slots .now) (c .before .before .before .before .before .before .before .args .at) _ (c .before .before .before .before .before .byte-at .ensures .byte) (sym (c .before .is-usable .ensures) ∙ not-true (c .before .is-usable .result) (c .if1 .taken)))
+
+sub-greatest-byte-2 : tie.Need-sub-greatest-byte-2
+sub-greatest-byte-2 c = search needs
+
+part-greatest-byte-start-2 : tie.Need-part-greatest-byte-start-2
+part-greatest-byte-start-2 c = search needs
+
+part-greatest-byte-end-2 : tie.Need-part-greatest-byte-end-2
+part-greatest-byte-end-2 c = search needs
+
+greatest-byte-requires-2 : tie.Need-greatest-byte-requires-2
+greatest-byte-requires-2 c κs = search needs
+
 returns-2 : tie.Need-returns-2
-returns-2 c = slot-good (c .before .before .before .before .before .before .before .args .slots .now) (c .before .before .before .before .before .before .before .args .at) _ _ (c .before .before .before .before .before .byte-at .ensures .byte) (sym (c .before .before .before .is-usable .ensures) ∙ not-false (c .before .before .before .is-usable .result) (c .before .before .if1 .left)) (c .greatest-byte .ensures)
+returns-2 c = slot-good (c .before .before .before .before .before .before .before .before .before .args .slots .now) (c .before .before .before .before .before .before .before .before .before .args .at) _ _ (c .before .before .before .before .before .before .before .byte-at .ensures .byte) (sym (c .before .before .before .is-usable .ensures) ∙ not-false (c .before .before .before .is-usable .result) (c .before .before .if1 .left)) (c .greatest-byte2 .ensures)
 
 pub is-good-slot-spec : {M : Type 1} → statement M
 is-good-slot-spec =
@@ -56,13 +71,17 @@ is-good-slot-spec =
     byte-at-requires
     add-end
     add-next
+    sub-greatest-byte
+    part-greatest-byte-start
+    part-greatest-byte-end
+    greatest-byte-requires
     sub-is-usable
     part-is-usable-start
     part-is-usable-end
     is-usable-requires
     returns
-    sub-greatest-byte
-    part-greatest-byte-start
-    part-greatest-byte-end
-    greatest-byte-requires
+    sub-greatest-byte-2
+    part-greatest-byte-start-2
+    part-greatest-byte-end-2
+    greatest-byte-requires-2
     returns-2)

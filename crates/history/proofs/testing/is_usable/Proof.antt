@@ -17,19 +17,22 @@ returns : tie.Need-returns
 unfolding usable
 returns c = sym (then-is _ _ _ (sym (c .before .is-blank .ensures) ∙ c .if1 .taken))
 
-greatest-byte-requires : tie.Need-greatest-byte-requires
-greatest-byte-requires c κs = search needs
-
 returns-2 : tie.Need-returns-2
 unfolding usable wellFormed
-returns-2 c = sym (else-is _ _ _ (sym (c .before .before .before .is-blank .ensures) ∙ c .before .before .if1 .left) ∙ eq-eqb _ _ (whole-is _ (ascii-well-formed (c .before .before .before .before .before .args .text .now) (omega (arith, c .before .greatest-byte .ensures, c .if2 .taken)))))
+returns-2 c =
+    let args = c .before .before .before .before .args in
+    let pre = c .before .before .before .before .pre in
+    let blank = sym (c .before .before .is-blank .ensures) ∙ c .before .if1 .left in
+    sym (else-is _ _ _ blank ∙ eq-eqb _ _ (whole-is _ (ascii-well-formed (args .text .now) (omega (arith, pre, c .if2 .taken)))))
 
 well-formed-prefix-requires : tie.Need-well-formed-prefix-requires
 well-formed-prefix-requires c κs = search needs
 
 returns-3 : tie.Need-returns-3
 unfolding usable wellFormed
-returns-3 c = sym (else-is _ _ _ (sym (c .before .before .before .before .is-blank .ensures) ∙ c .before .before .before .if1 .left) ∙ rw (c .well-formed-prefix .ensures))
+returns-3 c =
+    let blank = sym (c .before .before .before .is-blank .ensures) ∙ c .before .before .if1 .left in
+    sym (else-is _ _ _ blank ∙ rw (c .well-formed-prefix .ensures))
 
 pub is-usable-spec : {M : Type 1} → statement M
 is-usable-spec =
@@ -37,7 +40,6 @@ is-usable-spec =
     (tie.spec
     is-blank-requires
     returns
-    greatest-byte-requires
     returns-2
     well-formed-prefix-requires
     returns-3)
