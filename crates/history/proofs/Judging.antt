@@ -254,7 +254,7 @@ judged-begin s n =
     let e : n - 0 ≡ n = omega arith in
     ap (λ (b : List ℕ). judged b (n - 0) s) (before-first s 0 (omega arith)) ∙ ap (λ (k : ℕ). judged [] k s) e
 
--- no byte of the entry is above the greatest of its slot
+-- no byte of an entry is above the greatest of a part that begins with it
 greatest-first : (s : List ℕ) (i j : ℕ) → i ≤ j → greatest (take i s) ≤ greatest (take j s)
 greatest-first s i j h =
     let parts : greatest (take j s) ≡ max (greatest (take i s)) (greatest (drop i (take j s))) =
@@ -263,9 +263,9 @@ greatest-first s i j h =
     in
     omega arith
 
-pub entry-below : (s : List ℕ) (at n top : ℕ) → n < 256 → top ≡ greatest (take (at + 256 - (at + 1)) (drop (at + 1) s))
-    → greatest (take (at + 1 + n - (at + 1)) (drop (at + 1) s)) ≤ top
-entry-below s at n top h e = let k = greatest-first (drop (at + 1) s) (at + 1 + n - (at + 1)) (at + 256 - (at + 1)) (omega arith) in omega arith
+pub entry-below : (s : List ℕ) (start n m top : ℕ) → n ≤ m → top ≡ greatest (take (start + m - start) (drop start s))
+    → greatest (take (start + n - start) (drop start s)) ≤ top
+entry-below s start n m top h e = let k = greatest-first (drop start s) (start + n - start) (start + m - start) (omega arith) in omega arith
 
 -- a slot by its parts
 pub slot-bad : (s : List ℕ) (at n : ℕ) → n ≡ getD s at 0 → usable (take (at + 1 + n - (at + 1)) (drop (at + 1) s)) ≡ false → goodSlot (drop at s) ≡ false

@@ -1,5 +1,5 @@
 // The state test. Every key runs it, so it goes over the slots in passes without an early exit; only a text with a byte of 80 or more is read by character.
-ghost use Prim.Native.Nat.{_+_, _*_, _≤_};
+ghost use Prim.Native.Nat.{_+_, _*_, _≤_, max};
 ghost use mathlib.Core.Path.{_≡_};
 ghost use mathlib.Core.List.{[]};
 ghost use lib.ListN.{length, take, drop};
@@ -29,16 +29,24 @@ fn is_usable(text: &[u8], top: u8) -> bool
     well_formed_prefix(text) == text.len()
 }
 
-// Whether the slot at a place holds a usable entry, with zeros after it. Its greatest byte is that of the whole slot: a pass of one length, whatever the
-// entry's, is the fastest.
+// How many bytes of a slot are passed for an entry of so many: a pass over fewer than 32 takes them one by one.
+fn passed_for(size: usize) -> usize
+    ensures { λ r. ⌜ r ≡ max size 32 ⌝ }
+{
+    if size < 32 { 32 } else { size }
+}
+
+// Whether the slot at a place holds a usable entry, with zeros after it.
 fn is_good_slot(slots: &[u8], at: usize) -> bool
     requires { ⌜ at + 256 ≤ length (now slots) ⌝ }
     ensures { λ r. ⌜ r ≡ goodSlot (drop at (now (slots .entry))) ⌝ }
 {
     let start = at + 1;
-    let end = start + byte_at(slots, at);
+    let size = byte_at(slots, at);
+    let end = start + size;
     let next = at + 256;
-    let top = greatest_byte(&slots[start..next]);
+    let passed = start + passed_for(size);
+    let top = greatest_byte(&slots[start..passed]);
     if !is_usable(&slots[start..end], top) {
         return false;
     }

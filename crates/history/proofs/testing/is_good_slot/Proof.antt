@@ -2,7 +2,9 @@
 use borrow.Author.Needs.{needs}
 use Rattle.history.proofs.Judging.{entry-below, slot-bad, slot-good}
 use borrow.Author.Tests.{not-true, not-false}
+use Prim.Native.Nat.{_+_}
 use mathlib.Core.Path.{sym, _∙_}
+use native.Mathlib.Omega.{arith}
 use Rattle.history.proofs.testing.is_good_slot.Statement.{statement}
 use Rattle.history.proofs.testing.is_good_slot.Tie as tie
 
@@ -17,6 +19,12 @@ add-end c = search needs
 
 add-next : tie.Need-add-next
 add-next c = search needs
+
+passed-for-requires : tie.Need-passed-for-requires
+passed-for-requires c κs = search needs
+
+add-passed : tie.Need-add-passed
+add-passed c = search needs
 
 sub-greatest-byte : tie.Need-sub-greatest-byte
 sub-greatest-byte c = search needs
@@ -41,12 +49,12 @@ part-is-usable-end c = search needs
 
 is-usable-requires : tie.Need-is-usable-requires
 is-usable-requires c κs =
-    let args = c .before .before .before .before .before .args in
-    let byte-at = c .before .before .before .byte-at in
-    entry-below (args .slots .now) (args .at) _ _ (byte-at .ensures .small) (c .before .greatest-byte .ensures)
+    let args = c .before .before .before .before .before .before .args in
+    let passed-for = c .before .before .before .passed-for in
+    entry-below (args .slots .now) (args .at + 1) _ _ _ (let e = passed-for .ensures in omega arith) (c .before .greatest-byte .ensures)
 
 returns : tie.Need-returns
-returns c = sym (slot-bad (c .before .before .before .before .before .before .before .args .slots .now) (c .before .before .before .before .before .before .before .args .at) _ (c .before .before .before .before .before .byte-at .ensures .byte) (sym (c .before .is-usable .ensures) ∙ not-true (c .before .is-usable .result) (c .if1 .taken)))
+returns c = sym (slot-bad (c .before .before .before .before .before .before .before .before .args .slots .now) (c .before .before .before .before .before .before .before .before .args .at) _ (c .before .before .before .before .before .before .byte-at .ensures .byte) (sym (c .before .is-usable .ensures) ∙ not-true (c .before .is-usable .result) (c .if1 .taken)))
 
 sub-greatest-byte-2 : tie.Need-sub-greatest-byte-2
 sub-greatest-byte-2 c = search needs
@@ -61,7 +69,7 @@ greatest-byte-requires-2 : tie.Need-greatest-byte-requires-2
 greatest-byte-requires-2 c κs = search needs
 
 returns-2 : tie.Need-returns-2
-returns-2 c = slot-good (c .before .before .before .before .before .before .before .before .before .args .slots .now) (c .before .before .before .before .before .before .before .before .before .args .at) _ _ (c .before .before .before .before .before .before .before .byte-at .ensures .byte) (sym (c .before .before .before .is-usable .ensures) ∙ not-false (c .before .before .before .is-usable .result) (c .before .before .if1 .left)) (c .greatest-byte2 .ensures)
+returns-2 c = slot-good (c .before .before .before .before .before .before .before .before .before .before .args .slots .now) (c .before .before .before .before .before .before .before .before .before .before .args .at) _ _ (c .before .before .before .before .before .before .before .before .byte-at .ensures .byte) (sym (c .before .before .before .is-usable .ensures) ∙ not-false (c .before .before .before .is-usable .result) (c .before .before .if1 .left)) (c .greatest-byte2 .ensures)
 
 pub is-good-slot-spec : {M : Type 1} → statement M
 is-good-slot-spec =
@@ -71,6 +79,8 @@ is-good-slot-spec =
     byte-at-requires
     add-end
     add-next
+    passed-for-requires
+    add-passed
     sub-greatest-byte
     part-greatest-byte-start
     part-greatest-byte-end
