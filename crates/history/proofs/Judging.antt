@@ -263,9 +263,15 @@ greatest-first s i j h =
     in
     omega arith
 
-pub entry-below : (s : List ℕ) (start n m top : ℕ) → n ≤ m → top ≡ greatest (take (start + m - start) (drop start s))
-    → greatest (take (start + n - start) (drop start s)) ≤ top
-entry-below s start n m top h e = let k = greatest-first (drop start s) (start + n - start) (start + m - start) (omega arith) in omega arith
+pub entry-below : (s : List ℕ) (start n top : ℕ) → top ≡ greatest (take (max n 32) (drop start s)) → greatest (take (start + n - start) (drop start s)) ≤ top
+entry-below s start n top e = let k = greatest-first (drop start s) (start + n - start) (max n 32) (omega arith) in omega arith
+
+-- of a short one 32 bytes are passed, of any other its own
+pub top-short : (s : List ℕ) (start n top : ℕ) → n < 32 → top ≡ greatest (take (start + 32 - start) (drop start s)) → top ≡ greatest (take (max n 32) (drop start s))
+top-short s start n top h e = let k : start + 32 - start ≡ max n 32 = omega arith in e ∙ ap (λ (i : ℕ). greatest (take i (drop start s))) k
+
+pub top-long : (s : List ℕ) (start n top : ℕ) → 32 ≤ n → top ≡ greatest (take (start + n - start) (drop start s)) → top ≡ greatest (take (max n 32) (drop start s))
+top-long s start n top h e = let k : start + n - start ≡ max n 32 = omega arith in e ∙ ap (λ (i : ℕ). greatest (take i (drop start s))) k
 
 -- a slot by its parts
 pub slot-bad : (s : List ℕ) (at n : ℕ) → n ≡ getD s at 0 → usable (take (at + 1 + n - (at + 1)) (drop (at + 1) s)) ≡ false → goodSlot (drop at s) ≡ false

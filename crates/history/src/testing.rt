@@ -1,5 +1,5 @@
 // The state test. Every key runs it, so it goes over the slots in passes without an early exit; only a text with a byte of 80 or more is read by character.
-ghost use Prim.Native.Nat.{_+_, _*_, _≤_, max};
+ghost use Prim.Native.Nat.{_+_, _*_, _<_, _≤_, max};
 ghost use mathlib.Core.Path.{_≡_};
 ghost use mathlib.Core.List.{[]};
 ghost use lib.ListN.{length, take, drop};
@@ -29,11 +29,17 @@ fn is_usable(text: &[u8], top: u8) -> bool
     well_formed_prefix(text) == text.len()
 }
 
-// How many bytes of a slot are passed for an entry of so many: a pass over fewer than 32 takes them one by one.
-fn passed_for(size: usize) -> usize
-    ensures { λ r. ⌜ r ≡ max size 32 ⌝ }
+// The greatest byte of the entry at a place, of which a short one is passed with what follows it: a pass over fewer than 32 bytes takes them one by one.
+fn top_of(slots: &[u8], start: usize, size: usize) -> u8
+    requires { ⌜ (start + 255 ≤ length (now slots)) × (size < 256) ⌝ }
+    ensures { λ r. ⌜ r ≡ greatest (take (max size 32) (drop start (now (slots .entry)))) ⌝ }
 {
-    if size < 32 { 32 } else { size }
+    if size < 32 {
+        let block = start + 32;
+        return greatest_byte(&slots[start..block]);
+    }
+    let end = start + size;
+    greatest_byte(&slots[start..end])
 }
 
 // Whether the slot at a place holds a usable entry, with zeros after it.
@@ -45,8 +51,7 @@ fn is_good_slot(slots: &[u8], at: usize) -> bool
     let size = byte_at(slots, at);
     let end = start + size;
     let next = at + 256;
-    let passed = start + passed_for(size);
-    let top = greatest_byte(&slots[start..passed]);
+    let top = top_of(slots, start, size);
     if !is_usable(&slots[start..end], top) {
         return false;
     }

@@ -4,7 +4,6 @@ use Rattle.history.proofs.Judging.{entry-below, slot-bad, slot-good}
 use borrow.Author.Tests.{not-true, not-false}
 use Prim.Native.Nat.{_+_}
 use mathlib.Core.Path.{sym, _∙_}
-use native.Mathlib.Omega.{arith}
 use Rattle.history.proofs.testing.is_good_slot.Statement.{statement}
 use Rattle.history.proofs.testing.is_good_slot.Tie as tie
 
@@ -20,11 +19,25 @@ add-end c = search needs
 add-next : tie.Need-add-next
 add-next c = search needs
 
-passed-for-requires : tie.Need-passed-for-requires
-passed-for-requires c κs = search needs
+top-of-requires : tie.Need-top-of-requires
+top-of-requires c κs = search needs
 
-add-passed : tie.Need-add-passed
-add-passed c = search needs
+sub-is-usable : tie.Need-sub-is-usable
+sub-is-usable c = search needs
+
+part-is-usable-start : tie.Need-part-is-usable-start
+part-is-usable-start c = search needs
+
+part-is-usable-end : tie.Need-part-is-usable-end
+part-is-usable-end c = search needs
+
+is-usable-requires : tie.Need-is-usable-requires
+is-usable-requires c κs =
+    let args = c .before .before .before .before .args in
+    entry-below (args .slots .now) (args .at + 1) _ _ (c .before .top-of .ensures)
+
+returns : tie.Need-returns
+returns c = sym (slot-bad (c .before .before .before .before .before .before .args .slots .now) (c .before .before .before .before .before .before .args .at) _ (c .before .before .before .before .byte-at .ensures .byte) (sym (c .before .is-usable .ensures) ∙ not-true (c .before .is-usable .result) (c .if1 .taken)))
 
 sub-greatest-byte : tie.Need-sub-greatest-byte
 sub-greatest-byte c = search needs
@@ -38,38 +51,8 @@ part-greatest-byte-end c = search needs
 greatest-byte-requires : tie.Need-greatest-byte-requires
 greatest-byte-requires c κs = search needs
 
-sub-is-usable : tie.Need-sub-is-usable
-sub-is-usable c = search needs
-
-part-is-usable-start : tie.Need-part-is-usable-start
-part-is-usable-start c = search needs
-
-part-is-usable-end : tie.Need-part-is-usable-end
-part-is-usable-end c = search needs
-
-is-usable-requires : tie.Need-is-usable-requires
-is-usable-requires c κs =
-    let args = c .before .before .before .before .before .before .args in
-    let passed-for = c .before .before .before .passed-for in
-    entry-below (args .slots .now) (args .at + 1) _ _ _ (let e = passed-for .ensures in omega arith) (c .before .greatest-byte .ensures)
-
-returns : tie.Need-returns
-returns c = sym (slot-bad (c .before .before .before .before .before .before .before .before .args .slots .now) (c .before .before .before .before .before .before .before .before .args .at) _ (c .before .before .before .before .before .before .byte-at .ensures .byte) (sym (c .before .is-usable .ensures) ∙ not-true (c .before .is-usable .result) (c .if1 .taken)))
-
-sub-greatest-byte-2 : tie.Need-sub-greatest-byte-2
-sub-greatest-byte-2 c = search needs
-
-part-greatest-byte-start-2 : tie.Need-part-greatest-byte-start-2
-part-greatest-byte-start-2 c = search needs
-
-part-greatest-byte-end-2 : tie.Need-part-greatest-byte-end-2
-part-greatest-byte-end-2 c = search needs
-
-greatest-byte-requires-2 : tie.Need-greatest-byte-requires-2
-greatest-byte-requires-2 c κs = search needs
-
 returns-2 : tie.Need-returns-2
-returns-2 c = slot-good (c .before .before .before .before .before .before .before .before .before .before .args .slots .now) (c .before .before .before .before .before .before .before .before .before .before .args .at) _ _ (c .before .before .before .before .before .before .before .before .byte-at .ensures .byte) (sym (c .before .before .before .is-usable .ensures) ∙ not-false (c .before .before .before .is-usable .result) (c .before .before .if1 .left)) (c .greatest-byte2 .ensures)
+returns-2 c = slot-good (c .before .before .before .before .before .before .before .before .args .slots .now) (c .before .before .before .before .before .before .before .before .args .at) _ _ (c .before .before .before .before .before .before .byte-at .ensures .byte) (sym (c .before .before .before .is-usable .ensures) ∙ not-false (c .before .before .before .is-usable .result) (c .before .before .if1 .left)) (c .greatest-byte .ensures)
 
 pub is-good-slot-spec : {M : Type 1} → statement M
 is-good-slot-spec =
@@ -79,19 +62,14 @@ is-good-slot-spec =
     byte-at-requires
     add-end
     add-next
-    passed-for-requires
-    add-passed
-    sub-greatest-byte
-    part-greatest-byte-start
-    part-greatest-byte-end
-    greatest-byte-requires
+    top-of-requires
     sub-is-usable
     part-is-usable-start
     part-is-usable-end
     is-usable-requires
     returns
-    sub-greatest-byte-2
-    part-greatest-byte-start-2
-    part-greatest-byte-end-2
-    greatest-byte-requires-2
+    sub-greatest-byte
+    part-greatest-byte-start
+    part-greatest-byte-end
+    greatest-byte-requires
     returns-2)
