@@ -13,7 +13,7 @@ use Rattle.buffer.proofs.Lists.{drop-step}
 use Rattle.buffer.proofs.Zeros.{zero-bytes}
 use Rattle.buffer.proofs.Lending.{rest-lent}
 use Rattle.buffer.proofs.Greatest.{greatest-append}
-use Rattle.buffer.proofs.Ordering.{same-append, same-behind, same-as, same-is}
+use Rattle.buffer.proofs.Ordering.{same-append, same-behind, same-as, same-is, is-same}
 use Rattle.buffer.specs.Compare.{sameBytes}
 use Rattle.buffer.specs.Greatest.{greatest}
 use Rattle.text.proofs.Pieces.{pieces-none}
@@ -283,6 +283,26 @@ pub slot-good : (s : List ℕ) (at n k : ℕ) → n ≡ getD s at 0 → usable (
 unfolding goodSlot
 slot-good s at n k e u g =
     ap (λ (j : ℕ). eqb j 0) (g ∙ ap greatest (unused-part s at n e)) ∙ sym (then-is _ _ _ (sym (ap usable (entry-part s at n e)) ∙ u))
+
+-- bytes that begin otherwise are others
+heads-differ : (a b : List ℕ) → sameBytes (take 32 a) (take 32 b) ≡ false → sameBytes (take 256 a) (take 256 b) ≡ false
+heads-differ a b e = by (sameBytes (take 256 a) (take 256 b)) refl
+  where
+    by : (t : Bool) → sameBytes (take 256 a) (take 256 b) ≡ t → t ≡ false
+    by false q = refl
+    by true q =
+        let heads : take 32 a ≡ take 32 b =
+        sym (take-take 32 256 a (omega arith)) ∙ ap (take 32) (same-is (take 256 a) (take 256 b) q) ∙ take-take 32 256 b (omega arith)
+        in
+        sym (is-same (take 32 a) (take 32 b) heads) ∙ e
+
+pub heads-tell : (s : List ℕ) (at : ℕ) → 256 ≤ at → sameBytes (take (at - 256 + 32 - (at - 256)) (drop (at - 256) s)) (take (at + 32 - at) (drop at s)) ≡ false
+    → false ≡ sameBytes (slotBefore at s) (take 256 (drop at s))
+heads-tell s at h e =
+    let a : at - 256 + 32 - (at - 256) ≡ 32 = omega arith in
+    let b : at + 32 - at ≡ 32 = omega arith in
+    sym (ap (λ (l : List ℕ). sameBytes l (take 256 (drop at s))) (before-later s at h)
+    ∙ heads-differ (drop (at - 256) s) (drop at s) (rw (a, b) at e))
 
 -- the slot before a place and the slot there, as two parts
 pub two-slots : (s : List ℕ) (at : ℕ) → 256 ≤ at

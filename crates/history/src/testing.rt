@@ -58,7 +58,7 @@ fn is_good_slot(slots: &[u8], at: usize) -> bool
     greatest_byte(&slots[end..next]) == 0
 }
 
-// Whether the slot at a place is the same as the one before it.
+// Whether the slot at a place is the same as the one before it. Most differ in their first bytes.
 fn is_repeated(slots: &[u8], at: usize) -> bool
     requires { ⌜ at + 256 ≤ length (now slots) ⌝ }
     ensures { λ r. ⌜ r ≡ sameBytes (slotBefore at (now (slots .entry))) (take 256 (drop at (now (slots .entry)))) ⌝ }
@@ -68,6 +68,11 @@ fn is_repeated(slots: &[u8], at: usize) -> bool
     }
     let before = at - 256;
     let next = at + 256;
+    let head = before + 32;
+    let block = at + 32;
+    if !same_throughout(&slots[before..head], &slots[at..block]) {
+        return false;
+    }
     same_throughout(&slots[before..at], &slots[at..next])
 }
 

@@ -1,6 +1,7 @@
 -- `history::testing::is_repeated` meets its contract.
+use borrow.Author.Tests.{not-true}
 use borrow.Author.Needs.{needs}
-use Rattle.history.proofs.Judging.{before-first, slot-some, two-slots}
+use Rattle.history.proofs.Judging.{before-first, slot-some, heads-tell, two-slots}
 use native.Mathlib.Omega.{arith}
 use mathlib.Core.Path.{sym, _∙_}
 use Rattle.history.proofs.testing.is_repeated.Statement.{statement}
@@ -11,6 +12,12 @@ returns c = rw (before-first (c .before .before .args .slots .now) (c .before .b
 
 add-next : tie.Need-add-next
 add-next c = search needs
+
+add-head : tie.Need-add-head
+add-head c = search needs
+
+add-block : tie.Need-add-block
+add-block c = search needs
 
 sub-same-throughout : tie.Need-sub-same-throughout
 sub-same-throughout c = search needs
@@ -34,7 +41,34 @@ same-throughout-requires : tie.Need-same-throughout-requires
 same-throughout-requires c κs = search needs
 
 returns-2 : tie.Need-returns-2
-returns-2 c = c .same-throughout .ensures ∙ two-slots (c .before .before .before .before .before .args .slots .now) (c .before .before .before .before .before .args .at) (c .before .before .before .if1 .left)
+returns-2 c =
+    let args = c .before .before .before .before .before .before .args in
+    let if1 = c .before .before .before .before .if1 in
+    heads-tell (args .slots .now) (args .at) (if1 .left) (sym (c .before .same-throughout .ensures) ∙ not-true (c .before .same-throughout .result) (c .if2 .taken))
+
+sub-same-throughout-3 : tie.Need-sub-same-throughout-3
+sub-same-throughout-3 c = search needs
+
+part-same-throughout-start-3 : tie.Need-part-same-throughout-start-3
+part-same-throughout-start-3 c = search needs
+
+part-same-throughout-end-3 : tie.Need-part-same-throughout-end-3
+part-same-throughout-end-3 c = search needs
+
+sub-same-throughout-4 : tie.Need-sub-same-throughout-4
+sub-same-throughout-4 c = search needs
+
+part-same-throughout-start-4 : tie.Need-part-same-throughout-start-4
+part-same-throughout-start-4 c = search needs
+
+part-same-throughout-end-4 : tie.Need-part-same-throughout-end-4
+part-same-throughout-end-4 c = search needs
+
+same-throughout-requires-2 : tie.Need-same-throughout-requires-2
+same-throughout-requires-2 c κs = search needs
+
+returns-3 : tie.Need-returns-3
+returns-3 c = c .same-throughout2 .ensures ∙ two-slots (c .before .before .before .before .before .before .before .before .before .args .slots .now) (c .before .before .before .before .before .before .before .before .before .args .at) (c .before .before .before .before .before .before .before .if1 .left)
 
 pub is-repeated-spec : {M : Type 1} → statement M
 is-repeated-spec =
@@ -42,6 +76,8 @@ is-repeated-spec =
     (tie.spec
     returns
     add-next
+    add-head
+    add-block
     sub-same-throughout
     part-same-throughout-start
     part-same-throughout-end
@@ -49,4 +85,12 @@ is-repeated-spec =
     part-same-throughout-start-2
     part-same-throughout-end-2
     same-throughout-requires
-    returns-2)
+    returns-2
+    sub-same-throughout-3
+    part-same-throughout-start-3
+    part-same-throughout-end-3
+    sub-same-throughout-4
+    part-same-throughout-start-4
+    part-same-throughout-end-4
+    same-throughout-requires-2
+    returns-3)
