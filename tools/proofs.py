@@ -127,3 +127,24 @@ def declared(text, name):
     signature = rf'((?:abbrev )?{n} : [^\n]*\n(?:[) ][^\n]*\n)*)'
     answer = rf'({n}\b[^=\n]*=)([^\n]*\n(?:[ )\]}}][^\n]*\n)*)'
     return re.search(rf'^{signature}(unfolding[^\n]*\n)?{answer}', text, re.M)
+
+
+PATH = re.compile(r'(?<![\w.·′-])(?<!= )c((?:\s+\.before)+)\s+\.([^\s.,;()]+)(?![\w-])')
+WORD = re.compile(r'(?<![\w.·′-])[^\W\d][\w·′-]*')
+
+
+def named(head, body):
+    """An answer in which each long path into `c` has a name, bound by a let before it; lets of its own stay."""
+    found = [(m[1].count('.before'), m[2]) for m in PATH.finditer(body)]
+    is_short = '\n' not in body and len(head) + len(body) < 120
+    taken = set(WORD.findall(head + ' ' + PATH.sub(' ', body)))
+    names = {}
+    for depth, thing in sorted(set(found), key=lambda path: (-path[0], found.index(path))):
+        if depth > 1 and found.count((depth, thing)) > 1 or depth > 2 and not is_short:
+            name = thing
+            while name in taken:
+                name = 'the-' + name
+            taken.add(name)
+            names[depth, thing] = name
+    lets = ''.join(f'let {name} = c{" .before" * depth} .{thing} in\n' for (depth, thing), name in names.items())
+    return lets + PATH.sub(lambda m: names.get((m[1].count('.before'), m[2]), m[0]), body)
