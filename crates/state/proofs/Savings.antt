@@ -1,13 +1,11 @@
 -- Laws of saved states: what was saved is restored, nothing in the bytes is lost, and how the code writes them.
 use Prim.Native.Nat.{ℕ, zero, suc, _+_, _≤_}
 use mathlib.Core.Path.{_≡_, refl, sym, ap, _∙_}
-use mathlib.Core.Bool.{Bool, true, false}
+use mathlib.Core.Bool.{Bool, true, false, cond}
 use mathlib.Core.List.{List, [], _∷_, _++_, append-nil}
 use native.Mathlib.Omega.{arith}
-use lib.Dec.{eqb}
 use lib.ListN.{length, take, drop, length-append, length-drop, take-append-drop}
 use lib.Seq.{take-at, drop-at}
-use borrow.Author.Tests.{eq-eqb, ne-eqb, eqb-true}
 use Rattle.buffer.proofs.Choices.{then-is, else-is, true-is-not-false}
 use Rattle.buffer.proofs.Lists.{drop-end}
 use Rattle.buffer.proofs.Lending.{overAt-front, length-overAt}
@@ -16,20 +14,22 @@ use Rattle.buffer.specs.Write.{over, Pushed}
 use Rattle.buffer.specs.Lend.{zeros}
 use Rattle.history.specs.declared.stepping.History.{History}
 use Rattle.history.specs.Journal.{noEntries, recordOf}
-use Rattle.history.specs.Saved.{savedSize as historySize, savedOf as historySaved, savedIn as historySavedIn, Fits as HistoryFits}
+use Rattle.history.specs.declared.saving.Restored.{Restored as RestoredHistory}
+use Rattle.history.specs.declared.saving.Restored.the-variants.{Good, Bad}
+use Rattle.history.specs.Saved.{savedSize as historySize, savedOf as historySaved, savedIn as historySavedIn, isSaved as isHistory, restored as restoredHistory, Fits as HistoryFits}
 use Rattle.history.proofs.States.{holds}
 use Rattle.history.proofs.Journals.{good-fits as history-fits}
-use Rattle.history.proofs.Saved.{saved-in as history-back, saved-back as history-bytes, length-saved as length-history}
+use Rattle.history.proofs.Saved.{saved-in as history-back, saved-back as history-bytes, length-saved as length-history, saved-is as history-is, saved-has as history-has, right-length, good-back, bad-back}
 use Rattle.editor.specs.declared.line.Editor.{Editor}
 use Rattle.editor.specs.declared.saving.Restored.{Restored as RestoredEditor}
-use Rattle.editor.specs.Line.{limit, padded, freshEditor}
+use Rattle.editor.specs.Line.{limit, padded, freshEditor, goodLine}
 use Rattle.editor.specs.Turns.{State, turnOf}
 use Rattle.editor.specs.Answer.{stateOf, goodState}
-use Rattle.editor.specs.Saved.{savedSize as editorSize, savedOf as editorSaved, isSaved, savedIn as editorSavedIn, restored as restoredEditor, Fits as EditorFits}
+use Rattle.editor.specs.Saved.{savedSize as editorSize, savedOf as editorSaved, savedIn as editorSavedIn, hasMode, isSaved as isEditor, restored as restoredEditor, Fits as EditorFits}
 use Rattle.editor.proofs.States.{good-parts}
-use Rattle.editor.proofs.Saved.{length-saved, saved-is, saved-in, saved-back, good-fits as editor-fits, restored-is, restored-not}
+use Rattle.editor.proofs.Saved.{length-saved, saved-is as editor-is, saved-has as editor-has, right-head, head-size, saved-in, saved-back, good-fits as editor-fits, restored-is, restored-not}
 use Rattle.state.specs.declared.saving.Restored.{Restored}
-use Rattle.state.specs.State.{stateSize, savedOf, isState, editorIn, historyIn, nothing, restored, goodSaved}
+use Rattle.state.specs.State.{stateSize, savedOf, editorIn, historyIn, goodSaved, nothing, restored}
 use Rattle.state.specs.Calls.{turnIn}
 
 -- the sizes
@@ -54,10 +54,6 @@ whole-saved : (e : Editor) (h : History) → length (e .line) ≡ 255 → length
 unfolding savedOf stateSize
 whole-saved e h l = length-append (editorSaved e) (historySaved h) ∙ ap (λ (n : ℕ). n + length (historySaved h)) (editor-part e l) ∙ ap (λ (n : ℕ). editorSize + n) (length-history h)
 
-state-saved : (e : Editor) (h : History) → length (e .line) ≡ 255 → isState (savedOf e h) ≡ true
-unfolding isState
-state-saved e h l = then-is _ _ _ (eq-eqb _ _ (whole-saved e h l)) ∙ ap isSaved (front-saved e h l) ∙ saved-is e l
-
 editor-saved : (e : Editor) (h : History) → length (e .line) ≡ 255 → editorIn (savedOf e h) ≡ e
 unfolding editorIn
 editor-saved e h l = ap editorSavedIn (front-saved e h l) ∙ saved-in e
@@ -66,20 +62,14 @@ pub history-saved : (e : Editor) (h : History) → length (e .line) ≡ 255 → 
 unfolding historyIn
 history-saved e h l = ap historySavedIn (rest-saved e h l) ∙ history-back h
 
-pub restored-saved : (e : Editor) (h : History) → length (e .line) ≡ 255 → restored (savedOf e h) ≡ record { valid = true; editor = e; history = h }
-unfolding restored
-restored-saved e h l =
-    then-is _ _ _ (state-saved e h l)
-    ∙ ap (λ (x : Editor). record { valid = true; editor = x; history = historyIn (savedOf e h) }) (editor-saved e h l)
-    ∙ ap (λ (x : History). record { valid = true; editor = e; history = x }) (history-saved e h l)
-
 -- a saved state is as good as its editor and its history, and a key takes the same turn in it
 pub good-saved : (e : Editor) (h : History) (slots : List ℕ) → length (e .line) ≡ 255 → goodSaved (savedOf e h) slots ≡ goodState e h slots
-unfolding goodSaved
+unfolding goodSaved goodState
 good-saved e h slots l =
-    then-is _ _ _ (state-saved e h l)
-    ∙ ap (λ (x : Editor). goodState x (historyIn (savedOf e h)) slots) (editor-saved e h l)
-    ∙ ap (λ (x : History). goodState e x slots) (history-saved e h l)
+    ap (λ (x : List ℕ). cond (isEditor x) (isHistory (drop editorSize (savedOf e h)) slots) false) (front-saved e h l)
+    ∙ ap (λ (x : List ℕ). cond (isEditor (editorSaved e)) (isHistory x slots) false) (rest-saved e h l)
+    ∙ ap (λ (t : Bool). cond t (isHistory (historySaved h) slots) false) (editor-is e l)
+    ∙ ap (λ (t : Bool). cond (goodLine e) t false) (history-is h slots)
 
 pub held-saved : (e : Editor) (h : History) (slots : List ℕ) → length (e .line) ≡ 255 → stateOf (editorIn (savedOf e h)) (historyIn (savedOf e h)) slots ≡ stateOf e h slots
 held-saved e h slots l =
@@ -90,24 +80,49 @@ pub turn-saved : (e : Editor) (h : History) (slots prompt : List ℕ) (byte : �
 unfolding turnIn
 turn-saved e h slots prompt byte l = ap (λ (s : State). turnOf prompt s byte) (held-saved e h slots l)
 
--- the two tests of a state
+-- the two tests of a good state
+tests-held : (s slots : List ℕ) → goodSaved s slots ≡ true → (isEditor (take editorSize s) ≡ true) × (isHistory (drop editorSize s) slots ≡ true)
+unfolding goodSaved
+tests-held s slots g = holds (isEditor (take editorSize s)) _ g
+
+-- bytes with a state's length and a mode; they are as good as the editor and the history that they hold
 pub record IsState (state : List ℕ) : Type 0 where
   pub size : length state ≡ stateSize
-  pub editor : isSaved (take editorSize state) ≡ true
+  pub mode : hasMode (take editorSize state) ≡ true
 
-pub state-has : (s : List ℕ) → isState s ≡ true → IsState s
-unfolding isState
-state-has s h = let a = holds (eqb (length s) stateSize) _ h in record { size = eqb-true _ _ (a .0); editor = a .1 }
+history-size : (s : List ℕ) → length s ≡ stateSize → length (drop editorSize s) ≡ historySize
+unfolding stateSize
+history-size s n = let d = length-drop editorSize s in omega arith
+
+pub good-as : (s slots : List ℕ) → IsState s → goodSaved s slots ≡ goodState (editorIn s) (historyIn s) slots
+unfolding goodSaved goodState editorIn historyIn
+good-as s slots k =
+    ap (λ (t : Bool). cond t (isHistory (drop editorSize s) slots) false) (right-head (take editorSize s) (k .mode))
+    ∙ ap (λ (t : Bool). cond (goodLine (editorSavedIn (take editorSize s))) t false) (right-length (drop editorSize s) slots (history-size s (k .size)))
+
+-- a good one is such
+is-state : (s : List ℕ) → length (take editorSize s) ≡ editorSize → length (drop editorSize s) ≡ historySize → length s ≡ stateSize
+unfolding stateSize
+is-state s a b =
+    let w = ap length (take-append-drop editorSize s) in let l = length-append (take editorSize s) (drop editorSize s) in omega arith
+
+pub good-saved-parts : (s slots : List ℕ) → goodSaved s slots ≡ true → IsState s × (goodState (editorIn s) (historyIn s) slots ≡ true)
+good-saved-parts s slots g = (shape, sym (good-as s slots shape) ∙ g)
+  where
+    parts : (isEditor (take editorSize s) ≡ true) × (isHistory (drop editorSize s) slots ≡ true)
+    parts = tests-held s slots g
+
+    shape : IsState s
+    shape =
+        let head = editor-has (take editorSize s) (parts .0) .head in
+        record { size = is-state s (head-size (take editorSize s) head) (history-has (drop editorSize s) slots (parts .1) .size); mode = head }
 
 -- what restores is the saving of what was restored
-pub saved-restored : (s : List ℕ) → isState s ≡ true → savedOf (editorIn s) (historyIn s) ≡ s
-unfolding savedOf editorIn historyIn stateSize
-saved-restored s h =
-    let k = state-has s h in
-    let d = length-drop editorSize s in
-    let n : length (drop editorSize s) ≡ historySize = let m = k .size in omega arith in
-    ap (λ (x : List ℕ). x ++ historySaved (historySavedIn (drop editorSize s))) (saved-back (take editorSize s) (k .editor))
-    ∙ ap (λ (x : List ℕ). take editorSize s ++ x) (history-bytes (drop editorSize s) n)
+pub saved-restored : (s : List ℕ) → IsState s → savedOf (editorIn s) (historyIn s) ≡ s
+unfolding savedOf editorIn historyIn
+saved-restored s k =
+    ap (λ (x : List ℕ). x ++ historySaved (historySavedIn (drop editorSize s))) (saved-back (take editorSize s) (k .mode))
+    ∙ ap (λ (x : List ℕ). take editorSize s ++ x) (history-bytes (drop editorSize s) (history-size s (k .size)))
     ∙ take-append-drop editorSize s
 
 -- a fresh session is all zeros
@@ -150,16 +165,9 @@ save-written e h state mid left p r n l a b =
     ∙ ap (λ (x : List ℕ). all ++ x) none
     ∙ append-nil all
 
--- the tests of a state, in their order
-pub wrong-length : (s : List ℕ) → (length s ≡ stateSize → ⊥) → isState s ≡ false
-unfolding isState
-wrong-length s h = else-is _ _ _ (ne-eqb _ _ h)
-
+-- the sizes and parts, as the code has them
 pub as-size : (n : ℕ) → n ≡ 260 → n ≡ stateSize
 as-size n h = h ∙ sym size-is
-
-pub not-size : (n : ℕ) → (n ≡ 260 → ⊥) → n ≡ stateSize → ⊥
-not-size n h e = h (e ∙ size-is)
 
 pub part-editor : (s part : List ℕ) → part ≡ take 258 (drop 0 s) → part ≡ take editorSize s
 unfolding editorSize
@@ -170,63 +178,87 @@ unfolding editorSize
 rest-history s rest e = e
 
 -- what was read of the editor
-module _ (s : List ℕ) (r : RestoredEditor) (q : r ≡ restoredEditor (take editorSize s)) (size : length s ≡ stateSize) where
-  by-valid : (t : Bool) → isSaved (take editorSize s) ≡ t → isState s ≡ t
-  unfolding isState
-  by-valid t h = then-is _ _ _ (eq-eqb _ _ size) ∙ h
-
-  pub read-not : r .valid ≡ false → isState s ≡ false
-  read-not v = by (isSaved (take editorSize s)) refl
+module _ (s : List ℕ) (r : RestoredEditor) (q : r ≡ restoredEditor (take editorSize s)) where
+  pub read-not : r .valid ≡ false → isEditor (take editorSize s) ≡ false
+  read-not v = by (isEditor (take editorSize s)) refl
     where
-      by : (t : Bool) → isSaved (take editorSize s) ≡ t → isState s ≡ false
-      by true h = absurd (true-is-not-false (sym (ap (λ (x : RestoredEditor). x .valid) (q ∙ restored-is (take editorSize s) h)) ∙ v))
-      by false h = by-valid false h
+      by : (t : Bool) → isEditor (take editorSize s) ≡ t → t ≡ false
+      by true h = sym (ap (λ (x : RestoredEditor). x .valid) (q ∙ restored-is (take editorSize s) h)) ∙ v
+      by false h = refl
 
-  pub read-is : r .valid ≡ true → (isState s ≡ true) × (r .editor ≡ editorIn s)
+  pub read-is : r .valid ≡ true → (isEditor (take editorSize s) ≡ true) × (r .editor ≡ editorIn s)
   unfolding editorIn
-  read-is v = by (isSaved (take editorSize s)) refl
+  read-is v = by (isEditor (take editorSize s)) refl
     where
-      by : (t : Bool) → isSaved (take editorSize s) ≡ t → (isState s ≡ true) × (r .editor ≡ editorSavedIn (take editorSize s))
-      by true h = (by-valid true h, ap (λ (x : RestoredEditor). x .editor) (q ∙ restored-is (take editorSize s) h))
+      by : (t : Bool) → isEditor (take editorSize s) ≡ t → (isEditor (take editorSize s) ≡ true) × (r .editor ≡ editorSavedIn (take editorSize s))
+      by true h = (h, ap (λ (x : RestoredEditor). x .editor) (q ∙ restored-is (take editorSize s) h))
       by false h = absurd (true-is-not-false (sym v ∙ ap (λ (x : RestoredEditor). x .valid) (q ∙ restored-not (take editorSize s) h)))
 
+-- what is restored
+restored-state : (s slots : List ℕ) → goodSaved s slots ≡ true → restored s slots ≡ record { valid = true; editor = editorIn s; history = historyIn s }
+unfolding restored
+restored-state s slots h = then-is _ _ _ h
+
+restored-other : (s slots : List ℕ) → goodSaved s slots ≡ false → restored s slots ≡ nothing
+unfolding restored
+restored-other s slots h = else-is _ _ _ h
+
+pub restored-saved : (e : Editor) (h : History) (slots : List ℕ) → length (e .line) ≡ 255 → goodState e h slots ≡ true
+    → restored (savedOf e h) slots ≡ record { valid = true; editor = e; history = h }
+restored-saved e h slots l g =
+    restored-state (savedOf e h) slots (good-saved e h slots l ∙ g)
+    ∙ ap (λ (x : Editor). record { valid = true; editor = x; history = historyIn (savedOf e h) }) (editor-saved e h l)
+    ∙ ap (λ (x : History). record { valid = true; editor = e; history = x }) (history-saved e h l)
+
+-- the ways through the code
+pub no-editor : (s slots : List ℕ) (r : Restored) → isEditor (take editorSize s) ≡ false → r ≡ nothing → r ≡ restored s slots
+unfolding goodSaved
+no-editor s slots r f p = p ∙ sym (restored-other s slots (else-is _ _ _ f))
+
+module _ (s slots rest : List ℕ) (told : RestoredHistory) (is : isEditor (take editorSize s) ≡ true) (d : rest ≡ drop editorSize s) (q : told ≡ restoredHistory rest slots) where
+  as-history : goodSaved s slots ≡ isHistory rest slots
+  unfolding goodSaved
+  as-history = then-is _ _ _ is ∙ ap (λ (x : List ℕ). isHistory x slots) (sym d)
+
+  pub no-history : (r : Restored) → told ≡ Bad → r ≡ nothing → r ≡ restored s slots
+  no-history r b p = p ∙ sym (restored-other s slots (as-history ∙ bad-back rest slots (sym q ∙ b)))
+
+  pub both-held : (e : Editor) (h : History) → e ≡ editorIn s → told ≡ Good h → record { valid = true; editor = e; history = h } ≡ restored s slots
+  unfolding historyIn
+  both-held e h p g =
+      let k = good-back rest slots h (sym q ∙ g) in
+      ap (λ (x : Editor). record { valid = true; editor = x; history = h }) p
+      ∙ ap (λ (x : History). record { valid = true; editor = editorIn s; history = x }) (k .held ∙ ap historySavedIn d)
+      ∙ sym (restored-state s slots (as-history ∙ k .is))
+
 -- what is restored, by its first field
-pub record Back (r : Restored) (s : List ℕ) : Type 0 where
-  pub is : isState s ≡ true
+pub record Back (r : Restored) (s slots : List ℕ) : Type 0 where
+  pub is : goodSaved s slots ≡ true
   pub editor : r .editor ≡ editorIn s
   pub history : r .history ≡ historyIn s
 
-restored-state : (s : List ℕ) → isState s ≡ true → restored s ≡ record { valid = true; editor = editorIn s; history = historyIn s }
-unfolding restored
-restored-state s h = then-is _ _ _ h
-
-restored-other : (s : List ℕ) → isState s ≡ false → restored s ≡ nothing
-unfolding restored
-restored-other s h = else-is _ _ _ h
-
-pub restore-is : (s rest : List ℕ) (e : Editor) (h : History) → isState s ≡ true → e ≡ editorIn s → rest ≡ drop editorSize s → h ≡ historySavedIn rest
-    → record { valid = true; editor = e; history = h } ≡ restored s
-unfolding historyIn
-restore-is s rest e h is q d p =
-    ap (λ (x : Editor). record { valid = true; editor = x; history = h }) q
-    ∙ ap (λ (x : History). record { valid = true; editor = editorIn s; history = x }) (p ∙ ap historySavedIn d)
-    ∙ sym (restored-state s is)
-
-pub restore-not : (s : List ℕ) (r : Restored) → isState s ≡ false → r ≡ nothing → r ≡ restored s
-restore-not s r f p = p ∙ sym (restored-other s f)
-
-pub valid-back : (r : Restored) (s : List ℕ) → r ≡ restored s → r .valid ≡ true → Back r s
-valid-back r s q v = by (isState s) refl
+pub valid-back : (r : Restored) (s slots : List ℕ) → r ≡ restored s slots → r .valid ≡ true → Back r s slots
+valid-back r s slots q v = by (goodSaved s slots) refl
   where
-    by : (t : Bool) → isState s ≡ t → Back r s
+    by : (t : Bool) → goodSaved s slots ≡ t → Back r s slots
     by true h =
-        let z = q ∙ restored-state s h in
+        let z = q ∙ restored-state s slots h in
         record { is = h; editor = ap (λ (x : Restored). x .editor) z; history = ap (λ (x : Restored). x .history) z }
-    by false h = absurd (true-is-not-false (sym v ∙ ap (λ (x : Restored). x .valid) (q ∙ restored-other s h)))
+    by false h = absurd (true-is-not-false (sym v ∙ ap (λ (x : Restored). x .valid) (q ∙ restored-other s slots h)))
 
-pub not-valid : (r : Restored) (s : List ℕ) → r ≡ restored s → r .valid ≡ false → isState s ≡ false
-not-valid r s q v = by (isState s) refl
+pub not-valid : (r : Restored) (s slots : List ℕ) → r ≡ restored s slots → r .valid ≡ false → goodSaved s slots ≡ false
+not-valid r s slots q v = by (goodSaved s slots) refl
   where
-    by : (t : Bool) → isState s ≡ t → t ≡ false
-    by true h = sym (ap (λ (x : Restored). x .valid) (q ∙ restored-state s h)) ∙ v
+    by : (t : Bool) → goodSaved s slots ≡ t → t ≡ false
+    by true h = sym (ap (λ (x : Restored). x .valid) (q ∙ restored-state s slots h)) ∙ v
     by false h = refl
+
+-- such an editor and such a history are good, and the bytes have a state's length
+pub back-good : (r : Restored) (s slots : List ℕ) → Back r s slots → goodState (r .editor) (r .history) slots ≡ true
+back-good r s slots b = same (b .editor) (b .history) ∙ good-saved-parts s slots (b .is) .1
+  where
+    same : {e f : Editor} {h k : History} → e ≡ f → h ≡ k → goodState e h slots ≡ goodState f k slots
+    same p q = cc
+
+pub back-size : (r : Restored) (s slots : List ℕ) → Back r s slots → length s ≡ stateSize
+back-size r s slots b = good-saved-parts s slots (b .is) .0 .size

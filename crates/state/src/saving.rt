@@ -12,14 +12,14 @@ use history::History;
 // How many bytes a state has.
 pub const SIZE: usize = Editor::SAVED + History::SAVED;
 
-// What bytes hold. If they are no state, editor and history are fresh.
+// What bytes and slots hold. If they are no good state, editor and history are fresh.
 pub struct Restored {
     pub valid: bool,
     pub editor: Editor,
     pub history: History,
 }
 
-// What bytes that are no state hold.
+// What is held where there is no good state.
 fn nothing() -> Restored
     ensures { λ r. ⌜ r ≡ nothing ⌝ }
 {
@@ -30,22 +30,23 @@ fn nothing() -> Restored
     }
 }
 
-// The editor and the history that bytes hold, if they are a state.
-pub fn restore(state: &[u8]) -> Restored
-    ensures { λ r. ⌜ r ≡ restored (now (state .entry)) ⌝ }
+// The editor and the history that bytes hold, if they are a good state with these slots.
+pub fn restore(state: &[u8], slots: &[u8]) -> Restored
+    ensures { λ r. ⌜ r ≡ restored (now (state .entry)) (now (slots .entry)) ⌝ }
 {
-    if state.len() != SIZE {
-        return nothing();
-    }
     let read = Editor::restored(part(state, 0, Editor::SAVED));
     let editor = read.editor;
     if !read.valid {
         return nothing();
     }
+    let held = History::restored(rest(state, Editor::SAVED), slots);
+    let history::Restored::Good(history) = held else {
+        return nothing();
+    };
     Restored {
         valid: true,
         editor,
-        history: History::saved_in(rest(state, Editor::SAVED)),
+        history,
     }
 }
 
