@@ -27,9 +27,8 @@ use Rattle.editor.specs.Turns.{turnOf}
 use Rattle.editor.specs.Answer.{stateOf, editorOf, historyOf, goodState, keyAnswer, refused, Pressing}
 use Rattle.state.specs.State.{stateSize, savedOf, editorIn, historyIn, goodSaved}
 use Rattle.state.specs.Calls.{beginAnswer, Beginning, turnIn, pressAnswer, savedAfter, SavedKey, savedAnswer, stateBy, SavedAdd}
-use Rattle.state.specs.declared.saving.Restored.{Restored}
 use Rattle.state.specs.declared.calls.Begun.the-variants.{Ready, NoRoom, BadState as NoState}
-use Rattle.state.proofs.Savings.{size-is, good-saved-parts, Fits, good-fits, Back, back-good}
+use Rattle.state.proofs.Savings.{size-is, good-saved-parts, Fits, good-fits, Read, read-good}
 
 -- a fresh session
 module _ (state slots : List ℕ) where
@@ -87,22 +86,22 @@ module _ (state slots text : List ℕ) where
   unfolding savedAnswer addAnswer
   add-other h = record { answer = sym (else-is _ _ _ h); kept = refl; held = refl }
 
-  module _ (s : Restored) (back : Back s state slots) where
-    pub history-good : good (s .history) slots ≡ true
-    history-good = good-parts (s .editor) (s .history) slots (back-good s state slots back) .1
+  module _ (e : Editor) (h : History) (read : Read e h state slots) where
+    pub history-good : good h slots ≡ true
+    history-good = good-parts e h slots (read-good e h state slots read) .1
 
-    module _ (r : History) (told : Added) (left : List ℕ) (b : Addition (s .history) slots text r told left) where
+    module _ (r : History) (told : Added) (left : List ℕ) (b : Addition h slots text r told left) where
       a : Addition (historyIn state) slots text r told left
-      a = rw (back .history) at b
+      a = rw (read .history) at b
 
       answered-so : told ≡ savedAnswer state slots text
       unfolding savedAnswer
-      answered-so = b .answer ∙ ap (λ (t : Bool). addAnswer t text) (history-good ∙ sym (back .is))
+      answered-so = b .answer ∙ ap (λ (t : Bool). addAnswer t text) (history-good ∙ sym (read .is))
 
       left-so : left ≡ slotsBy told slots (offered text (journalOf (historyIn state) slots))
       left-so = a .bytes ∙ ap (λ (x : Added). slotsBy x slots (offered text (journalOf (historyIn state) slots))) (sym (a .answer))
 
-      pub add-done : (state′ : List ℕ) → told ≡ Done → state′ ≡ savedOf (s .editor) r → SavedAdd state slots text told state′ left
+      pub add-done : (state′ : List ℕ) → told ≡ Done → state′ ≡ savedOf e r → SavedAdd state slots text told state′ left
       add-done state′ d w =
           let j : Journal = offered text (journalOf (historyIn state) slots) in
           let known : addAnswer (good (historyIn state) slots) text ≡ Done = sym (a .answer) ∙ d in
@@ -110,19 +109,19 @@ module _ (state slots text : List ℕ) where
             answer = answered-so;
             kept =
                 w
-                ∙ ap (λ (x : Editor). savedOf x r) (back .editor)
+                ∙ ap (λ (x : Editor). savedOf x r) (read .editor)
                 ∙ ap (savedOf (editorIn state)) (a .state ∙ ap (λ (x : Added). recordBy x (historyIn state) (offered text (journalOf (historyIn state) slots))) known)
                 ∙ ap (λ (x : Added). stateBy x state j) (sym d);
             held = left-so;
           }
 
-      pub add-good : goodState (s .editor) r left ≡ true
+      pub add-good : goodState e r left ≡ true
       unfolding goodState
       add-good =
-          then-is _ _ _ (good-parts (s .editor) (s .history) slots (back-good s state slots back) .0) ∙ added-good (s .history) slots text r told left history-good b
+          then-is _ _ _ (good-parts e h slots (read-good e h state slots read) .0) ∙ added-good h slots text r told left history-good b
 
-      pub add-fits : Fits (s .editor) r
-      add-fits = good-fits (s .editor) r left add-good
+      pub add-fits : Fits e r
+      add-fits = good-fits e r left add-good
 
       pub add-refused : OneOf (1 ∷ 2 ∷ 3 ∷ []) (tagOf the-type told) → SavedAdd state slots text told state left
       add-refused k = record { answer = answered-so; kept = sym (stays told k); held = left-so }
@@ -139,17 +138,17 @@ module _ (state slots prompt : List ℕ) (byte : ℕ) (line screen : List ℕ) w
   unfolding pressAnswer keyAnswer
   key-other h = record { answer = sym (else-is _ _ _ h); kept = refl; held = refl; given = refl; shown = refl }
 
-  module _ (r : Restored) (back : Back r state slots) (k : KeyAnswer) (slots′ line′ screen′ : List ℕ)
-      (b : Pressing (r .editor) (r .history) slots prompt byte line screen k slots′ line′ screen′) where
+  module _ (e : Editor) (h : History) (read : Read e h state slots) (k : KeyAnswer) (slots′ line′ screen′ : List ℕ)
+      (b : Pressing e h slots prompt byte line screen k slots′ line′ screen′) where
     p : Pressing (editorIn state) (historyIn state) slots prompt byte line screen k slots′ line′ screen′
-    p = rw (back .editor, back .history) at b
+    p = rw (read .editor, read .history) at b
 
     told-so : k .answer ≡ pressAnswer state slots prompt byte (length line) (length screen)
     unfolding pressAnswer turnIn
     told-so =
         p .answer
         ∙ ap (λ (t : Bool). keyAnswer t prompt (turnOf prompt (stateOf (editorIn state) (historyIn state) slots) byte) (length line) (length screen))
-        (good-saved-parts state slots (back .is) .1 ∙ sym (back .is))
+        (good-saved-parts state slots (read .is) .1 ∙ sym (read .is))
 
     pub key-refused : refused (k .answer) ≡ true → SavedKey state slots prompt byte line screen (k .answer) state slots′ line′ screen′
     unfolding turnIn
@@ -182,4 +181,4 @@ module _ (state slots prompt : List ℕ) (byte : ℕ) (line screen : List ℕ) w
 
     pub key-fits : Fits (k .editor) (k .history)
     key-fits =
-        good-fits (k .editor) (k .history) slots′ (stays-good (r .editor) (r .history) slots prompt byte line screen k slots′ line′ screen′ (back-good r state slots back) b)
+        good-fits (k .editor) (k .history) slots′ (stays-good e h slots prompt byte line screen k slots′ line′ screen′ (read-good e h state slots read) b)

@@ -19,7 +19,7 @@ use Rattle.history.specs.declared.saving.Restored.the-variants.{Good, Bad}
 use Rattle.history.specs.Saved.{savedSize as historySize, savedOf as historySaved, savedIn as historySavedIn, isSaved as isHistory, restored as restoredHistory, Fits as HistoryFits}
 use Rattle.history.proofs.States.{holds}
 use Rattle.history.proofs.Journals.{good-fits as history-fits}
-use Rattle.history.proofs.Saved.{saved-in as history-back, saved-back as history-bytes, length-saved as length-history, saved-is as history-is, saved-has as history-has, right-length, good-back, bad-back}
+use Rattle.history.proofs.Saved.{saved-in as history-back, saved-back as history-bytes, length-saved as length-history, saved-is as history-is, saved-has as history-has, right-length, good-back, bad-back, restored-saved as history-restored}
 use Rattle.editor.specs.declared.line.Editor.{Editor}
 use Rattle.editor.specs.declared.saving.Restored.{Restored as RestoredEditor}
 use Rattle.editor.specs.Line.{limit, padded, freshEditor, goodLine}
@@ -27,9 +27,8 @@ use Rattle.editor.specs.Turns.{State, turnOf}
 use Rattle.editor.specs.Answer.{stateOf, goodState}
 use Rattle.editor.specs.Saved.{savedSize as editorSize, savedOf as editorSaved, savedIn as editorSavedIn, hasMode, isSaved as isEditor, restored as restoredEditor, Fits as EditorFits}
 use Rattle.editor.proofs.States.{good-parts}
-use Rattle.editor.proofs.Saved.{length-saved, saved-is as editor-is, saved-has as editor-has, right-head, head-size, saved-in, saved-back, good-fits as editor-fits, restored-is, restored-not}
-use Rattle.state.specs.declared.saving.Restored.{Restored}
-use Rattle.state.specs.State.{stateSize, savedOf, editorIn, historyIn, goodSaved, nothing, restored}
+use Rattle.editor.proofs.Saved.{length-saved, saved-is as editor-is, saved-has as editor-has, right-head, head-size, saved-in, saved-back, good-fits as editor-fits, restored-is, restored-not, restored-saved as editor-restored}
+use Rattle.state.specs.State.{stateSize, savedOf, editorIn, historyIn, goodSaved}
 use Rattle.state.specs.Calls.{turnIn}
 
 -- the sizes
@@ -177,88 +176,58 @@ pub rest-history : (s rest : List ℕ) → rest ≡ drop 258 s → rest ≡ drop
 unfolding editorSize
 rest-history s rest e = e
 
--- what was read of the editor
-module _ (s : List ℕ) (r : RestoredEditor) (q : r ≡ restoredEditor (take editorSize s)) where
-  pub read-not : r .valid ≡ false → isEditor (take editorSize s) ≡ false
-  read-not v = by (isEditor (take editorSize s)) refl
+-- an editor and a history that were read of a good state
+pub record Read (e : Editor) (h : History) (s slots : List ℕ) : Type 0 where
+  pub is : goodSaved s slots ≡ true
+  pub editor : e ≡ editorIn s
+  pub history : h ≡ historyIn s
+
+-- what is read of the editor, and of the history after it
+module _ (s slots : List ℕ) (r : RestoredEditor) (q : r ≡ restoredEditor (take editorSize s)) where
+  pub no-editor : r .valid ≡ false → goodSaved s slots ≡ false
+  unfolding goodSaved
+  no-editor v = else-is _ _ _ (by (isEditor (take editorSize s)) refl)
     where
       by : (t : Bool) → isEditor (take editorSize s) ≡ t → t ≡ false
       by true h = sym (ap (λ (x : RestoredEditor). x .valid) (q ∙ restored-is (take editorSize s) h)) ∙ v
       by false h = refl
 
-  pub read-is : r .valid ≡ true → (isEditor (take editorSize s) ≡ true) × (r .editor ≡ editorIn s)
-  unfolding editorIn
-  read-is v = by (isEditor (take editorSize s)) refl
-    where
-      by : (t : Bool) → isEditor (take editorSize s) ≡ t → (isEditor (take editorSize s) ≡ true) × (r .editor ≡ editorSavedIn (take editorSize s))
-      by true h = (h, ap (λ (x : RestoredEditor). x .editor) (q ∙ restored-is (take editorSize s) h))
-      by false h = absurd (true-is-not-false (sym v ∙ ap (λ (x : RestoredEditor). x .valid) (q ∙ restored-not (take editorSize s) h)))
+  module _ (v : r .valid ≡ true) where
+    read-is : (isEditor (take editorSize s) ≡ true) × (r .editor ≡ editorIn s)
+    unfolding editorIn
+    read-is = by (isEditor (take editorSize s)) refl
+      where
+        by : (t : Bool) → isEditor (take editorSize s) ≡ t → (isEditor (take editorSize s) ≡ true) × (r .editor ≡ editorSavedIn (take editorSize s))
+        by true h = (h, ap (λ (x : RestoredEditor). x .editor) (q ∙ restored-is (take editorSize s) h))
+        by false h = absurd (true-is-not-false (sym v ∙ ap (λ (x : RestoredEditor). x .valid) (q ∙ restored-not (take editorSize s) h)))
 
--- what is restored
-restored-state : (s slots : List ℕ) → goodSaved s slots ≡ true → restored s slots ≡ record { valid = true; editor = editorIn s; history = historyIn s }
-unfolding restored
-restored-state s slots h = then-is _ _ _ h
+    as-history : goodSaved s slots ≡ isHistory (drop editorSize s) slots
+    unfolding goodSaved
+    as-history = then-is _ _ _ (read-is .0)
 
-restored-other : (s slots : List ℕ) → goodSaved s slots ≡ false → restored s slots ≡ nothing
-unfolding restored
-restored-other s slots h = else-is _ _ _ h
+    pub no-history : (told : RestoredHistory) → told ≡ restoredHistory (drop editorSize s) slots → told ≡ Bad → goodSaved s slots ≡ false
+    no-history told p b = as-history ∙ bad-back (drop editorSize s) slots (sym p ∙ b)
 
-pub restored-saved : (e : Editor) (h : History) (slots : List ℕ) → length (e .line) ≡ 255 → goodState e h slots ≡ true
-    → restored (savedOf e h) slots ≡ record { valid = true; editor = e; history = h }
-restored-saved e h slots l g =
-    restored-state (savedOf e h) slots (good-saved e h slots l ∙ g)
-    ∙ ap (λ (x : Editor). record { valid = true; editor = x; history = historyIn (savedOf e h) }) (editor-saved e h l)
-    ∙ ap (λ (x : History). record { valid = true; editor = e; history = x }) (history-saved e h l)
-
--- the ways through the code
-pub no-editor : (s slots : List ℕ) (r : Restored) → isEditor (take editorSize s) ≡ false → r ≡ nothing → r ≡ restored s slots
-unfolding goodSaved
-no-editor s slots r f p = p ∙ sym (restored-other s slots (else-is _ _ _ f))
-
-module _ (s slots rest : List ℕ) (told : RestoredHistory) (is : isEditor (take editorSize s) ≡ true) (d : rest ≡ drop editorSize s) (q : told ≡ restoredHistory rest slots) where
-  as-history : goodSaved s slots ≡ isHistory rest slots
-  unfolding goodSaved
-  as-history = then-is _ _ _ is ∙ ap (λ (x : List ℕ). isHistory x slots) (sym d)
-
-  pub no-history : (r : Restored) → told ≡ Bad → r ≡ nothing → r ≡ restored s slots
-  no-history r b p = p ∙ sym (restored-other s slots (as-history ∙ bad-back rest slots (sym q ∙ b)))
-
-  pub both-held : (e : Editor) (h : History) → e ≡ editorIn s → told ≡ Good h → record { valid = true; editor = e; history = h } ≡ restored s slots
-  unfolding historyIn
-  both-held e h p g =
-      let k = good-back rest slots h (sym q ∙ g) in
-      ap (λ (x : Editor). record { valid = true; editor = x; history = h }) p
-      ∙ ap (λ (x : History). record { valid = true; editor = editorIn s; history = x }) (k .held ∙ ap historySavedIn d)
-      ∙ sym (restored-state s slots (as-history ∙ k .is))
-
--- what is restored, by its first field
-pub record Back (r : Restored) (s slots : List ℕ) : Type 0 where
-  pub is : goodSaved s slots ≡ true
-  pub editor : r .editor ≡ editorIn s
-  pub history : r .history ≡ historyIn s
-
-pub valid-back : (r : Restored) (s slots : List ℕ) → r ≡ restored s slots → r .valid ≡ true → Back r s slots
-valid-back r s slots q v = by (goodSaved s slots) refl
-  where
-    by : (t : Bool) → goodSaved s slots ≡ t → Back r s slots
-    by true h =
-        let z = q ∙ restored-state s slots h in
-        record { is = h; editor = ap (λ (x : Restored). x .editor) z; history = ap (λ (x : Restored). x .history) z }
-    by false h = absurd (true-is-not-false (sym v ∙ ap (λ (x : Restored). x .valid) (q ∙ restored-other s slots h)))
-
-pub not-valid : (r : Restored) (s slots : List ℕ) → r ≡ restored s slots → r .valid ≡ false → goodSaved s slots ≡ false
-not-valid r s slots q v = by (goodSaved s slots) refl
-  where
-    by : (t : Bool) → goodSaved s slots ≡ t → t ≡ false
-    by true h = sym (ap (λ (x : Restored). x .valid) (q ∙ restored-state s slots h)) ∙ v
-    by false h = refl
+    pub both-read : (told : RestoredHistory) (h : History) → told ≡ restoredHistory (drop editorSize s) slots → told ≡ Good h → Read (r .editor) h s slots
+    unfolding historyIn
+    both-read told h p g =
+        let k = good-back (drop editorSize s) slots h (sym p ∙ g) in record { is = as-history ∙ k .is; editor = read-is .1; history = k .held }
 
 -- such an editor and such a history are good, and the bytes have a state's length
-pub back-good : (r : Restored) (s slots : List ℕ) → Back r s slots → goodState (r .editor) (r .history) slots ≡ true
-back-good r s slots b = same (b .editor) (b .history) ∙ good-saved-parts s slots (b .is) .1
+pub read-good : (e : Editor) (h : History) (s slots : List ℕ) → Read e h s slots → goodState e h slots ≡ true
+read-good e h s slots b = same (b .editor) (b .history) ∙ good-saved-parts s slots (b .is) .1
   where
     same : {e f : Editor} {h k : History} → e ≡ f → h ≡ k → goodState e h slots ≡ goodState f k slots
     same p q = cc
 
-pub back-size : (r : Restored) (s slots : List ℕ) → Back r s slots → length s ≡ stateSize
-back-size r s slots b = good-saved-parts s slots (b .is) .0 .size
+pub read-size : (e : Editor) (h : History) (s slots : List ℕ) → Read e h s slots → length s ≡ stateSize
+read-size e h s slots b = good-saved-parts s slots (b .is) .0 .size
+
+-- what was saved of a good state is restored
+pub restored-saved : (e : Editor) (h : History) (slots : List ℕ) → length (e .line) ≡ 255 → goodState e h slots ≡ true
+    → (restoredEditor (take editorSize (savedOf e h)) ≡ record { valid = true; editor = e }) × (restoredHistory (drop editorSize (savedOf e h)) slots ≡ Good h)
+restored-saved e h slots l g =
+    let p = good-parts e h slots g in (
+      ap restoredEditor (front-saved e h l) ∙ editor-restored e l (p .0),
+      ap (λ (x : List ℕ). restoredHistory x slots) (rest-saved e h l) ∙ history-restored h slots (p .1),
+    )

@@ -1,15 +1,12 @@
 -- A saved state: what the editor saves of itself, then what the history does. 260 bytes in all, good or bad together with the slots.
 use Prim.Native.Nat.{ℕ, _+_}
-use mathlib.Core.Bool.{Bool, true, false, cond}
+use mathlib.Core.Bool.{Bool, false, cond}
 use mathlib.Core.List.{List, _++_}
 use lib.ListN.{take, drop}
 use Rattle.history.specs.declared.stepping.History.{History}
-use Rattle.history.specs.Journal.{noEntries, recordOf}
 use Rattle.history.specs.Saved.{savedSize as historySize, savedOf as historySaved, savedIn as historySavedIn, isSaved as isHistory}
 use Rattle.editor.specs.declared.line.Editor.{Editor}
-use Rattle.editor.specs.Line.{freshEditor}
 use Rattle.editor.specs.Saved.{savedSize as editorSize, savedOf as editorSaved, savedIn as editorSavedIn, isSaved as isEditor}
-use Rattle.state.specs.declared.saving.Restored.{Restored}
 
 -- how many bytes that is
 unfoldable pub stateSize : ℕ
@@ -29,10 +26,3 @@ historyIn state = historySavedIn (drop editorSize state)
 -- bytes and slots that are a good state: a good editor's bytes, then those of a history that is good with the slots
 unfoldable pub goodSaved : List ℕ → List ℕ → Bool
 goodSaved state slots = cond (isEditor (take editorSize state)) (isHistory (drop editorSize state) slots) false
-
--- what is restored: from any others, a fresh editor and history
-abbrev pub nothing : Restored
-nothing = record { valid = false; editor = freshEditor; history = recordOf noEntries }
-
-unfoldable pub restored : List ℕ → List ℕ → Restored
-restored state slots = cond (goodSaved state slots) (record { valid = true; editor = editorIn state; history = historyIn state }) nothing
