@@ -1,5 +1,5 @@
 -- Laws of the bytes that are saved of an editor: what was saved is restored, nothing in the bytes is lost, and what is restored is good.
-use Prim.Native.Nat.{ℕ, zero, suc, _+_, _-_, _≤_}
+use Prim.Native.Nat.{ℕ, _+_, _-_, _≤_}
 use mathlib.Core.Path.{_≡_, refl, sym, ap, _∙_}
 use mathlib.Core.Bool.{Bool, true, false}
 use mathlib.Core.List.{List, [], _∷_, _++_, append-nil}
@@ -16,7 +16,7 @@ use Rattle.history.proofs.States.{holds}
 use Rattle.keys.specs.declared.meaning.Mode.{Mode}
 use Rattle.keys.specs.declared.meaning.Mode.the-variants.{Typing}
 use Rattle.editor.specs.declared.line.Editor.{Editor}
-use Rattle.editor.specs.Line.{limit, goodLine, padded, holding, freshEditor}
+use Rattle.editor.specs.Line.{limit, goodLine, padded, holding}
 use Rattle.editor.specs.declared.saving.Restored.{Restored}
 use Rattle.editor.specs.Saved.{savedSize, savedOf, savedIn, hasMode, isSaved, nothing, restored, Fits}
 use Rattle.keys.specs.Modes.{modeNumber, modeOf}

@@ -1,7 +1,6 @@
 -- An editor's part of a saved state: 258 bytes, the mode, the line's length, the cursor, then the 255 bytes of the line. What they hold counts
 -- where it is good.
 use Prim.Native.Nat.{ℕ, _≤_}
-use mathlib.Core.Path.{_≡_}
 use mathlib.Core.Bool.{Bool, true, false, cond}
 use mathlib.Core.List.{List, _∷_}
 use lib.Dec.{leb, eqb}

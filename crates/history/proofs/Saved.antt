@@ -1,5 +1,5 @@
 -- Laws of the bytes that are saved of a history: what was saved is read back, nothing in the bytes is lost, and what is restored is good.
-use Prim.Native.Nat.{ℕ, _≤_}
+use Prim.Native.Nat.{ℕ}
 use mathlib.Core.Path.{_≡_, refl, sym, ap, _∙_}
 use mathlib.Core.Bool.{Bool, true, false}
 use mathlib.Core.List.{List, [], _∷_}
@@ -11,7 +11,6 @@ use Rattle.buffer.proofs.Choices.{then-is, else-is}
 use Rattle.history.specs.Journal.{good}
 use Rattle.history.specs.Saved.{savedSize, savedOf, savedIn, isSaved, restored}
 use Rattle.history.specs.declared.stepping.History.{History}
-use Rattle.history.specs.declared.saving.Restored.{Restored}
 use Rattle.history.specs.declared.saving.Restored.the-variants.{Good, Bad}
 use Rattle.history.proofs.States.{holds}
 

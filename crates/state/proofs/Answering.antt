@@ -9,7 +9,7 @@ use denote.Enum.Declared.{tagOf}
 use lib.Dec.{ltb}
 use lib.ListN.{length}
 use borrow.Author.Tests.{lt-ltb, le-ltb}
-use Rattle.buffer.proofs.Choices.{then-is, else-is, true-is-not-false}
+use Rattle.buffer.proofs.Choices.{then-is, else-is}
 use Rattle.history.specs.Journal.{Journal, noEntries, offered, recordOf, journalOf, good}
 use Rattle.history.specs.Answer.{Emptied, addAnswer, recordBy, slotsBy, Addition}
 use Rattle.history.specs.declared.stepping.History.{History}

@@ -1,8 +1,8 @@
 -- Laws of saved states: what was saved is restored, nothing in the bytes is lost, and how the code writes them.
-use Prim.Native.Nat.{ℕ, zero, suc, _+_, _≤_}
+use Prim.Native.Nat.{ℕ, _+_, _≤_}
 use mathlib.Core.Path.{_≡_, refl, sym, ap, _∙_}
 use mathlib.Core.Bool.{Bool, true, false, cond}
-use mathlib.Core.List.{List, [], _∷_, _++_, append-nil}
+use mathlib.Core.List.{List, [], _++_, append-nil}
 use native.Mathlib.Omega.{arith}
 use lib.ListN.{length, take, drop, length-append, length-drop, take-append-drop}
 use lib.Seq.{take-at, drop-at}
@@ -48,10 +48,6 @@ front-saved e h l = take-at (editorSaved e) (historySaved h) editorSize (editor-
 rest-saved : (e : Editor) (h : History) → length (e .line) ≡ 255 → drop editorSize (savedOf e h) ≡ historySaved h
 unfolding savedOf
 rest-saved e h l = drop-at (editorSaved e) (historySaved h) editorSize (editor-part e l)
-
-whole-saved : (e : Editor) (h : History) → length (e .line) ≡ 255 → length (savedOf e h) ≡ stateSize
-unfolding savedOf stateSize
-whole-saved e h l = length-append (editorSaved e) (historySaved h) ∙ ap (λ (n : ℕ). n + length (historySaved h)) (editor-part e l) ∙ ap (λ (n : ℕ). editorSize + n) (length-history h)
 
 editor-saved : (e : Editor) (h : History) → length (e .line) ≡ 255 → editorIn (savedOf e h) ≡ e
 unfolding editorIn
