@@ -18,7 +18,7 @@ use Rattle.keys.specs.declared.meaning.Mode.{Mode}
 use Rattle.keys.specs.declared.meaning.Mode.the-variants.{Typing}
 use Rattle.editor.specs.declared.line.Editor.{Editor}
 use Rattle.editor.specs.declared.drawing.KeyAnswer.{KeyAnswer}
-use Rattle.editor.specs.Line.{limit, padded, holding, goodLine, inserted, erased, content}
+use Rattle.editor.specs.Line.{limit, padded, holding, freshEditor, goodLine, inserted, erased, content}
 use Rattle.keys.specs.declared.meaning.Action.{Action}
 use Rattle.keys.specs.declared.meaning.Action.the-variants.{Nothing, Enter, Erase, Insert, Up, Down, Right, Left}
 use Rattle.keys.specs.declared.meaning.Meaning.{Meaning}
@@ -62,6 +62,10 @@ held-good line cursor mode h k =
     then-is _ _ _ (le-leb _ _ (held-size line cursor mode h))
     ∙ then-is _ _ _ (le-leb _ _ (held-within line cursor mode k))
     ∙ is-same _ _ (ap padded (line-held line cursor mode) ∙ held-bytes line cursor mode)
+
+pub fresh-line : goodLine freshEditor ≡ true
+unfolding holding
+fresh-line = held-good [] 0 Typing (omega arith) (omega arith)
 
 pub fine-good : (s : State) → Fine s → goodState (editorOf s) (historyOf s) (slotsOf s) ≡ true
 unfolding goodState editorOf

@@ -11,8 +11,9 @@ use Rattle.editor.specs.declared.line.Editor.{Editor}
 use Rattle.editor.specs.declared.drawing.KeyAnswer.{KeyAnswer}
 use Rattle.editor.specs.declared.drawing.Pressed.{Pressed}
 use Rattle.editor.specs.declared.drawing.Pressed.the-variants.{Shown, NoRoom}
-use Rattle.editor.specs.Turns.{Turn}
-use Rattle.editor.specs.Answer.{taken, editorOf, historyOf, slotsOf}
+use Rattle.keys.specs.declared.meaning.Action.{Action}
+use Rattle.editor.specs.Turns.{Turn, enter, turnBy, turnOf}
+use Rattle.editor.specs.Answer.{stateOf, taken, editorOf, historyOf, slotsOf}
 
 -- bytes are shown and the state is another, or there is no room and it stays
 unfoldable pub attempt : {A : Type 0} → List ℕ → ℕ → A → A → A
@@ -44,3 +45,13 @@ pub record Does (e : Editor) (h : History) (t : Turn) (slots line screen : List 
   pub acts : Acts e h t screen k screen′
   pub held : slots′ ≡ attempt (t .screen) (length screen) slots (slotsOf (t .after))
   pub given : line′ ≡ attempt (t .screen) (length screen) line (over (t .submitted) line)
+
+-- the turn of an action, of a key and of Enter, in the state that editor, record and slots hold
+abbrev pub DoesAction : Action → Editor → History → (slots prompt line screen : List ℕ) → KeyAnswer → (slots′ line′ screen′ : List ℕ) → Type 0
+DoesAction action e h slots prompt line screen = Does e h (turnBy prompt (stateOf e h slots) action) slots line screen
+
+abbrev pub DoesKey : ℕ → Editor → History → (slots prompt line screen : List ℕ) → KeyAnswer → (slots′ line′ screen′ : List ℕ) → Type 0
+DoesKey byte e h slots prompt line screen = Does e h (turnOf prompt (stateOf e h slots) byte) slots line screen
+
+abbrev pub DoesEnter : Editor → History → (slots line screen : List ℕ) → KeyAnswer → (slots′ line′ screen′ : List ℕ) → Type 0
+DoesEnter e h slots line screen = Does e h (enter (stateOf e h slots)) slots line screen

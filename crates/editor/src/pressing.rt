@@ -1,12 +1,11 @@
-// `key`: the state, the prompt and the line buffer are tested; then the byte is given its meaning, and that is done.
+// `key`: the state is tested, then (`key_tested`) the prompt and the line buffer; then the byte is given its meaning, and that is done.
 ghost use Prim.Native.Nat.{_≤_};
 ghost use mathlib.Core.Path.{_≡_};
 ghost use mathlib.Core.Bool.{true};
 ghost use lib.ListN.{length};
 ghost use Rattle.editor.specs.Line.{limit};
-ghost use Rattle.editor.specs.Turns.{turnBy, turnOf};
-ghost use Rattle.editor.specs.Answer.{stateOf, goodState, goodPrompt, Pressing};
-ghost use Rattle.editor.specs.Inner.{Does};
+ghost use Rattle.editor.specs.Answer.{goodState, goodPrompt, Pressing};
+ghost use Rattle.editor.specs.Inner.{DoesAction, DoesKey};
 use super::drawing::KeyAnswer;
 use super::drawing::Pressed;
 use super::line::Editor;
@@ -49,7 +48,7 @@ impl Editor {
     ) -> KeyAnswer
         requires { ⌜ goodState self history (now slots) ≡ true ⌝ }
         requires { ⌜ (length (now prompt) ≤ 128) × (limit ≤ length (now line)) ⌝ }
-        ensures { λ r. ⌜ Does self history (turnBy (now (prompt .entry)) (stateOf self history (now (slots .entry))) action) (now (slots .entry)) (now (line .entry)) (now (screen .entry)) r (now (slots .exit)) (now (line .exit)) (now (screen .exit)) ⌝ }
+        ensures { λ r. ⌜ DoesAction action self history (now (slots .entry)) (now (prompt .entry)) (now (line .entry)) (now (screen .entry)) r (now (slots .exit)) (now (line .exit)) (now (screen .exit)) ⌝ }
     {
         match action {
             Action::Nothing => KeyAnswer {
@@ -79,7 +78,7 @@ impl Editor {
     ) -> KeyAnswer
         requires { ⌜ goodState self history (now slots) ≡ true ⌝ }
         requires { ⌜ (length (now prompt) ≤ 128) × (limit ≤ length (now line)) ⌝ }
-        ensures { λ r. ⌜ Does self history (turnOf (now (prompt .entry)) (stateOf self history (now (slots .entry))) byte) (now (slots .entry)) (now (line .entry)) (now (screen .entry)) r (now (slots .exit)) (now (line .exit)) (now (screen .exit)) ⌝ }
+        ensures { λ r. ⌜ DoesKey byte self history (now (slots .entry)) (now (prompt .entry)) (now (line .entry)) (now (screen .entry)) r (now (slots .exit)) (now (line .exit)) (now (screen .exit)) ⌝ }
     {
         let before = self;
         let mode = self.mode;
@@ -97,6 +96,36 @@ impl Editor {
             };
         }
         done
+    }
+
+    // One key, in a state that was tested and is good, with any buffers.
+    pub fn key_tested(
+        mut self,
+        history: History,
+        slots: &mut [u8],
+        prompt: &[u8],
+        byte: u8,
+        line: &mut [u8],
+        screen: &mut [u8],
+    ) -> KeyAnswer
+        requires { ⌜ goodState self history (now slots) ≡ true ⌝ }
+        ensures { λ r. ⌜ Pressing self history (now (slots .entry)) (now (prompt .entry)) byte (now (line .entry)) (now (screen .entry)) r (now (slots .exit)) (now (line .exit)) (now (screen .exit)) ⌝ }
+    {
+        if !is_good_prompt(prompt) {
+            return KeyAnswer {
+                editor: self,
+                history,
+                answer: Pressed::BadPrompt(prompt.len()),
+            };
+        }
+        if line.len() < Editor::LIMIT {
+            return KeyAnswer {
+                editor: self,
+                history,
+                answer: Pressed::NoRoom(Editor::LIMIT),
+            };
+        }
+        self.press(history, slots, prompt, byte, line, screen)
     }
 
     // One key, in any state and with any buffers.
@@ -118,20 +147,6 @@ impl Editor {
                 answer: Pressed::BadState,
             };
         }
-        if !is_good_prompt(prompt) {
-            return KeyAnswer {
-                editor: self,
-                history,
-                answer: Pressed::BadPrompt(prompt.len()),
-            };
-        }
-        if line.len() < Editor::LIMIT {
-            return KeyAnswer {
-                editor: self,
-                history,
-                answer: Pressed::NoRoom(Editor::LIMIT),
-            };
-        }
-        self.press(history, slots, prompt, byte, line, screen)
+        self.key_tested(history, slots, prompt, byte, line, screen)
     }
 }

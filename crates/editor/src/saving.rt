@@ -1,9 +1,9 @@
-// What is saved of an editor between two calls: the mode, the line's length, the cursor, and the bytes of the line.
+// What is saved of an editor between two calls: the mode, the line's length, the cursor, and the bytes of the line; and an editor read back, where it is good.
 ghost use Prim.Native.Nat.{_+_, _≤_};
 ghost use mathlib.Core.Path.{_≡_};
 ghost use lib.ListN.{length};
 ghost use Rattle.buffer.specs.Write.{Pushed};
-ghost use Rattle.editor.specs.Saved.{savedSize, savedOf, isSaved, savedIn, restored, Fits};
+ghost use Rattle.editor.specs.Saved.{savedSize, savedOf, hasMode, savedIn, nothing, restored, Fits};
 use super::line::Editor;
 use buffer::byte_at;
 use buffer::push;
@@ -11,20 +11,30 @@ use buffer::rest;
 use keys::mode_number;
 use keys::mode_of;
 
-// What bytes hold: an editor, or none; then it is the fresh one.
+// What bytes hold: a good editor, or none; then it is the fresh one.
 pub struct Restored {
     pub valid: bool,
     pub editor: Editor,
 }
 
 // Whether bytes have the length and a mode of an editor.
-fn is_saved(bytes: &[u8]) -> bool
-    ensures { λ r. ⌜ r ≡ isSaved (now (bytes .entry)) ⌝ }
+fn has_mode(bytes: &[u8]) -> bool
+    ensures { λ r. ⌜ r ≡ hasMode (now (bytes .entry)) ⌝ }
 {
     if bytes.len() != Editor::SAVED {
         return false;
     }
     bytes[0] <= 2
+}
+
+// What bytes that are no editor hold.
+fn nothing() -> Restored
+    ensures { λ r. ⌜ r ≡ nothing ⌝ }
+{
+    Restored {
+        valid: false,
+        editor: Editor::fresh(),
+    }
 }
 
 impl Editor {
@@ -58,19 +68,20 @@ impl Editor {
         }
     }
 
-    // The editor that bytes hold, if their length and their mode are those of one.
+    // The editor that bytes hold, if they have the length and a mode of one and it is good.
     pub fn restored(bytes: &[u8]) -> Restored
         ensures { λ r. ⌜ r ≡ restored (now (bytes .entry)) ⌝ }
     {
-        if is_saved(bytes) {
-            return Restored {
-                valid: true,
-                editor: Editor::saved_in(bytes),
-            };
+        if !has_mode(bytes) {
+            return nothing();
+        }
+        let editor = Editor::saved_in(bytes);
+        if !editor.is_good() {
+            return nothing();
         }
         Restored {
-            valid: false,
-            editor: Editor::fresh(),
+            valid: true,
+            editor,
         }
     }
 }

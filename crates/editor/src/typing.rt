@@ -4,9 +4,9 @@ ghost use mathlib.Core.Path.{_≡_};
 ghost use mathlib.Core.Bool.{true};
 ghost use lib.ListN.{length};
 ghost use Rattle.editor.specs.Line.{limit, goodLine};
-ghost use Rattle.editor.specs.Turns.{enter, erase, insert};
+ghost use Rattle.editor.specs.Turns.{erase, insert};
 ghost use Rattle.editor.specs.Answer.{stateOf, goodState};
-ghost use Rattle.editor.specs.Inner.{ActsFor, Does};
+ghost use Rattle.editor.specs.Inner.{ActsFor, DoesEnter};
 use super::drawing::KeyAnswer;
 use super::drawing::Pressed;
 use super::drawing::redraw;
@@ -28,7 +28,7 @@ impl Editor {
     ) -> KeyAnswer
         requires { ⌜ goodState self history (now slots) ≡ true ⌝ }
         requires { ⌜ limit ≤ length (now line) ⌝ }
-        ensures { λ r. ⌜ Does self history (enter (stateOf self history (now (slots .entry)))) (now (slots .entry)) (now (line .entry)) (now (screen .entry)) r (now (slots .exit)) (now (line .exit)) (now (screen .exit)) ⌝ }
+        ensures { λ r. ⌜ DoesEnter self history (now (slots .entry)) (now (line .entry)) (now (screen .entry)) r (now (slots .exit)) (now (line .exit)) (now (screen .exit)) ⌝ }
     {
         if screen.len() == 0 {
             return KeyAnswer {

@@ -20,25 +20,25 @@ formed-whole text n p q = eq-eqb _ _ (sym p ∙ q)
 
 module _ (h : History) (slots text : List ℕ) where
   -- the tests in their order
-  pub answer-bad : good h slots ≡ false → addAnswer h slots text ≡ BadState
+  pub answer-bad : good h slots ≡ false → addAnswer (good h slots) text ≡ BadState
   unfolding addAnswer
   answer-bad e = else-is _ _ _ e
 
   module _ (is : good h slots ≡ true) where
-    pub answer-long : 255 < length text → addAnswer h slots text ≡ TooLong (length text)
+    pub answer-long : 255 < length text → addAnswer (good h slots) text ≡ TooLong (length text)
     unfolding addAnswer
     answer-long l = then-is _ _ _ is ∙ then-is _ _ _ (lt-ltb _ _ l)
 
-    pub answer-ill : length text ≤ 255 → (wellFormedLength text ≡ length text → ⊥) → addAnswer h slots text ≡ IllFormed (wellFormedLength text)
+    pub answer-ill : length text ≤ 255 → (wellFormedLength text ≡ length text → ⊥) → addAnswer (good h slots) text ≡ IllFormed (wellFormedLength text)
     unfolding addAnswer wellFormed
     answer-ill l n = then-is _ _ _ is ∙ else-is _ _ _ (le-ltb 255 _ l) ∙ else-is _ _ _ (ne-eqb _ _ n)
 
-    pub answer-done : length text ≤ 255 → wellFormedLength text ≡ length text → addAnswer h slots text ≡ Done
+    pub answer-done : length text ≤ 255 → wellFormedLength text ≡ length text → addAnswer (good h slots) text ≡ Done
     unfolding addAnswer wellFormed
     answer-done l e = then-is _ _ _ is ∙ else-is _ _ _ (le-ltb 255 _ l) ∙ then-is _ _ _ (eq-eqb _ _ e)
 
   -- the contract, once the answer is known
-  pub addition : (told : Added) (r : History) (left : List ℕ) → addAnswer h slots text ≡ told
+  pub addition : (told : Added) (r : History) (left : List ℕ) → addAnswer (good h slots) text ≡ told
       → r ≡ recordBy told h (offered text (journalOf h slots)) → left ≡ slotsBy told slots (offered text (journalOf h slots)) → Addition h slots text r told left
   addition told r left e s b =
       record {

@@ -20,7 +20,7 @@ pub record Taken (h : History) (slots text : List ℕ) : Type 0 where
   pub short : length text ≤ 255
   pub formed : wellFormed text ≡ true
 
-pub done-has : (h : History) (slots text : List ℕ) → addAnswer h slots text ≡ Done → Taken h slots text
+pub done-has : (h : History) (slots text : List ℕ) → addAnswer (good h slots) text ≡ Done → Taken h slots text
 unfolding addAnswer
 done-has h slots text d = by (good h slots) (ltb 255 (length text)) (wellFormed text) refl refl refl d
   where

@@ -29,9 +29,9 @@ offered-good h slots text r left t o = holds-good (offered text (journalOf h slo
 -- a text that is added, whatever the answer
 pub added-good : (h : History) (slots text : List ℕ) (r : History) (told : Added) (left : List ℕ) → good h slots ≡ true
     → Addition h slots text r told left → good r left ≡ true
-added-good h slots text r told left g a = by (addAnswer h slots text) refl (a .state) (a .bytes)
+added-good h slots text r told left g a = by (addAnswer (good h slots) text) refl (a .state) (a .bytes)
   where
-    by : (x : Added) → addAnswer h slots text ≡ x → r ≡ recordBy x h (offered text (journalOf h slots)) → left ≡ slotsBy x slots (offered text (journalOf h slots))
+    by : (x : Added) → addAnswer (good h slots) text ≡ x → r ≡ recordBy x h (offered text (journalOf h slots)) → left ≡ slotsBy x slots (offered text (journalOf h slots))
         → good r left ≡ true
     by Done d p q = offered-good h slots text r left (done-has h slots text d) (record { state = p; bytes = q })
     by BadState d p q = same-good p q ∙ g

@@ -11,7 +11,13 @@ use Rattle.buffer.proofs.Lending.{copy-step, copy-end, length-overAt, overAt-fr
 use Rattle.buffer.proofs.Writing.{pushed-both}
 use Rattle.buffer.specs.Write.{over, overAt, Pushed}
 use Rattle.buffer.specs.Lend.{zeros}
-use Rattle.history.specs.Slots.{slot, run, layout, entry, entriesOf}
+use Rattle.history.specs.Entries.{mostEntries}
+use Rattle.history.specs.Slots.{slotSize, slotsSize, slot, run, layout, entry, entriesOf}
+
+-- the buffer is a slot for each entry that a history may have
+pub slots-size : slotsSize ≡ mostEntries * slotSize
+unfolding mostEntries
+slots-size = refl
 
 -- a slot has 256 bytes, if its text has at most 255
 pub length-slot : (e : List ℕ) → length e ≤ 255 → length (slot e) ≡ 256

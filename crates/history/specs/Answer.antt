@@ -1,7 +1,7 @@
 -- What adding to a history answers and leaves (STANDARD 10: 12, 13, 3, in that order).
 use Prim.Native.Nat.{ℕ}
 use mathlib.Core.Path.{_≡_}
-use mathlib.Core.Bool.{cond}
+use mathlib.Core.Bool.{Bool, cond}
 use mathlib.Core.List.{List}
 use lib.Dec.{ltb}
 use lib.ListN.{length}
@@ -24,9 +24,10 @@ Emptied r left = Holds noEntries r left
 abbrev pub Offered : History → List ℕ → List ℕ → History → List ℕ → Type 0
 Offered h slots text r left = Holds (offered text (journalOf h slots)) r left
 
-unfoldable pub addAnswer : History → List ℕ → List ℕ → Added
-addAnswer h slots text =
-    cond (good h slots)
+-- the answer for a text, given whether the state is good
+unfoldable pub addAnswer : Bool → List ℕ → Added
+addAnswer is text =
+    cond is
     (cond (ltb 255 (length text)) (TooLong (length text))
     (cond (wellFormed text) Done
     (IllFormed (wellFormedLength text))))
@@ -46,9 +47,9 @@ slotsBy (TooLong n) slots j = slots
 slotsBy (IllFormed n) slots j = slots
 
 pub record Addition (h : History) (slots text : List ℕ) (r : History) (told : Added) (left : List ℕ) : Type 0 where
-  pub answer : told ≡ addAnswer h slots text
-  pub state : r ≡ recordBy (addAnswer h slots text) h (offered text (journalOf h slots))
-  pub bytes : left ≡ slotsBy (addAnswer h slots text) slots (offered text (journalOf h slots))
+  pub answer : told ≡ addAnswer (good h slots) text
+  pub state : r ≡ recordBy (addAnswer (good h slots) text) h (offered text (journalOf h slots))
+  pub bytes : left ≡ slotsBy (addAnswer (good h slots) text) slots (offered text (journalOf h slots))
 
 -- the refusal's number (STANDARD 10.1; 0: none), and the value that goes with it
 abbrev pub number : Added → ℕ

@@ -8,7 +8,7 @@ use Rattle.buffer.specs.Compare.{sameBytes}
 use Rattle.text.specs.Decoding.{wellFormed}
 use Rattle.text.specs.Apart.{blank}
 
--- how many entries a history has at most
+-- how many entries a history has at most: `History::MOST`
 unfoldable pub mostEntries : ℕ
 mostEntries = 100
 

@@ -7,7 +7,7 @@ use lib.Dec.{leb, eqb}
 use lib.ListN.{length, getD}
 use Rattle.buffer.specs.Compare.{sameBytes}
 use Rattle.history.specs.Entries.{mostEntries, added, sound}
-use Rattle.history.specs.Slots.{layout, entriesOf}
+use Rattle.history.specs.Slots.{slotsSize, layout, entriesOf}
 use Rattle.history.specs.declared.stepping.History.{History}
 
 pub record Journal : Type 0 where
@@ -47,7 +47,7 @@ journalOf h slots = record { entries = entriesOf (h .count) slots; place = h .pl
 -- blank or ill-formed, two neighbours are equal, or an unused byte is not zero.
 unfoldable pub good : History → List ℕ → Bool
 good h slots =
-    cond (eqb (length slots) 25600)
+    cond (eqb (length slots) slotsSize)
     (cond (leb (h .count) mostEntries)
     (cond (leb (h .place) (h .count))
     (cond (sound [] (entriesOf (h .count) slots)) (sameBytes (slotsOf (journalOf h slots)) slots) false)

@@ -1,8 +1,13 @@
--- A history's part of a saved state: two bytes, the count and the place.
+-- A history's part of a saved state: two bytes, the count and the place. What they hold counts where it is good with its slots.
 use Prim.Native.Nat.{ℕ, _≤_}
+use mathlib.Core.Bool.{Bool, false, cond}
 use mathlib.Core.List.{List, [], _∷_}
-use lib.ListN.{getD}
+use lib.Dec.{eqb}
+use lib.ListN.{length, getD}
+use Rattle.history.specs.Journal.{good}
 use Rattle.history.specs.declared.stepping.History.{History}
+use Rattle.history.specs.declared.saving.Restored.{Restored}
+use Rattle.history.specs.declared.saving.Restored.the-variants.{Good, Bad}
 
 -- how many bytes that is: `History::SAVED`
 unfoldable pub savedSize : ℕ
@@ -14,6 +19,14 @@ savedOf h = h .count ∷ h .place ∷ []
 -- the record that bytes hold
 unfoldable pub savedIn : List ℕ → History
 savedIn bytes = record { count = getD bytes 0 0; place = getD bytes 1 0 }
+
+-- bytes that are a history beside these slots: they have its length, and what they hold is good with the slots
+unfoldable pub isSaved : List ℕ → List ℕ → Bool
+isSaved bytes slots = cond (eqb (length bytes) savedSize) (good (savedIn bytes) slots) false
+
+-- what is restored: the record, or none
+unfoldable pub restored : List ℕ → List ℕ → Restored
+restored bytes slots = cond (isSaved bytes slots) (Good (savedIn bytes)) Bad
 
 -- numbers that fit their bytes, as those of a good state do
 pub record Fits (h : History) : Type 0 where

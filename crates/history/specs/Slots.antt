@@ -4,6 +4,14 @@ use mathlib.Core.List.{List, [], _∷_, _++_}
 use lib.ListN.{length, take, drop, getD}
 use Rattle.buffer.specs.Lend.{zeros}
 
+-- how many bytes a slot has: `History::SLOT`
+abbrev pub slotSize : ℕ
+slotSize = 256
+
+-- and the buffer, which is a slot for each entry that a history may have: `History::SLOTS`
+abbrev pub slotsSize : ℕ
+slotsSize = 25600
+
 -- one entry in its slot
 unfoldable pub slot : List ℕ → List ℕ
 slot e = length e ∷ (e ++ zeros (255 - length e))
@@ -14,7 +22,7 @@ run (e ∷ es) = slot e ++ run es
 
 -- the buffer that holds entries
 unfoldable pub layout : List (List ℕ) → List ℕ
-layout es = run es ++ zeros (25600 - 256 * length es)
+layout es = run es ++ zeros (slotsSize - slotSize * length es)
 
 -- the entry in the slot that bytes begin with, and the entries of the first n slots
 unfoldable pub entry : List ℕ → List ℕ
@@ -22,4 +30,4 @@ entry bytes = take (getD bytes 0 0) (drop 1 bytes)
 
 unfoldable pub entriesOf : ℕ → List ℕ → List (List ℕ)
 entriesOf zero bytes = []
-entriesOf (suc n) bytes = entry bytes ∷ entriesOf n (drop 256 bytes)
+entriesOf (suc n) bytes = entry bytes ∷ entriesOf n (drop slotSize bytes)

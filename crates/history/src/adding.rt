@@ -59,8 +59,8 @@ pub fn offer(history: History, slots: &mut [u8], text: &[u8]) -> History
             place: count,
         };
     }
-    if count < 100 {
-        store(text, slots, 256 * count);
+    if count < History::MOST {
+        store(text, slots, History::SLOT * count);
         let more = count + 1;
         return History {
             count: more,
@@ -68,23 +68,18 @@ pub fn offer(history: History, slots: &mut [u8], text: &[u8]) -> History
         };
     }
     drop_oldest(slots);
-    store(text, slots, 25344);
+    store(text, slots, History::LAST);
     History {
         count,
         place: count,
     }
 }
 
-// Adds a text to a history, as the Rust does: every add sets the place to the count.
-pub fn add_command(history: History, slots: &mut [u8], text: &[u8]) -> Adding
+// Adds a text to a history that was tested and is good.
+pub fn add_tested(history: History, slots: &mut [u8], text: &[u8]) -> Adding
+    requires { ⌜ good history (now slots) ≡ true ⌝ }
     ensures { λ r. ⌜ Addition history (now (slots .entry)) (now (text .entry)) (r .history) (r .answer) (now (slots .exit)) ⌝ }
 {
-    if !is_good(history, slots) {
-        return Adding {
-            history,
-            answer: Added::BadState,
-        };
-    }
     if 255 < text.len() {
         return Adding {
             history,
@@ -102,4 +97,17 @@ pub fn add_command(history: History, slots: &mut [u8], text: &[u8]) -> Adding
         history: offer(history, slots, text),
         answer: Added::Done,
     }
+}
+
+// Adds a text to a history, as the Rust does: every add sets the place to the count.
+pub fn add_command(history: History, slots: &mut [u8], text: &[u8]) -> Adding
+    ensures { λ r. ⌜ Addition history (now (slots .entry)) (now (text .entry)) (r .history) (r .answer) (now (slots .exit)) ⌝ }
+{
+    if !is_good(history, slots) {
+        return Adding {
+            history,
+            answer: Added::BadState,
+        };
+    }
+    add_tested(history, slots, text)
 }

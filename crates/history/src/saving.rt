@@ -1,12 +1,21 @@
-// What is saved of a history between two calls: its numbers, a byte each.
+// What is saved of a history between two calls: its numbers, a byte each; and a history read back, where it is good.
 ghost use Prim.Native.Nat.{_+_, _≤_};
 ghost use mathlib.Core.Path.{_≡_};
 ghost use lib.ListN.{length};
 ghost use Rattle.buffer.specs.Write.{Pushed};
-ghost use Rattle.history.specs.Saved.{savedSize, savedOf, savedIn, Fits};
+ghost use Rattle.history.specs.Saved.{savedSize, savedOf, restored, Fits};
 use super::stepping::History;
+use super::testing::is_good;
 use buffer::byte_at;
 use buffer::push;
+
+// What bytes and slots hold.
+pub enum Restored {
+    // A good history: its record.
+    Good(History),
+    // None.
+    Bad,
+}
 
 impl History {
     // How many bytes are saved.
@@ -21,13 +30,20 @@ impl History {
         push(&bytes, out, at)
     }
 
-    // The record that bytes hold, whatever they say.
-    pub fn saved_in(bytes: &[u8]) -> History
-        ensures { λ r. ⌜ r ≡ savedIn (now (bytes .entry)) ⌝ }
+    // The record that bytes hold, if they have its length and it is good with these slots.
+    pub fn restored(bytes: &[u8], slots: &[u8]) -> Restored
+        ensures { λ r. ⌜ r ≡ restored (now (bytes .entry)) (now (slots .entry)) ⌝ }
     {
-        History {
+        if bytes.len() != History::SAVED {
+            return Restored::Bad;
+        }
+        let history = History {
             count: byte_at(bytes, 0),
             place: byte_at(bytes, 1),
+        };
+        if !is_good(history, slots) {
+            return Restored::Bad;
         }
+        Restored::Good(history)
     }
 }

@@ -1,6 +1,7 @@
 // A history by value: how many entries it has and the place among them, the steps that the arrow keys take, and the entry of a number.
 ghost use lib.ListN.{length};
 ghost use mathlib.Core.Path.{_≡_};
+ghost use Rattle.history.specs.Slots.{slotsSize};
 ghost use Rattle.history.specs.Steps.{back, onward};
 ghost use Rattle.history.specs.Journal.{noEntries, entryOf, recordOf, journalOf};
 ghost use Rattle.history.specs.Answer.{Emptied};
@@ -27,6 +28,18 @@ pub struct Step {
 }
 
 impl History {
+    // How many entries there are at most.
+    pub const MOST: usize = 100;
+
+    // How many bytes the slot of an entry has.
+    pub const SLOT: usize = 256;
+
+    // How many bytes all slots have.
+    pub const SLOTS: usize = History::MOST * History::SLOT;
+
+    // Where the last slot begins.
+    pub(crate) const LAST: usize = History::SLOTS - History::SLOT;
+
     // No entry.
     pub fn fresh() -> History
         ensures { λ r. ⌜ r ≡ recordOf noEntries ⌝ }
@@ -36,10 +49,10 @@ impl History {
 
     // No entry, and slots that hold none, whatever they held.
     pub fn fresh_in(slots: &mut [u8]) -> History
-        requires { ⌜ length (now slots) ≡ 25600 ⌝ }
+        requires { ⌜ length (now slots) ≡ slotsSize ⌝ }
         ensures { λ r. ⌜ Emptied r (now (slots .exit)) ⌝ }
     {
-        clear(slots, 0, 25600);
+        clear(slots, 0, History::SLOTS);
         History::fresh()
     }
 
@@ -84,6 +97,7 @@ impl History {
             recalled: Recalled::Entry(place),
         }
     }
+
     // The text of an entry, as a part of the slots; empty where there is no entry of that number.
     pub fn recall(self, slots: &[u8], number: usize) -> &[u8]
         ensures { λ r. ⌜ now r ≡ entryOf (journalOf self (now (slots .entry))) number ⌝ }
@@ -91,10 +105,10 @@ impl History {
         if self.count <= number {
             return part(slots, 0, 0);
         }
-        if slots.len() / 256 < number {
+        if slots.len() / History::SLOT < number {
             return part(slots, 0, 0);
         }
-        let at = 256 * number;
+        let at = History::SLOT * number;
         part(slots, at + 1, byte_at(slots, at))
     }
 }

@@ -30,9 +30,9 @@ use Rattle.state.specs.State.{savedOf, editorIn, historyIn, goodSaved}
 use Rattle.state.specs.Calls.{Beginning, turnIn, number as begunNumber, value as begunValue}
 use Rattle.state.specs.declared.calls.Begun.{Begun}
 use Rattle.state.specs.declared.calls.Begun.the-variants.{Ready, NoRoom as NoSpace, BadState as NoState}
-use Rattle.state.proofs.Savings.{held-saved, history-saved}
+use Rattle.state.proofs.Savings.{held-saved, history-saved, good-saved-parts}
 use Rattle.state.proofs.ByValue.{keyFor, key-by-value, key-saved, add-by-value, add-saved}
-use Rattle.state.proofs.Lasting.{good-saved-parts, Reached, begun, by-key as key-reached, by-add as add-reached}
+use Rattle.state.proofs.Lasting.{Reached, begun, by-key as key-reached, by-add as add-reached}
 use Rattle.tree.specs.Rules.{checkTree}
 use Rattle.tree.specs.declared.check.Checked.the-variants.{Good}
 use Rattle.parse.specs.Answer.{number as parseNumber, value as parseValue}

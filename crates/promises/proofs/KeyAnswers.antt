@@ -21,11 +21,11 @@ use Rattle.editor.specs.declared.line.Editor.{Editor}
 use Rattle.editor.specs.declared.drawing.KeyAnswer.{KeyAnswer}
 use Rattle.editor.specs.declared.drawing.Pressed.{Pressed}
 use Rattle.editor.specs.declared.drawing.Pressed.the-variants.{BadState, BadPrompt, NoRoom}
-use Rattle.editor.specs.Line.{limit, freshEditor, goodLine}
+use Rattle.editor.specs.Line.{limit, freshEditor}
 use Rattle.editor.specs.Turns.{Kind, shows, enters, drops, Turn, turnOf}
 use Rattle.editor.specs.Answer.{stateOf, editorOf, historyOf, slotsOf, goodState, goodPrompt, taken, turnAnswer, keyAnswer, refused, Pressing, number as pressedNumber, value as pressedValue, kindNumber, kind as pressedKind, beside as pressedBeside}
 use Rattle.editor.proofs.Called.{counted}
-use Rattle.state.specs.State.{stateSize, savedOf, isState, editorIn, historyIn, goodSaved}
+use Rattle.state.specs.State.{stateSize, savedOf, editorIn, historyIn, goodSaved}
 use Rattle.state.specs.Calls.{beginAnswer, isReady, Beginning, turnIn, pressAnswer, savedAfter, SavedKey, savedAnswer, stateBy, SavedAdd, number as begunNumber, value as begunValue}
 use Rattle.state.specs.declared.calls.Begun.{Begun}
 use Rattle.promises.proofs.Tables.{Answered, told, Row, row, first, lacks, either, split, telling, pair}
@@ -206,25 +206,23 @@ savedAddTable state slots text =
 
 pub saved-add-tells : (state slots text : List ℕ) (r : Added) (state′ slots′ : List ℕ) → SavedAdd state slots text r state′ slots′
     → told (addedNumber r) (addedValue r) (state′, slots′) ≡ savedAddTable state slots text
-unfolding savedAddTable first savedAnswer addAnswer goodSaved goodState
+unfolding savedAddTable first savedAnswer addAnswer
 saved-add-tells state slots text r state′ slots′ p =
     ap (told (addedNumber r) (addedValue r)) (pair (p .kept) (p .held))
     ∙ ap tells (p .answer)
-    ∙ by (isState state) (goodLine (editorIn state)) (good (historyIn state) slots) (ltb 255 (length text)) (wellFormed text)
+    ∙ by (goodSaved state slots) (ltb 255 (length text)) (wellFormed text)
   where
     tells : Added → Answered (List ℕ × List ℕ)
     tells x =
         told (addedNumber x) (addedValue x)
         (stateBy x state (offered text (journalOf (historyIn state) slots)), slotsBy x slots (offered text (journalOf (historyIn state) slots)))
 
-    by : (s g h l w : Bool) → tells (cond s (cond g (cond h (cond l (TooLong (length text)) (cond w Done (IllFormed (wellFormedLength text)))) BadHistory) BadHistory) BadHistory)
-        ≡ cond (not (cond s (cond g h false) false)) (told 12 0 (state, slots)) (cond l (told 13 (length text) (state, slots)) (cond (not w) (told 3 (wellFormedLength text) (state, slots)) (tells Done)))
-    by true true true true w = refl
-    by true true true false true = refl
-    by true true true false false = refl
-    by true true false l w = refl
-    by true false h l w = refl
-    by false g h l w = refl
+    by : (g l w : Bool) → tells (cond g (cond l (TooLong (length text)) (cond w Done (IllFormed (wellFormedLength text)))) BadHistory)
+        ≡ cond (not g) (told 12 0 (state, slots)) (cond l (told 13 (length text) (state, slots)) (cond (not w) (told 3 (wellFormedLength text) (state, slots)) (tells Done)))
+    by true true w = refl
+    by true false true = refl
+    by true false false = refl
+    by false l w = refl
 
 -- BEGIN: 9 for a buffer that is too short, the state's first; then 12 for one that is too long, since another length is no state's
 unfoldable pub beginTable : List ℕ → List ℕ → Answered (List ℕ × List ℕ)

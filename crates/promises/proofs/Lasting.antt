@@ -39,7 +39,8 @@ use Rattle.session.specs.declared.pressing.Pressing.{Pressing as SessionKey}
 pub never-bad : (state slots : List ℕ) → Reached state slots → goodSaved state slots ≡ true
 never-bad = never-reached-bad
 
--- By value: `Editor::fresh`, `recalled` and `key`, `History::fresh`, `fresh_in`, `previous` and `next`, `offer`, `add_command`.
+-- By value: `Editor::fresh`, `recalled`, `restored`, `key` and `key_tested`, `History::fresh`, `fresh_in`, `restored`, `previous` and `next`, `offer`, `add_command` and
+-- `add_tested`.
 pub never-bad-by-value : (e : Editor) (h : History) (slots : List ℕ) → ReachedByValue e h slots → goodState e h slots ≡ true
 never-bad-by-value = never-reached-bad-by-value
 

@@ -134,7 +134,7 @@ pub add-as-rust : (h : History) (slots text : List ℕ) (r : History) (left : Li
     → addCommand (original (journalOf h slots)) text ≡ original (journalOf r left)
 add-as-rust h slots text r left a =
     let j : Journal = offered text (journalOf h slots) in
-    let done : addAnswer h slots text ≡ Done = sym (a .answer) in
+    let done : addAnswer (good h slots) text ≡ Done = sym (a .answer) in
     let fair = taken-fair h slots text (done-has h slots text done) in
     let state : r ≡ recordOf j = a .state ∙ ap (λ (x : Added). recordBy x h j) done in
     let bytes : left ≡ slotsOf j = a .bytes ∙ ap (λ (x : Added). slotsBy x slots j) done in

@@ -9,27 +9,26 @@ use denote.Enum.Declared.{tagOf}
 use lib.Dec.{ltb}
 use lib.ListN.{length}
 use borrow.Author.Tests.{lt-ltb, le-ltb}
-use Rattle.buffer.proofs.Choices.{then-is, else-is, true-is-not-false}
-use Rattle.history.specs.Journal.{Journal, noEntries, offered, recordOf, journalOf}
+use Rattle.buffer.proofs.Choices.{then-is, else-is}
+use Rattle.history.specs.Journal.{Journal, noEntries, offered, recordOf, journalOf, good}
 use Rattle.history.specs.Answer.{Emptied, addAnswer, recordBy, slotsBy, Addition}
 use Rattle.history.specs.declared.stepping.History.{History}
 use Rattle.history.specs.declared.adding.Added.{Added}
 use Rattle.history.specs.declared.adding.Added.the-variants.{Done, BadState as BadHistory, TooLong, IllFormed}
 use Rattle.history.proofs.adding.Added.{the-type}
-use Rattle.history.proofs.Called.{done-has}
 use Rattle.history.proofs.Lasting.{added-good}
+use Rattle.editor.proofs.States.{good-parts}
 use Rattle.editor.proofs.Fine.{stays-good}
 use Rattle.editor.specs.declared.line.Editor.{Editor}
 use Rattle.editor.specs.declared.drawing.KeyAnswer.{KeyAnswer}
 use Rattle.editor.specs.declared.drawing.Pressed.the-variants.{BadState}
-use Rattle.editor.specs.Line.{freshEditor, goodLine}
+use Rattle.editor.specs.Line.{freshEditor}
 use Rattle.editor.specs.Turns.{turnOf}
 use Rattle.editor.specs.Answer.{stateOf, editorOf, historyOf, goodState, keyAnswer, refused, Pressing}
-use Rattle.state.specs.State.{stateSize, savedOf, isState, editorIn, historyIn, goodSaved}
+use Rattle.state.specs.State.{stateSize, savedOf, editorIn, historyIn, goodSaved}
 use Rattle.state.specs.Calls.{beginAnswer, Beginning, turnIn, pressAnswer, savedAfter, SavedKey, savedAnswer, stateBy, SavedAdd}
-use Rattle.state.specs.declared.saving.Restored.{Restored}
 use Rattle.state.specs.declared.calls.Begun.the-variants.{Ready, NoRoom, BadState as NoState}
-use Rattle.state.proofs.Savings.{size-is, Fits, Back, good-fits}
+use Rattle.state.proofs.Savings.{size-is, good-saved-parts, Fits, good-fits, Read, read-good}
 
 -- a fresh session
 module _ (state slots : List ℕ) where
@@ -83,51 +82,46 @@ fresh-bytes e h p q = rw (p, q) fresh-small
 
 -- a text added
 module _ (state slots text : List ℕ) where
-  pub add-other : isState state ≡ false → SavedAdd state slots text BadHistory state slots
-  unfolding savedAnswer
+  pub add-other : goodSaved state slots ≡ false → SavedAdd state slots text BadHistory state slots
+  unfolding savedAnswer addAnswer
   add-other h = record { answer = sym (else-is _ _ _ h); kept = refl; held = refl }
 
-  module _ (s : Restored) (back : Back s state) where
-    pub add-bad-line : goodLine (s .editor) ≡ false → SavedAdd state slots text BadHistory state slots
-    unfolding savedAnswer
-    add-bad-line h = record { answer = sym (then-is _ _ _ (back .is) ∙ else-is _ _ _ (ap goodLine (sym (back .editor)) ∙ h)); kept = refl; held = refl }
+  module _ (e : Editor) (h : History) (read : Read e h state slots) where
+    pub history-good : good h slots ≡ true
+    history-good = good-parts e h slots (read-good e h state slots read) .1
 
-    module _ (good-editor : goodLine (s .editor) ≡ true) (r : History) (told : Added) (left : List ℕ) (b : Addition (s .history) slots text r told left) where
+    module _ (r : History) (told : Added) (left : List ℕ) (b : Addition h slots text r told left) where
       a : Addition (historyIn state) slots text r told left
-      a = rw (back .history) at b
-
-      line : goodLine (editorIn state) ≡ true
-      line = ap goodLine (sym (back .editor)) ∙ good-editor
+      a = rw (read .history) at b
 
       answered-so : told ≡ savedAnswer state slots text
       unfolding savedAnswer
-      answered-so = a .answer ∙ sym (then-is _ _ _ (back .is) ∙ then-is _ _ _ line)
+      answered-so = b .answer ∙ ap (λ (t : Bool). addAnswer t text) (history-good ∙ sym (read .is))
 
       left-so : left ≡ slotsBy told slots (offered text (journalOf (historyIn state) slots))
       left-so = a .bytes ∙ ap (λ (x : Added). slotsBy x slots (offered text (journalOf (historyIn state) slots))) (sym (a .answer))
 
-      pub add-done : (state′ : List ℕ) → told ≡ Done → state′ ≡ savedOf (s .editor) r → SavedAdd state slots text told state′ left
+      pub add-done : (state′ : List ℕ) → told ≡ Done → state′ ≡ savedOf e r → SavedAdd state slots text told state′ left
       add-done state′ d w =
           let j : Journal = offered text (journalOf (historyIn state) slots) in
-          let known : addAnswer (historyIn state) slots text ≡ Done = sym (a .answer) ∙ d in
+          let known : addAnswer (good (historyIn state) slots) text ≡ Done = sym (a .answer) ∙ d in
           record {
             answer = answered-so;
             kept =
                 w
-                ∙ ap (λ (x : Editor). savedOf x r) (back .editor)
+                ∙ ap (λ (x : Editor). savedOf x r) (read .editor)
                 ∙ ap (savedOf (editorIn state)) (a .state ∙ ap (λ (x : Added). recordBy x (historyIn state) (offered text (journalOf (historyIn state) slots))) known)
                 ∙ ap (λ (x : Added). stateBy x state j) (sym d);
             held = left-so;
           }
 
-      pub add-good : told ≡ Done → goodState (s .editor) r left ≡ true
+      pub add-good : goodState e r left ≡ true
       unfolding goodState
-      add-good d =
-          let known : addAnswer (historyIn state) slots text ≡ Done = sym (a .answer) ∙ d in
-          then-is _ _ _ good-editor ∙ added-good (historyIn state) slots text r told left (done-has (historyIn state) slots text known .is-good) a
+      add-good =
+          then-is _ _ _ (good-parts e h slots (read-good e h state slots read) .0) ∙ added-good h slots text r told left history-good b
 
-      pub add-fits : told ≡ Done → Fits (s .editor) r
-      add-fits d = good-fits (s .editor) r left (add-good d)
+      pub add-fits : Fits e r
+      add-fits = good-fits e r left add-good
 
       pub add-refused : OneOf (1 ∷ 2 ∷ 3 ∷ []) (tagOf the-type told) → SavedAdd state slots text told state left
       add-refused k = record { answer = answered-so; kept = sym (stays told k); held = left-so }
@@ -140,20 +134,21 @@ module _ (state slots text : List ℕ) where
 
 -- one key
 module _ (state slots prompt : List ℕ) (byte : ℕ) (line screen : List ℕ) where
-  pub key-other : isState state ≡ false → SavedKey state slots prompt byte line screen BadState state slots line screen
-  unfolding pressAnswer keyAnswer goodSaved
-  key-other h = record { answer = sym (else-is _ _ _ (else-is _ _ _ h)); kept = refl; held = refl; given = refl; shown = refl }
+  pub key-other : goodSaved state slots ≡ false → SavedKey state slots prompt byte line screen BadState state slots line screen
+  unfolding pressAnswer keyAnswer
+  key-other h = record { answer = sym (else-is _ _ _ h); kept = refl; held = refl; given = refl; shown = refl }
 
-  module _ (r : Restored) (back : Back r state) (k : KeyAnswer) (slots′ line′ screen′ : List ℕ)
-      (b : Pressing (r .editor) (r .history) slots prompt byte line screen k slots′ line′ screen′) where
+  module _ (e : Editor) (h : History) (read : Read e h state slots) (k : KeyAnswer) (slots′ line′ screen′ : List ℕ)
+      (b : Pressing e h slots prompt byte line screen k slots′ line′ screen′) where
     p : Pressing (editorIn state) (historyIn state) slots prompt byte line screen k slots′ line′ screen′
-    p = rw (back .editor, back .history) at b
+    p = rw (read .editor, read .history) at b
 
     told-so : k .answer ≡ pressAnswer state slots prompt byte (length line) (length screen)
-    unfolding pressAnswer goodSaved turnIn
+    unfolding pressAnswer turnIn
     told-so =
         p .answer
-        ∙ ap (λ (t : Bool). keyAnswer t prompt (turnOf prompt (stateOf (editorIn state) (historyIn state) slots) byte) (length line) (length screen)) (sym (then-is _ _ _ (back .is)))
+        ∙ ap (λ (t : Bool). keyAnswer t prompt (turnOf prompt (stateOf (editorIn state) (historyIn state) slots) byte) (length line) (length screen))
+        (good-saved-parts state slots (read .is) .1 ∙ sym (read .is))
 
     pub key-refused : refused (k .answer) ≡ true → SavedKey state slots prompt byte line screen (k .answer) state slots′ line′ screen′
     unfolding turnIn
@@ -184,16 +179,6 @@ module _ (state slots prompt : List ℕ) (byte : ℕ) (line screen : List ℕ) w
           shown = p .shown;
         }
 
-    -- a key is taken in a good state only
-    good-taken : refused (k .answer) ≡ false → goodState (editorIn state) (historyIn state) slots ≡ true
-    unfolding keyAnswer
-    good-taken t = by (goodState (editorIn state) (historyIn state) slots) refl
-      where
-        by : (t : Bool) → goodState (editorIn state) (historyIn state) slots ≡ t → t ≡ true
-        by true h = refl
-        by false h = absurd (true-is-not-false (sym (ap refused (p .answer ∙ else-is _ _ _ h)) ∙ t))
-
-    pub taken-fits : refused (k .answer) ≡ false → Fits (k .editor) (k .history)
-    taken-fits t =
-        good-fits (k .editor) (k .history) slots′
-        (stays-good (editorIn state) (historyIn state) slots prompt byte line screen k slots′ line′ screen′ (good-taken t) p)
+    pub key-fits : Fits (k .editor) (k .history)
+    key-fits =
+        good-fits (k .editor) (k .history) slots′ (stays-good e h slots prompt byte line screen k slots′ line′ screen′ (read-good e h state slots read) b)

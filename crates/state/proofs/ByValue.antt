@@ -5,7 +5,7 @@ use mathlib.Core.Bool.{Bool, true, false, cond}
 use mathlib.Core.List.{List}
 use lib.ListN.{length}
 use Rattle.buffer.proofs.Choices.{then-is}
-use Rattle.history.specs.Journal.{Journal, offered, journalOf}
+use Rattle.history.specs.Journal.{Journal, offered, journalOf, good}
 use Rattle.history.specs.Answer.{addAnswer, recordBy, slotsBy, Addition}
 use Rattle.history.specs.declared.stepping.History.{History}
 use Rattle.history.specs.declared.adding.Added.{Added}
@@ -17,12 +17,11 @@ use Rattle.editor.specs.declared.drawing.Pressed.{Pressed}
 use Rattle.editor.specs.declared.drawing.Pressed.the-variants.{Dropped}
 use Rattle.editor.specs.Line.{limit, goodLine}
 use Rattle.editor.specs.Turns.{State, Turn, turnOf}
-use Rattle.editor.specs.Answer.{stateOf, editorOf, historyOf, goodPrompt, keyAnswer, refused, Pressing}
+use Rattle.editor.specs.Answer.{stateOf, editorOf, historyOf, goodState, goodPrompt, keyAnswer, refused, Pressing}
 use Rattle.editor.proofs.Called.{dropped}
-use Rattle.state.specs.State.{savedOf, isState, editorIn, historyIn, goodSaved}
+use Rattle.state.specs.State.{savedOf, editorIn, historyIn, goodSaved}
 use Rattle.state.specs.Calls.{turnIn, pressAnswer, savedAfter, SavedKey, savedAnswer, stateBy, SavedAdd}
-use Rattle.state.proofs.Savings.{saved-restored}
-use Rattle.state.proofs.Lasting.{good-saved-parts}
+use Rattle.state.proofs.Savings.{IsState, good-as, good-saved-parts, saved-restored}
 
 -- what `key` hands back for a turn from a saved state, with this answer
 abbrev pub keyFor : List ℕ → Turn → Pressed → KeyAnswer
@@ -37,14 +36,14 @@ same-saved : {e e′ : Editor} {h h′ : History} → e ≡ e′ → h ≡ h′ 
 same-saved p q = cc
 
 module _ (state slots prompt : List ℕ) (byte : ℕ) (line screen : List ℕ) (told : Pressed) (state′ slots′ line′ screen′ : List ℕ)
-    (p : SavedKey state slots prompt byte line screen told state′ slots′ line′ screen′) (is : isState state ≡ true) where
+    (p : SavedKey state slots prompt byte line screen told state′ slots′ line′ screen′) (is : IsState state) where
   pub key-by-value : Pressing (editorIn state) (historyIn state) slots prompt byte line screen (keyFor state (turnIn state slots prompt byte) told) slots′ line′ screen′
-  unfolding pressAnswer goodSaved turnIn
+  unfolding pressAnswer turnIn
   key-by-value =
       record {
         answer =
             p .answer
-            ∙ ap (λ (t : Bool). keyAnswer t prompt (turnOf prompt (stateOf (editorIn state) (historyIn state) slots) byte) (length line) (length screen)) (then-is _ _ _ is);
+            ∙ ap (λ (t : Bool). keyAnswer t prompt (turnOf prompt (stateOf (editorIn state) (historyIn state) slots) byte) (length line) (length screen)) (good-as state slots is);
         editor = refl;
         history = refl;
         held = p .held;
@@ -61,11 +60,12 @@ module _ (state slots prompt : List ℕ) (byte : ℕ) (line screen : List ℕ) (
       by false s = refl
 
 module _ (state slots text : List ℕ) (told : Added) (state′ slots′ : List ℕ) (p : SavedAdd state slots text told state′ slots′)
-    (is : isState state ≡ true) (fair : goodLine (editorIn state) ≡ true) where
+    (is : IsState state) (fair : goodLine (editorIn state) ≡ true) where
   pub add-by-value : Addition (historyIn state) slots text (recordBy told (historyIn state) (offered text (journalOf (historyIn state) slots))) told slots′
-  unfolding savedAnswer
+  unfolding savedAnswer goodState
   add-by-value =
-      let a : told ≡ addAnswer (historyIn state) slots text = p .answer ∙ then-is _ _ _ is ∙ then-is _ _ _ fair in
+      let a : told ≡ addAnswer (good (historyIn state) slots) text =
+      p .answer ∙ ap (λ (t : Bool). addAnswer t text) (good-as state slots is ∙ then-is _ _ _ fair) in
       record {
         answer = a;
         state = ap (λ (x : Added). recordBy x (historyIn state) (offered text (journalOf (historyIn state) slots))) a;

@@ -1,14 +1,16 @@
 -- Worked examples: the bytes of a state, and bytes that are none.
 use mathlib.Core.Path.{_≡_, refl}
 use mathlib.Core.Bool.{true, false}
-use mathlib.Core.List.{[], _∷_}
+use Prim.Native.Nat.{ℕ}
+use mathlib.Core.List.{List, [], _∷_}
 use lib.ListN.{take, drop}
+use Rattle.buffer.specs.Compare.{sameBytes}
 use Rattle.buffer.specs.Lend.{zeros}
 use Rattle.keys.specs.declared.meaning.Mode.the-variants.{Sequence}
-use Rattle.editor.specs.Line.{limit, padded, holding, lineOf}
-use Rattle.history.specs.Saved.{savedSize as historySize, savedOf as historySaved}
-use Rattle.editor.specs.Saved.{savedSize as editorSize, savedOf as editorSaved, isSaved, savedIn as editorSavedIn}
-use Rattle.state.specs.State.{stateSize, savedOf, isState, editorIn}
+use Rattle.editor.specs.Line.{limit, padded, holding, lineOf, goodLine}
+use Rattle.history.specs.Saved.{savedSize as historySize, savedOf as historySaved, isSaved as isHistory}
+use Rattle.editor.specs.Saved.{savedSize as editorSize, savedOf as editorSaved, savedIn as editorSavedIn, hasMode, isSaved as isEditor}
+use Rattle.state.specs.State.{stateSize, savedOf, editorIn, goodSaved}
 use Rattle.state.specs.Calls.{beginAnswer}
 use Rattle.state.specs.declared.calls.Begun.the-variants.{Ready, NoRoom, BadState}
 
@@ -25,21 +27,27 @@ read-back : lineOf (editorIn (1 ∷ 2 ∷ 0 ∷ 0x61 ∷ 0x62 ∷ zeros 255)) �
 unfolding lineOf editorIn editorSize editorSavedIn zeros
 read-back = refl
 
-is : isState (zeros 260) ≡ true
-unfolding isState isSaved editorSize stateSize historySize zeros
+-- the length, the mode and the cursor of bytes that are no good state, whatever the slots
+short : (slots : List ℕ) → goodSaved (zeros 259) slots ≡ false
+unfolding goodSaved isHistory isEditor hasMode editorSavedIn editorSize historySize goodLine lineOf padded limit sameBytes zeros
+short slots = refl
+
+long : (slots : List ℕ) → goodSaved (zeros 261) slots ≡ false
+unfolding goodSaved isHistory isEditor hasMode editorSavedIn editorSize historySize goodLine lineOf padded limit sameBytes zeros
+long slots = refl
+
+mode-three : (slots : List ℕ) → goodSaved (3 ∷ zeros 259) slots ≡ false
+unfolding goodSaved isEditor hasMode editorSize zeros
+mode-three slots = refl
+
+cursor-past-line : (slots : List ℕ) → goodSaved (0 ∷ 0 ∷ 1 ∷ zeros 257) slots ≡ false
+unfolding goodSaved isEditor hasMode editorSavedIn editorSize goodLine limit zeros
+cursor-past-line slots = refl
+
+-- bytes that are an editor, beside which a history of another length is none (`fresh-good`: all of them zeros are a good state)
+is : isEditor (zeros 258) ≡ true
+unfolding isEditor hasMode editorSavedIn editorSize goodLine lineOf padded limit sameBytes zeros
 is = refl
-
-short : isState (zeros 259) ≡ false
-unfolding isState isSaved editorSize stateSize historySize zeros
-short = refl
-
-long : isState (zeros 261) ≡ false
-unfolding isState isSaved editorSize stateSize historySize zeros
-long = refl
-
-mode-three : isState (3 ∷ zeros 259) ≡ false
-unfolding isState isSaved editorSize stateSize historySize zeros
-mode-three = refl
 
 -- too short comes before too long, and the state before the slots
 both-short : beginAnswer 0 0 ≡ NoRoom 260

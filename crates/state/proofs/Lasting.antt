@@ -4,12 +4,11 @@ use mathlib.Core.Path.{_≡_, refl, sym, ap, _∙_}
 use mathlib.Core.Bool.{Bool, true, false, cond}
 use mathlib.Core.List.{List, []}
 use Rattle.buffer.proofs.Choices.{then-is}
-use Rattle.history.specs.Journal.{Journal, noEntries, offered, recordOf, slotsOf as journalSlots, journalOf}
+use Rattle.history.specs.Journal.{Journal, noEntries, offered, recordOf, slotsOf as journalSlots, journalOf, good}
 use Rattle.history.specs.Answer.{addAnswer, slotsBy}
 use Rattle.history.specs.declared.stepping.History.{History}
 use Rattle.history.specs.declared.adding.Added.{Added}
 use Rattle.history.specs.declared.adding.Added.the-variants.{Done, BadState as BadHistory, TooLong, IllFormed}
-use Rattle.history.proofs.States.{holds}
 use Rattle.history.proofs.Called.{done-has}
 use Rattle.history.proofs.Lasting.{offered-good}
 use Rattle.editor.specs.declared.line.Editor.{Editor}
@@ -20,10 +19,10 @@ use Rattle.editor.specs.Answer.{stateOf, editorOf, historyOf, slotsOf, goodStat
 use Rattle.editor.proofs.Lines.{good-line, length-of}
 use Rattle.editor.proofs.States.{good-parts}
 use Rattle.editor.proofs.Fine.{fine-of, fine-good, turn-fine, never-bad}
-use Rattle.state.specs.State.{savedOf, isState, editorIn, historyIn, goodSaved}
+use Rattle.state.specs.State.{savedOf, editorIn, historyIn, goodSaved}
 use Rattle.state.specs.Calls.{Beginning, turnIn, savedAfter, SavedKey, savedAnswer, stateBy, SavedAdd}
 use Rattle.state.specs.declared.calls.Begun.the-variants.{Ready}
-use Rattle.state.proofs.Savings.{good-saved}
+use Rattle.state.proofs.Savings.{good-saved, good-saved-parts}
 
 -- what is good is good when it is saved
 pub saved-good : (e : Editor) (h : History) (slots : List ℕ) → goodState e h slots ≡ true → goodSaved (savedOf e h) slots ≡ true
@@ -32,10 +31,6 @@ saved-good e h slots g = good-saved e h slots (length-of e (good-line e (good-pa
 pub fresh-good : goodSaved (savedOf freshEditor (recordOf noEntries)) (journalSlots noEntries) ≡ true
 unfolding editorOf afterKeys holding
 fresh-good = saved-good freshEditor (recordOf noEntries) (journalSlots noEntries) (never-bad [] [])
-
-pub good-saved-parts : (state slots : List ℕ) → goodSaved state slots ≡ true → (isState state ≡ true) × (goodState (editorIn state) (historyIn state) slots ≡ true)
-unfolding goodSaved
-good-saved-parts state slots g = holds (isState state) _ g
 
 either-good : (t : Bool) (a b s r : List ℕ) → goodSaved a s ≡ true → goodSaved b r ≡ true → goodSaved (cond t a b) (cond t s r) ≡ true
 either-good true a b s r p q = p
@@ -52,11 +47,11 @@ key-stays state slots prompt byte line screen told state′ slots′ line′ scr
     ∙ either-good (refused told) state (savedOf (editorOf a) (historyOf a)) slots (slotsOf a) g (saved-good (editorOf a) (historyOf a) (slotsOf a) (fine-good a fine))
 
 -- an add that is done was asked of a good state
-done-so : (state slots text : List ℕ) → goodSaved state slots ≡ true → savedAnswer state slots text ≡ Done → addAnswer (historyIn state) slots text ≡ Done
+done-so : (state slots text : List ℕ) → goodSaved state slots ≡ true → savedAnswer state slots text ≡ Done → addAnswer (good (historyIn state) slots) text ≡ Done
 unfolding savedAnswer
 done-so state slots text g d =
-    let p = good-saved-parts state slots g in
-    sym (then-is _ _ _ (p .0) ∙ then-is _ _ _ (good-parts (editorIn state) (historyIn state) slots (p .1) .0)) ∙ d
+    let p = good-parts (editorIn state) (historyIn state) slots (good-saved-parts state slots g .1) in
+    ap (λ (t : Bool). addAnswer t text) (p .1 ∙ sym g) ∙ d
 
 added-good : (state slots text : List ℕ) → goodSaved state slots ≡ true → savedAnswer state slots text ≡ Done
     → goodSaved (savedOf (editorIn state) (recordOf (offered text (journalOf (historyIn state) slots)))) (journalSlots (offered text (journalOf (historyIn state) slots))) ≡ true

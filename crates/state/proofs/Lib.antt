@@ -1,4 +1,4 @@
--- The laws of the crate `saved` that belong to no one function.
+-- The laws of the crate `state` that belong to no one function.
 pub mod Savings
 pub mod Answering
 pub mod Lasting

@@ -1,13 +1,11 @@
 -- Laws of saved states: what was saved is restored, nothing in the bytes is lost, and how the code writes them.
-use Prim.Native.Nat.{ℕ, zero, suc, _+_, _≤_}
+use Prim.Native.Nat.{ℕ, _+_, _≤_}
 use mathlib.Core.Path.{_≡_, refl, sym, ap, _∙_}
-use mathlib.Core.Bool.{Bool, true, false}
-use mathlib.Core.List.{List, [], _∷_, _++_, append-nil}
+use mathlib.Core.Bool.{Bool, true, false, cond}
+use mathlib.Core.List.{List, [], _++_, append-nil}
 use native.Mathlib.Omega.{arith}
-use lib.Dec.{eqb}
 use lib.ListN.{length, take, drop, length-append, length-drop, take-append-drop}
 use lib.Seq.{take-at, drop-at}
-use borrow.Author.Tests.{eq-eqb, ne-eqb, eqb-true}
 use Rattle.buffer.proofs.Choices.{then-is, else-is, true-is-not-false}
 use Rattle.buffer.proofs.Lists.{drop-end}
 use Rattle.buffer.proofs.Lending.{overAt-front, length-overAt}
@@ -16,20 +14,21 @@ use Rattle.buffer.specs.Write.{over, Pushed}
 use Rattle.buffer.specs.Lend.{zeros}
 use Rattle.history.specs.declared.stepping.History.{History}
 use Rattle.history.specs.Journal.{noEntries, recordOf}
-use Rattle.history.specs.Saved.{savedSize as historySize, savedOf as historySaved, savedIn as historySavedIn, Fits as HistoryFits}
+use Rattle.history.specs.declared.saving.Restored.{Restored as RestoredHistory}
+use Rattle.history.specs.declared.saving.Restored.the-variants.{Good, Bad}
+use Rattle.history.specs.Saved.{savedSize as historySize, savedOf as historySaved, savedIn as historySavedIn, isSaved as isHistory, restored as restoredHistory, Fits as HistoryFits}
 use Rattle.history.proofs.States.{holds}
 use Rattle.history.proofs.Journals.{good-fits as history-fits}
-use Rattle.history.proofs.Saved.{saved-in as history-back, saved-back as history-bytes, length-saved as length-history}
+use Rattle.history.proofs.Saved.{saved-in as history-back, saved-back as history-bytes, length-saved as length-history, saved-is as history-is, saved-has as history-has, right-length, good-back, bad-back, restored-saved as history-restored}
 use Rattle.editor.specs.declared.line.Editor.{Editor}
 use Rattle.editor.specs.declared.saving.Restored.{Restored as RestoredEditor}
-use Rattle.editor.specs.Line.{limit, padded, freshEditor}
+use Rattle.editor.specs.Line.{limit, padded, freshEditor, goodLine}
 use Rattle.editor.specs.Turns.{State, turnOf}
 use Rattle.editor.specs.Answer.{stateOf, goodState}
-use Rattle.editor.specs.Saved.{savedSize as editorSize, savedOf as editorSaved, isSaved, savedIn as editorSavedIn, restored as restoredEditor, Fits as EditorFits}
+use Rattle.editor.specs.Saved.{savedSize as editorSize, savedOf as editorSaved, savedIn as editorSavedIn, hasMode, isSaved as isEditor, restored as restoredEditor, Fits as EditorFits}
 use Rattle.editor.proofs.States.{good-parts}
-use Rattle.editor.proofs.Saved.{length-saved, saved-is, saved-in, saved-back, good-fits as editor-fits, restored-is, restored-not}
-use Rattle.state.specs.declared.saving.Restored.{Restored}
-use Rattle.state.specs.State.{stateSize, savedOf, isState, editorIn, historyIn, nothing, restored, goodSaved}
+use Rattle.editor.proofs.Saved.{length-saved, saved-is as editor-is, saved-has as editor-has, right-head, head-size, saved-in, saved-back, good-fits as editor-fits, restored-is, restored-not, restored-saved as editor-restored}
+use Rattle.state.specs.State.{stateSize, savedOf, editorIn, historyIn, goodSaved}
 use Rattle.state.specs.Calls.{turnIn}
 
 -- the sizes
@@ -50,14 +49,6 @@ rest-saved : (e : Editor) (h : History) → length (e .line) ≡ 255 → drop ed
 unfolding savedOf
 rest-saved e h l = drop-at (editorSaved e) (historySaved h) editorSize (editor-part e l)
 
-whole-saved : (e : Editor) (h : History) → length (e .line) ≡ 255 → length (savedOf e h) ≡ stateSize
-unfolding savedOf stateSize
-whole-saved e h l = length-append (editorSaved e) (historySaved h) ∙ ap (λ (n : ℕ). n + length (historySaved h)) (editor-part e l) ∙ ap (λ (n : ℕ). editorSize + n) (length-history h)
-
-state-saved : (e : Editor) (h : History) → length (e .line) ≡ 255 → isState (savedOf e h) ≡ true
-unfolding isState
-state-saved e h l = then-is _ _ _ (eq-eqb _ _ (whole-saved e h l)) ∙ ap isSaved (front-saved e h l) ∙ saved-is e l
-
 editor-saved : (e : Editor) (h : History) → length (e .line) ≡ 255 → editorIn (savedOf e h) ≡ e
 unfolding editorIn
 editor-saved e h l = ap editorSavedIn (front-saved e h l) ∙ saved-in e
@@ -66,20 +57,14 @@ pub history-saved : (e : Editor) (h : History) → length (e .line) ≡ 255 → 
 unfolding historyIn
 history-saved e h l = ap historySavedIn (rest-saved e h l) ∙ history-back h
 
-pub restored-saved : (e : Editor) (h : History) → length (e .line) ≡ 255 → restored (savedOf e h) ≡ record { valid = true; editor = e; history = h }
-unfolding restored
-restored-saved e h l =
-    then-is _ _ _ (state-saved e h l)
-    ∙ ap (λ (x : Editor). record { valid = true; editor = x; history = historyIn (savedOf e h) }) (editor-saved e h l)
-    ∙ ap (λ (x : History). record { valid = true; editor = e; history = x }) (history-saved e h l)
-
 -- a saved state is as good as its editor and its history, and a key takes the same turn in it
 pub good-saved : (e : Editor) (h : History) (slots : List ℕ) → length (e .line) ≡ 255 → goodSaved (savedOf e h) slots ≡ goodState e h slots
-unfolding goodSaved
+unfolding goodSaved goodState
 good-saved e h slots l =
-    then-is _ _ _ (state-saved e h l)
-    ∙ ap (λ (x : Editor). goodState x (historyIn (savedOf e h)) slots) (editor-saved e h l)
-    ∙ ap (λ (x : History). goodState e x slots) (history-saved e h l)
+    ap (λ (x : List ℕ). cond (isEditor x) (isHistory (drop editorSize (savedOf e h)) slots) false) (front-saved e h l)
+    ∙ ap (λ (x : List ℕ). cond (isEditor (editorSaved e)) (isHistory x slots) false) (rest-saved e h l)
+    ∙ ap (λ (t : Bool). cond t (isHistory (historySaved h) slots) false) (editor-is e l)
+    ∙ ap (λ (t : Bool). cond (goodLine e) t false) (history-is h slots)
 
 pub held-saved : (e : Editor) (h : History) (slots : List ℕ) → length (e .line) ≡ 255 → stateOf (editorIn (savedOf e h)) (historyIn (savedOf e h)) slots ≡ stateOf e h slots
 held-saved e h slots l =
@@ -90,24 +75,49 @@ pub turn-saved : (e : Editor) (h : History) (slots prompt : List ℕ) (byte : �
 unfolding turnIn
 turn-saved e h slots prompt byte l = ap (λ (s : State). turnOf prompt s byte) (held-saved e h slots l)
 
--- the two tests of a state
+-- the two tests of a good state
+tests-held : (s slots : List ℕ) → goodSaved s slots ≡ true → (isEditor (take editorSize s) ≡ true) × (isHistory (drop editorSize s) slots ≡ true)
+unfolding goodSaved
+tests-held s slots g = holds (isEditor (take editorSize s)) _ g
+
+-- bytes with a state's length and a mode; they are as good as the editor and the history that they hold
 pub record IsState (state : List ℕ) : Type 0 where
   pub size : length state ≡ stateSize
-  pub editor : isSaved (take editorSize state) ≡ true
+  pub mode : hasMode (take editorSize state) ≡ true
 
-pub state-has : (s : List ℕ) → isState s ≡ true → IsState s
-unfolding isState
-state-has s h = let a = holds (eqb (length s) stateSize) _ h in record { size = eqb-true _ _ (a .0); editor = a .1 }
+history-size : (s : List ℕ) → length s ≡ stateSize → length (drop editorSize s) ≡ historySize
+unfolding stateSize
+history-size s n = let d = length-drop editorSize s in omega arith
+
+pub good-as : (s slots : List ℕ) → IsState s → goodSaved s slots ≡ goodState (editorIn s) (historyIn s) slots
+unfolding goodSaved goodState editorIn historyIn
+good-as s slots k =
+    ap (λ (t : Bool). cond t (isHistory (drop editorSize s) slots) false) (right-head (take editorSize s) (k .mode))
+    ∙ ap (λ (t : Bool). cond (goodLine (editorSavedIn (take editorSize s))) t false) (right-length (drop editorSize s) slots (history-size s (k .size)))
+
+-- a good one is such
+is-state : (s : List ℕ) → length (take editorSize s) ≡ editorSize → length (drop editorSize s) ≡ historySize → length s ≡ stateSize
+unfolding stateSize
+is-state s a b =
+    let w = ap length (take-append-drop editorSize s) in let l = length-append (take editorSize s) (drop editorSize s) in omega arith
+
+pub good-saved-parts : (s slots : List ℕ) → goodSaved s slots ≡ true → IsState s × (goodState (editorIn s) (historyIn s) slots ≡ true)
+good-saved-parts s slots g = (shape, sym (good-as s slots shape) ∙ g)
+  where
+    parts : (isEditor (take editorSize s) ≡ true) × (isHistory (drop editorSize s) slots ≡ true)
+    parts = tests-held s slots g
+
+    shape : IsState s
+    shape =
+        let head = editor-has (take editorSize s) (parts .0) .head in
+        record { size = is-state s (head-size (take editorSize s) head) (history-has (drop editorSize s) slots (parts .1) .size); mode = head }
 
 -- what restores is the saving of what was restored
-pub saved-restored : (s : List ℕ) → isState s ≡ true → savedOf (editorIn s) (historyIn s) ≡ s
-unfolding savedOf editorIn historyIn stateSize
-saved-restored s h =
-    let k = state-has s h in
-    let d = length-drop editorSize s in
-    let n : length (drop editorSize s) ≡ historySize = let m = k .size in omega arith in
-    ap (λ (x : List ℕ). x ++ historySaved (historySavedIn (drop editorSize s))) (saved-back (take editorSize s) (k .editor))
-    ∙ ap (λ (x : List ℕ). take editorSize s ++ x) (history-bytes (drop editorSize s) n)
+pub saved-restored : (s : List ℕ) → IsState s → savedOf (editorIn s) (historyIn s) ≡ s
+unfolding savedOf editorIn historyIn
+saved-restored s k =
+    ap (λ (x : List ℕ). x ++ historySaved (historySavedIn (drop editorSize s))) (saved-back (take editorSize s) (k .mode))
+    ∙ ap (λ (x : List ℕ). take editorSize s ++ x) (history-bytes (drop editorSize s) (history-size s (k .size)))
     ∙ take-append-drop editorSize s
 
 -- a fresh session is all zeros
@@ -150,16 +160,9 @@ save-written e h state mid left p r n l a b =
     ∙ ap (λ (x : List ℕ). all ++ x) none
     ∙ append-nil all
 
--- the tests of a state, in their order
-pub wrong-length : (s : List ℕ) → (length s ≡ stateSize → ⊥) → isState s ≡ false
-unfolding isState
-wrong-length s h = else-is _ _ _ (ne-eqb _ _ h)
-
+-- the sizes and parts, as the code has them
 pub as-size : (n : ℕ) → n ≡ 260 → n ≡ stateSize
 as-size n h = h ∙ sym size-is
-
-pub not-size : (n : ℕ) → (n ≡ 260 → ⊥) → n ≡ stateSize → ⊥
-not-size n h e = h (e ∙ size-is)
 
 pub part-editor : (s part : List ℕ) → part ≡ take 258 (drop 0 s) → part ≡ take editorSize s
 unfolding editorSize
@@ -169,64 +172,58 @@ pub rest-history : (s rest : List ℕ) → rest ≡ drop 258 s → rest ≡ drop
 unfolding editorSize
 rest-history s rest e = e
 
--- what was read of the editor
-module _ (s : List ℕ) (r : RestoredEditor) (q : r ≡ restoredEditor (take editorSize s)) (size : length s ≡ stateSize) where
-  by-valid : (t : Bool) → isSaved (take editorSize s) ≡ t → isState s ≡ t
-  unfolding isState
-  by-valid t h = then-is _ _ _ (eq-eqb _ _ size) ∙ h
+-- an editor and a history that were read of a good state
+pub record Read (e : Editor) (h : History) (s slots : List ℕ) : Type 0 where
+  pub is : goodSaved s slots ≡ true
+  pub editor : e ≡ editorIn s
+  pub history : h ≡ historyIn s
 
-  pub read-not : r .valid ≡ false → isState s ≡ false
-  read-not v = by (isSaved (take editorSize s)) refl
+-- what is read of the editor, and of the history after it
+module _ (s slots : List ℕ) (r : RestoredEditor) (q : r ≡ restoredEditor (take editorSize s)) where
+  pub no-editor : r .valid ≡ false → goodSaved s slots ≡ false
+  unfolding goodSaved
+  no-editor v = else-is _ _ _ (by (isEditor (take editorSize s)) refl)
     where
-      by : (t : Bool) → isSaved (take editorSize s) ≡ t → isState s ≡ false
-      by true h = absurd (true-is-not-false (sym (ap (λ (x : RestoredEditor). x .valid) (q ∙ restored-is (take editorSize s) h)) ∙ v))
-      by false h = by-valid false h
+      by : (t : Bool) → isEditor (take editorSize s) ≡ t → t ≡ false
+      by true h = sym (ap (λ (x : RestoredEditor). x .valid) (q ∙ restored-is (take editorSize s) h)) ∙ v
+      by false h = refl
 
-  pub read-is : r .valid ≡ true → (isState s ≡ true) × (r .editor ≡ editorIn s)
-  unfolding editorIn
-  read-is v = by (isSaved (take editorSize s)) refl
-    where
-      by : (t : Bool) → isSaved (take editorSize s) ≡ t → (isState s ≡ true) × (r .editor ≡ editorSavedIn (take editorSize s))
-      by true h = (by-valid true h, ap (λ (x : RestoredEditor). x .editor) (q ∙ restored-is (take editorSize s) h))
-      by false h = absurd (true-is-not-false (sym v ∙ ap (λ (x : RestoredEditor). x .valid) (q ∙ restored-not (take editorSize s) h)))
+  module _ (v : r .valid ≡ true) where
+    read-is : (isEditor (take editorSize s) ≡ true) × (r .editor ≡ editorIn s)
+    unfolding editorIn
+    read-is = by (isEditor (take editorSize s)) refl
+      where
+        by : (t : Bool) → isEditor (take editorSize s) ≡ t → (isEditor (take editorSize s) ≡ true) × (r .editor ≡ editorSavedIn (take editorSize s))
+        by true h = (h, ap (λ (x : RestoredEditor). x .editor) (q ∙ restored-is (take editorSize s) h))
+        by false h = absurd (true-is-not-false (sym v ∙ ap (λ (x : RestoredEditor). x .valid) (q ∙ restored-not (take editorSize s) h)))
 
--- what is restored, by its first field
-pub record Back (r : Restored) (s : List ℕ) : Type 0 where
-  pub is : isState s ≡ true
-  pub editor : r .editor ≡ editorIn s
-  pub history : r .history ≡ historyIn s
+    as-history : goodSaved s slots ≡ isHistory (drop editorSize s) slots
+    unfolding goodSaved
+    as-history = then-is _ _ _ (read-is .0)
 
-restored-state : (s : List ℕ) → isState s ≡ true → restored s ≡ record { valid = true; editor = editorIn s; history = historyIn s }
-unfolding restored
-restored-state s h = then-is _ _ _ h
+    pub no-history : (told : RestoredHistory) → told ≡ restoredHistory (drop editorSize s) slots → told ≡ Bad → goodSaved s slots ≡ false
+    no-history told p b = as-history ∙ bad-back (drop editorSize s) slots (sym p ∙ b)
 
-restored-other : (s : List ℕ) → isState s ≡ false → restored s ≡ nothing
-unfolding restored
-restored-other s h = else-is _ _ _ h
+    pub both-read : (told : RestoredHistory) (h : History) → told ≡ restoredHistory (drop editorSize s) slots → told ≡ Good h → Read (r .editor) h s slots
+    unfolding historyIn
+    both-read told h p g =
+        let k = good-back (drop editorSize s) slots h (sym p ∙ g) in record { is = as-history ∙ k .is; editor = read-is .1; history = k .held }
 
-pub restore-is : (s rest : List ℕ) (e : Editor) (h : History) → isState s ≡ true → e ≡ editorIn s → rest ≡ drop editorSize s → h ≡ historySavedIn rest
-    → record { valid = true; editor = e; history = h } ≡ restored s
-unfolding historyIn
-restore-is s rest e h is q d p =
-    ap (λ (x : Editor). record { valid = true; editor = x; history = h }) q
-    ∙ ap (λ (x : History). record { valid = true; editor = editorIn s; history = x }) (p ∙ ap historySavedIn d)
-    ∙ sym (restored-state s is)
-
-pub restore-not : (s : List ℕ) (r : Restored) → isState s ≡ false → r ≡ nothing → r ≡ restored s
-restore-not s r f p = p ∙ sym (restored-other s f)
-
-pub valid-back : (r : Restored) (s : List ℕ) → r ≡ restored s → r .valid ≡ true → Back r s
-valid-back r s q v = by (isState s) refl
+-- such an editor and such a history are good, and the bytes have a state's length
+pub read-good : (e : Editor) (h : History) (s slots : List ℕ) → Read e h s slots → goodState e h slots ≡ true
+read-good e h s slots b = same (b .editor) (b .history) ∙ good-saved-parts s slots (b .is) .1
   where
-    by : (t : Bool) → isState s ≡ t → Back r s
-    by true h =
-        let z = q ∙ restored-state s h in
-        record { is = h; editor = ap (λ (x : Restored). x .editor) z; history = ap (λ (x : Restored). x .history) z }
-    by false h = absurd (true-is-not-false (sym v ∙ ap (λ (x : Restored). x .valid) (q ∙ restored-other s h)))
+    same : {e f : Editor} {h k : History} → e ≡ f → h ≡ k → goodState e h slots ≡ goodState f k slots
+    same p q = cc
 
-pub not-valid : (r : Restored) (s : List ℕ) → r ≡ restored s → r .valid ≡ false → isState s ≡ false
-not-valid r s q v = by (isState s) refl
-  where
-    by : (t : Bool) → isState s ≡ t → t ≡ false
-    by true h = sym (ap (λ (x : Restored). x .valid) (q ∙ restored-state s h)) ∙ v
-    by false h = refl
+pub read-size : (e : Editor) (h : History) (s slots : List ℕ) → Read e h s slots → length s ≡ stateSize
+read-size e h s slots b = good-saved-parts s slots (b .is) .0 .size
+
+-- what was saved of a good state is restored
+pub restored-saved : (e : Editor) (h : History) (slots : List ℕ) → length (e .line) ≡ 255 → goodState e h slots ≡ true
+    → (restoredEditor (take editorSize (savedOf e h)) ≡ record { valid = true; editor = e }) × (restoredHistory (drop editorSize (savedOf e h)) slots ≡ Good h)
+restored-saved e h slots l g =
+    let p = good-parts e h slots g in (
+      ap restoredEditor (front-saved e h l) ∙ editor-restored e l (p .0),
+      ap (λ (x : List ℕ). restoredHistory x slots) (rest-saved e h l) ∙ history-restored h slots (p .1),
+    )

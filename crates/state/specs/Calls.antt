@@ -6,15 +6,16 @@ use mathlib.Core.List.{List}
 use lib.Dec.{ltb}
 use lib.ListN.{length}
 use Rattle.buffer.specs.Write.{over}
+use Rattle.history.specs.Slots.{slotsSize}
 use Rattle.history.specs.Journal.{Journal, noEntries, offered, recordOf, slotsOf as journalSlots, journalOf}
 use Rattle.history.specs.Answer.{addAnswer, slotsBy}
 use Rattle.history.specs.declared.adding.Added.{Added}
 use Rattle.history.specs.declared.adding.Added.the-variants.{Done, BadState as BadHistory, TooLong, IllFormed}
 use Rattle.editor.specs.declared.drawing.Pressed.{Pressed}
-use Rattle.editor.specs.Line.{freshEditor, goodLine}
+use Rattle.editor.specs.Line.{freshEditor}
 use Rattle.editor.specs.Turns.{State, Turn, turnOf}
 use Rattle.editor.specs.Answer.{stateOf, editorOf, historyOf, slotsOf, keyAnswer, refused}
-use Rattle.state.specs.State.{stateSize, savedOf, isState, editorIn, historyIn, goodSaved}
+use Rattle.state.specs.State.{stateSize, savedOf, editorIn, historyIn, goodSaved}
 use Rattle.state.specs.declared.calls.Begun.{Begun}
 use Rattle.state.specs.declared.calls.Begun.the-variants.{Ready, NoRoom, BadState}
 
@@ -23,9 +24,9 @@ use Rattle.state.specs.declared.calls.Begun.the-variants.{Ready, NoRoom,
 unfoldable pub beginAnswer : ℕ → ℕ → Begun
 beginAnswer state slots =
     cond (ltb state stateSize) (NoRoom stateSize)
-    (cond (ltb slots 25600) (NoRoom 25600)
+    (cond (ltb slots slotsSize) (NoRoom slotsSize)
     (cond (ltb stateSize state) BadState
-    (cond (ltb 25600 slots) BadState
+    (cond (ltb slotsSize slots) BadState
     Ready)))
 
 abbrev pub isReady : Begun → Bool
@@ -67,10 +68,9 @@ pub record SavedKey (state slots prompt : List ℕ) (byte : ℕ) (line screen : 
   pub given : line′ ≡ cond (refused told) line (over (turnIn state slots prompt byte .submitted) line)
   pub shown : screen′ ≡ cond (refused told) screen (over (turnIn state slots prompt byte .screen) screen)
 
--- a text added to the history of a saved state, whose line is to be good too
+-- a text added to the history of a saved state, of which all is to be good
 unfoldable pub savedAnswer : List ℕ → List ℕ → List ℕ → Added
-savedAnswer state slots text =
-    cond (isState state) (cond (goodLine (editorIn state)) (addAnswer (historyIn state) slots text) BadHistory) BadHistory
+savedAnswer state slots text = addAnswer (goodSaved state slots) text
 
 -- a refusal keeps every byte; otherwise the history is saved
 abbrev pub stateBy : Added → List ℕ → Journal → List ℕ

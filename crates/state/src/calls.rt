@@ -2,13 +2,15 @@
 ghost use mathlib.Core.Path.{_≡_};
 ghost use Rattle.state.specs.Calls.{Beginning, SavedKey, SavedAdd};
 use super::saving::SIZE;
-use super::saving::restore;
+use super::saving::editor_in;
+use super::saving::history_in;
 use super::saving::save;
 use editor::Editor;
 use editor::Pressed;
 use history::Added;
 use history::History;
-use history::add_command;
+use history::Restored;
+use history::add_tested;
 
 // What beginning a session answers.
 pub enum Begun {
@@ -26,13 +28,13 @@ pub fn begin(state: &mut [u8], slots: &mut [u8]) -> Begun
     if state.len() < SIZE {
         return Begun::NoRoom(SIZE);
     }
-    if slots.len() < 25600 {
-        return Begun::NoRoom(25600);
+    if slots.len() < History::SLOTS {
+        return Begun::NoRoom(History::SLOTS);
     }
     if SIZE < state.len() {
         return Begun::BadState;
     }
-    if 25600 < slots.len() {
+    if History::SLOTS < slots.len() {
         return Begun::BadState;
     }
     let history = History::fresh_in(slots);
@@ -51,12 +53,16 @@ pub fn press(
 ) -> Pressed
     ensures { λ r. ⌜ SavedKey (now (state .entry)) (now (slots .entry)) (now (prompt .entry)) byte (now (line .entry)) (now (screen .entry)) r (now (state .exit)) (now (slots .exit)) (now (line .exit)) (now (screen .exit)) ⌝ }
 {
-    let session = restore(state);
-    let editor = session.editor;
-    if !session.valid {
+    let read = editor_in(state);
+    let editor = read.editor;
+    if !read.valid {
         return Pressed::BadState;
     }
-    let pressed = editor.key(session.history, slots, prompt, byte, line, screen);
+    let held = history_in(state, slots);
+    let Restored::Good(history) = held else {
+        return Pressed::BadState;
+    };
+    let pressed = editor.key_tested(history, slots, prompt, byte, line, screen);
     let told = pressed.answer;
     if told.is_refusal() {
         return told;
@@ -69,15 +75,16 @@ pub fn press(
 pub fn add(state: &mut [u8], slots: &mut [u8], text: &[u8]) -> Added
     ensures { λ r. ⌜ SavedAdd (now (state .entry)) (now (slots .entry)) (now (text .entry)) r (now (state .exit)) (now (slots .exit)) ⌝ }
 {
-    let session = restore(state);
-    let editor = session.editor;
-    if !session.valid {
+    let read = editor_in(state);
+    let editor = read.editor;
+    if !read.valid {
         return Added::BadState;
     }
-    if !editor.is_good() {
+    let held = history_in(state, slots);
+    let Restored::Good(history) = held else {
         return Added::BadState;
-    }
-    let adding = add_command(session.history, slots, text);
+    };
+    let adding = add_tested(history, slots, text);
     let told = adding.answer;
     if let Added::Done = told {
         save(editor, adding.history, state);

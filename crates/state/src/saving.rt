@@ -1,9 +1,9 @@
 // A state as bytes: what the editor saves of itself, then what the history does.
 ghost use mathlib.Core.Path.{_≡_};
-ghost use lib.ListN.{length};
-ghost use Rattle.history.specs.Saved.{Fits as HistoryFits};
-ghost use Rattle.editor.specs.Saved.{Fits as EditorFits};
-ghost use Rattle.state.specs.State.{stateSize, savedOf, nothing, restored};
+ghost use lib.ListN.{length, take, drop};
+ghost use Rattle.history.specs.Saved.{restored as restoredHistory, Fits as HistoryFits};
+ghost use Rattle.editor.specs.Saved.{savedSize as editorSize, restored as restoredEditor, Fits as EditorFits};
+ghost use Rattle.state.specs.State.{stateSize, savedOf};
 use buffer::part;
 use buffer::rest;
 use editor::Editor;
@@ -12,41 +12,18 @@ use history::History;
 // How many bytes a state has.
 pub const SIZE: usize = Editor::SAVED + History::SAVED;
 
-// What bytes hold. If they are no state, editor and history are fresh.
-pub struct Restored {
-    pub valid: bool,
-    pub editor: Editor,
-    pub history: History,
+// The editor that the first bytes hold, if they are one.
+pub fn editor_in(state: &[u8]) -> editor::Restored
+    ensures { λ r. ⌜ r ≡ restoredEditor (take editorSize (now (state .entry))) ⌝ }
+{
+    Editor::restored(part(state, 0, Editor::SAVED))
 }
 
-// What bytes that are no state hold.
-fn nothing() -> Restored
-    ensures { λ r. ⌜ r ≡ nothing ⌝ }
+// The history that the bytes after the editor's hold, if they are one with these slots.
+pub fn history_in(state: &[u8], slots: &[u8]) -> history::Restored
+    ensures { λ r. ⌜ r ≡ restoredHistory (drop editorSize (now (state .entry))) (now (slots .entry)) ⌝ }
 {
-    Restored {
-        valid: false,
-        editor: Editor::fresh(),
-        history: History::fresh(),
-    }
-}
-
-// The editor and the history that bytes hold, if they are a state.
-pub fn restore(state: &[u8]) -> Restored
-    ensures { λ r. ⌜ r ≡ restored (now (state .entry)) ⌝ }
-{
-    if state.len() != SIZE {
-        return nothing();
-    }
-    let read = Editor::restored(part(state, 0, Editor::SAVED));
-    let editor = read.editor;
-    if !read.valid {
-        return nothing();
-    }
-    Restored {
-        valid: true,
-        editor,
-        history: History::saved_in(rest(state, Editor::SAVED)),
-    }
+    History::restored(rest(state, Editor::SAVED), slots)
 }
 
 // Writes editor and history over a state.

@@ -1,81 +1,103 @@
 -- `state::calls::add` meets its contract.
-use Rattle.state.proofs.Savings.{state-has, valid-back, not-valid}
-use Rattle.state.proofs.Answering.{add-other, add-bad-line, add-done, add-fits, add-refused}
+use Rattle.state.proofs.Savings.{no-editor, no-history, both-read, read-size}
+use Rattle.state.proofs.Answering.{add-other, history-good, add-done, add-fits, add-refused}
 use borrow.Author.Tests.{not-true, not-false}
-use mathlib.Core.Path.{sym, _∙_}
 use borrow.Author.Needs.{needs}
 use Rattle.state.proofs.calls.add.Statement.{statement}
 use Rattle.state.proofs.calls.add.Tie as tie
 
-restore-requires : tie.Need-restore-requires
-restore-requires c κs = search needs
+editor-in-requires : tie.Need-editor-in-requires
+editor-in-requires c κs = search needs
 
 same-length : tie.Need-same-length
 same-length c = search needs
 
 returns : tie.Need-returns
-returns c = add-other (c .before .before .before .before .before .before .before .before .args .state .now) (c .before .before .before .before .before .before .before .before .args .slots .now) (c .before .before .before .before .before .before .before .before .args .text .now) (not-valid _ _ (c .before .before .before .restore .ensures) (not-true (c .before .before .before .restore .result .valid) (c .if1 .taken)))
+returns c =
+    let a = c .before .before .before .before .before .before .before .before .args in
+    let bad = no-editor (a .state .now) (a .slots .now) (c .before .before .before .editor-in .result) (c .before .before .before .editor-in .ensures) (not-true (c .before .before .before .editor-in .result .valid) (c .if1 .taken)) in
+    add-other (a .state .now) (a .slots .now) (a .text .now) bad
 
-is-good-requires : tie.Need-is-good-requires
-is-good-requires c κs = search needs
+history-in-requires : tie.Need-history-in-requires
+history-in-requires c κs = search needs
 
-same-length-2 : tie.Need-same-length-2
-same-length-2 c = search needs
-
-returns-2 : tie.Need-returns-2
-returns-2 c =
-    let back = valid-back _ _ (c .before .before .before .before .before .restore .ensures) (not-false (c .before .before .before .before .before .restore .result .valid) (c .before .before .if1 .left)) in
-    add-bad-line (c .before .before .before .before .before .before .before .before .before .before .args .state .now) (c .before .before .before .before .before .before .before .before .before .before .args .slots .now) (c .before .before .before .before .before .before .before .before .before .before .args .text .now) _ back (sym (c .before .is-good .ensures) ∙ not-true (c .before .is-good .result) (c .if2 .taken))
-
-add-command-requires : tie.Need-add-command-requires
-add-command-requires c κs = search needs
+enum-known-held : tie.Need-enum-known-held
+enum-known-held c = search needs
 
 enum-told : tie.Need-enum-told
 enum-told c = search needs
 
-save-requires : tie.Need-save-requires
-save-requires c κs =
-    let back = valid-back _ _ (c .before .before .before .before .before .before .before .before .before .before .before .before .restore .ensures) (not-false (c .before .before .before .before .before .before .before .before .before .before .before .before .restore .result .valid) (c .before .before .before .before .before .before .before .before .before .if1 .left)) in
-    (state-has (c .before .before .before .before .before .before .before .before .before .before .before .before .before .before .before .before .before .args .state .now) (back .is) .size, add-fits (c .before .before .before .before .before .before .before .before .before .before .before .before .before .before .before .before .before .args .state .now) (c .before .before .before .before .before .before .before .before .before .before .before .before .before .before .before .before .before .args .slots .now) (c .before .before .before .before .before .before .before .before .before .before .before .before .before .before .before .before .before .args .text .now) _ back (sym (c .before .before .before .before .before .before .before .before .is-good .ensures) ∙ not-false (c .before .before .before .before .before .before .before .before .is-good .result) (c .before .before .before .before .before .before .before .if2 .left)) _ _ _ (c .before .before .before .before .before .add-command .ensures) (c .before .enum-told .given .1))
+same-length-2 : tie.Need-same-length-2
+same-length-2 c = search needs
 
 same-length-3 : tie.Need-same-length-3
 same-length-3 c = search needs
 
+returns-2 : tie.Need-returns-2
+returns-2 c =
+    let a = c .before .before .before .before .before .before .before .before .before .before .before .before .before .args in
+    let bad = no-history (a .state .now) (a .slots .now) (c .before .before .before .before .before .before .before .before .editor-in .result) (c .before .before .before .before .before .before .before .before .editor-in .ensures) (not-false (c .before .before .before .before .before .before .before .before .editor-in .result .valid) (c .before .before .before .before .before .if1 .left)) _ (c .before .before .history-in .ensures) (c .enum-told .given .1) in
+    add-other (a .state .now) (a .slots .now) (a .text .now) bad
+
+add-tested-requires : tie.Need-add-tested-requires
+add-tested-requires c κs =
+    let a = c .before .before .before .before .before .before .before .before .before .before .before .before .before .before .before .args in
+    let read = both-read (a .state .now) (a .slots .now) (c .before .before .before .before .before .before .before .before .before .before .editor-in .result) (c .before .before .before .before .before .before .before .before .before .before .editor-in .ensures) (not-false (c .before .before .before .before .before .before .before .before .before .before .editor-in .result .valid) (c .before .before .before .before .before .before .before .if1 .left)) _ _ (c .before .before .before .before .history-in .ensures) (c .before .before .held .given .1) in
+    history-good (a .state .now) (a .slots .now) (a .text .now) _ _ read
+
+enum-told-2 : tie.Need-enum-told-2
+enum-told-2 c = search needs
+
+save-requires : tie.Need-save-requires
+save-requires c κs =
+    let a = c .before .before .before .before .before .before .before .before .before .before .before .before .before .before .before .before .before .before .before .before .before .args in
+    let read = both-read (a .state .now) (a .slots .now) (c .before .before .before .before .before .before .before .before .before .before .before .before .before .before .before .before .editor-in .result) (c .before .before .before .before .before .before .before .before .before .before .before .before .before .before .before .before .editor-in .ensures) (not-false (c .before .before .before .before .before .before .before .before .before .before .before .before .before .before .before .before .editor-in .result .valid) (c .before .before .before .before .before .before .before .before .before .before .before .before .before .if1 .left)) _ _ (c .before .before .before .before .before .before .before .before .before .before .history-in .ensures) (c .before .before .before .before .before .before .before .before .held .given .1) in
+    let fits = add-fits (a .state .now) (a .slots .now) (a .text .now) _ _ read _ _ _ (c .before .before .before .before .before .add-tested .ensures) in
+    (read-size _ _ (a .state .now) (a .slots .now) read, fits)
+
 same-length-4 : tie.Need-same-length-4
 same-length-4 c = search needs
-
-returns-3 : tie.Need-returns-3
-returns-3 c =
-    let back = valid-back _ _ (c .before .before .before .before .before .before .before .before .before .before .before .before .before .before .before .restore .ensures) (not-false (c .before .before .before .before .before .before .before .before .before .before .before .before .before .before .before .restore .result .valid) (c .before .before .before .before .before .before .before .before .before .before .before .before .if1 .left)) in
-    add-done (c .before .before .before .before .before .before .before .before .before .before .before .before .before .before .before .before .before .before .before .before .args .state .now) (c .before .before .before .before .before .before .before .before .before .before .before .before .before .before .before .before .before .before .before .before .args .slots .now) (c .before .before .before .before .before .before .before .before .before .before .before .before .before .before .before .before .before .before .before .before .args .text .now) _ back (sym (c .before .before .before .before .before .before .before .before .before .before .before .is-good .ensures) ∙ not-false (c .before .before .before .before .before .before .before .before .before .before .before .is-good .result) (c .before .before .before .before .before .before .before .before .before .before .if2 .left)) _ _ _ (c .before .before .before .before .before .before .before .before .add-command .ensures) _ (c .before .before .before .before .enum-told .given .1) (c .before .before .save .ensures)
 
 same-length-5 : tie.Need-same-length-5
 same-length-5 c = search needs
 
+returns-3 : tie.Need-returns-3
+returns-3 c =
+    let a = c .before .before .before .before .before .before .before .before .before .before .before .before .before .before .before .before .before .before .before .before .before .before .before .before .args in
+    let read = both-read (a .state .now) (a .slots .now) (c .before .before .before .before .before .before .before .before .before .before .before .before .before .before .before .before .before .before .before .editor-in .result) (c .before .before .before .before .before .before .before .before .before .before .before .before .before .before .before .before .before .before .before .editor-in .ensures) (not-false (c .before .before .before .before .before .before .before .before .before .before .before .before .before .before .before .before .before .before .before .editor-in .result .valid) (c .before .before .before .before .before .before .before .before .before .before .before .before .before .before .before .before .if1 .left)) _ _ (c .before .before .before .before .before .before .before .before .before .before .before .before .before .history-in .ensures) (c .before .before .before .before .before .before .before .before .before .before .before .held .given .1) in
+    add-done (a .state .now) (a .slots .now) (a .text .now) _ _ read _ _ _ (c .before .before .before .before .before .before .before .before .add-tested .ensures) _ (c .before .before .before .before .enum-told2 .given .1) (c .before .before .save .ensures)
+
 same-length-6 : tie.Need-same-length-6
 same-length-6 c = search needs
 
+same-length-7 : tie.Need-same-length-7
+same-length-7 c = search needs
+
 returns-4 : tie.Need-returns-4
 returns-4 c =
-    let back = valid-back _ _ (c .before .before .before .before .before .before .before .before .before .before .restore .ensures) (not-false (c .before .before .before .before .before .before .before .before .before .before .restore .result .valid) (c .before .before .before .before .before .before .before .if1 .left)) in
-    add-refused (c .before .before .before .before .before .before .before .before .before .before .before .before .before .before .before .args .state .now) (c .before .before .before .before .before .before .before .before .before .before .before .before .before .before .before .args .slots .now) (c .before .before .before .before .before .before .before .before .before .before .before .before .before .before .before .args .text .now) _ back (sym (c .before .before .before .before .before .before .is-good .ensures) ∙ not-false (c .before .before .before .before .before .before .is-good .result) (c .before .before .before .before .before .if2 .left)) _ _ _ (c .before .before .before .add-command .ensures) (c .match .keys2)
+    let a = c .before .before .before .before .before .before .before .before .before .before .before .before .before .before .before .before .before .before .before .args in
+    let read = both-read (a .state .now) (a .slots .now) (c .before .before .before .before .before .before .before .before .before .before .before .before .before .before .editor-in .result) (c .before .before .before .before .before .before .before .before .before .before .before .before .before .before .editor-in .ensures) (not-false (c .before .before .before .before .before .before .before .before .before .before .before .before .before .before .editor-in .result .valid) (c .before .before .before .before .before .before .before .before .before .before .before .if1 .left)) _ _ (c .before .before .before .before .before .before .before .before .history-in .ensures) (c .before .before .before .before .before .before .held .given .1) in
+    add-refused (a .state .now) (a .slots .now) (a .text .now) _ _ read _ _ _ (c .before .before .before .add-tested .ensures) (c .match2 .keys2)
 
 pub add-spec : {M : Type 1} → statement M
 add-spec =
     tie.close
     (tie.spec
-    restore-requires
+    editor-in-requires
     same-length
     returns
-    is-good-requires
-    same-length-2
-    returns-2
-    add-command-requires
+    history-in-requires
+    enum-known-held
     enum-told
-    save-requires
+    same-length-2
     same-length-3
+    returns-2
+    add-tested-requires
+    enum-told-2
+    save-requires
     same-length-4
-    returns-3
     same-length-5
+    returns-3
     same-length-6
+    same-length-7
     returns-4)

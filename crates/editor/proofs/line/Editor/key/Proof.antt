@@ -1,8 +1,6 @@
 -- `editor::line::Editor::key` meets its contract.
 use borrow.Author.Needs.{needs}
-use Rattle.editor.proofs.Pressings.{bad-state, bad-prompt, short-line, pressed, prompt-short}
-use Rattle.editor.proofs.States.{in-limit, past-limit}
-use Rattle.editor.specs.Line.{limit}
+use Rattle.editor.proofs.Pressings.{bad-state}
 use borrow.Author.Tests.{not-true, not-false}
 use mathlib.Core.Path.{sym, _∙_}
 use Rattle.editor.proofs.line.Editor.key.Statement.{statement}
@@ -15,38 +13,25 @@ same-length : tie.Need-same-length
 same-length c = search needs
 
 returns : tie.Need-returns
-returns c = bad-state (c .before .before .before .before .before .before .before .args .self) (c .before .before .before .before .before .before .before .args .history) (c .before .before .before .before .before .before .before .args .slots .now) (c .before .before .before .before .before .before .before .args .prompt .now) (c .before .before .before .before .before .before .before .args .byte) (c .before .before .before .before .before .before .before .args .line .now) (c .before .before .before .before .before .before .before .args .screen .now) (sym (c .before .is-good-with .ensures) ∙ not-true (c .before .is-good-with .result) (c .if1 .taken))
+returns c =
+    let a = c .before .before .before .before .before .before .before .args in
+    let bad = sym (c .before .is-good-with .ensures) ∙ not-true (c .before .is-good-with .result) (c .if1 .taken) in
+    bad-state (a .self) (a .history) (a .slots .now) (a .prompt .now) (a .byte) (a .line .now) (a .screen .now) bad
 
-is-good-prompt-requires : tie.Need-is-good-prompt-requires
-is-good-prompt-requires c κs = search needs
+key-tested-requires : tie.Need-key-tested-requires
+key-tested-requires c κs = sym (c .before .before .before .before .is-good-with .ensures) ∙ not-false (c .before .before .before .before .is-good-with .result) (c .before .before .before .if1 .left)
 
 same-length-2 : tie.Need-same-length-2
 same-length-2 c = search needs
 
-returns-2 : tie.Need-returns-2
-returns-2 c = bad-prompt (c .before .before .before .before .before .before .before .before .before .args .self) (c .before .before .before .before .before .before .before .before .before .args .history) (c .before .before .before .before .before .before .before .before .before .args .slots .now) (c .before .before .before .before .before .before .before .before .before .args .prompt .now) (c .before .before .before .before .before .before .before .before .before .args .byte) (c .before .before .before .before .before .before .before .before .before .args .line .now) (c .before .before .before .before .before .before .before .before .before .args .screen .now) (sym (c .before .before .before .is-good-with .ensures) ∙ not-false (c .before .before .before .is-good-with .result) (c .before .before .if1 .left)) (sym (c .before .is-good-prompt .ensures) ∙ not-true (c .before .is-good-prompt .result) (c .if2 .taken))
-
 same-length-3 : tie.Need-same-length-3
 same-length-3 c = search needs
-
-returns-3 : tie.Need-returns-3
-unfolding limit
-returns-3 c = short-line (c .before .before .before .before .before .before .before .before .before .before .args .self) (c .before .before .before .before .before .before .before .before .before .before .args .history) (c .before .before .before .before .before .before .before .before .before .before .args .slots .now) (c .before .before .before .before .before .before .before .before .before .before .args .prompt .now) (c .before .before .before .before .before .before .before .before .before .before .args .byte) (c .before .before .before .before .before .before .before .before .before .before .args .line .now) (c .before .before .before .before .before .before .before .before .before .before .args .screen .now) (sym (c .before .before .before .before .is-good-with .ensures) ∙ not-false (c .before .before .before .before .is-good-with .result) (c .before .before .before .if1 .left)) (sym (c .before .before .is-good-prompt .ensures) ∙ not-false (c .before .before .is-good-prompt .result) (c .before .if2 .left)) (in-limit _ (c .if3 .taken))
-
-press-requires : tie.Need-press-requires
-press-requires c κs = ((sym (c .before .before .before .before .before .before .before .is-good-with .ensures) ∙ not-false (c .before .before .before .before .before .before .before .is-good-with .result) (c .before .before .before .before .before .before .if1 .left)), (prompt-short _ (sym (c .before .before .before .before .before .is-good-prompt .ensures) ∙ not-false (c .before .before .before .before .before .is-good-prompt .result) (c .before .before .before .before .if2 .left)), past-limit _ (c .before .before .before .if3 .left)))
 
 same-length-4 : tie.Need-same-length-4
 same-length-4 c = search needs
 
-same-length-5 : tie.Need-same-length-5
-same-length-5 c = search needs
-
-same-length-6 : tie.Need-same-length-6
-same-length-6 c = search needs
-
-returns-4 : tie.Need-returns-4
-returns-4 c = pressed (c .before .before .before .before .before .before .before .before .before .before .before .before .before .before .before .before .before .before .before .before .args .self) (c .before .before .before .before .before .before .before .before .before .before .before .before .before .before .before .before .before .before .before .before .args .history) (c .before .before .before .before .before .before .before .before .before .before .before .before .before .before .before .before .before .before .before .before .args .slots .now) (c .before .before .before .before .before .before .before .before .before .before .before .before .before .before .before .before .before .before .before .before .args .prompt .now) (c .before .before .before .before .before .before .before .before .before .before .before .before .before .before .before .before .before .before .before .before .args .byte) (c .before .before .before .before .before .before .before .before .before .before .before .before .before .before .before .before .before .before .before .before .args .line .now) (c .before .before .before .before .before .before .before .before .before .before .before .before .before .before .before .before .before .before .before .before .args .screen .now) (sym (c .before .before .before .before .before .before .before .before .before .before .before .before .before .before .is-good-with .ensures) ∙ not-false (c .before .before .before .before .before .before .before .before .before .before .before .before .before .before .is-good-with .result) (c .before .before .before .before .before .before .before .before .before .before .before .before .before .if1 .left)) (sym (c .before .before .before .before .before .before .before .before .before .before .before .before .is-good-prompt .ensures) ∙ not-false (c .before .before .before .before .before .before .before .before .before .before .before .before .is-good-prompt .result) (c .before .before .before .before .before .before .before .before .before .before .before .if2 .left)) (past-limit _ (c .before .before .before .before .before .before .before .before .before .before .if3 .left)) _ _ _ _ (c .before .before .before .before .before .before .press .ensures)
+returns-2 : tie.Need-returns-2
+returns-2 c = c .before .before .before .before .before .before .key-tested .ensures
 
 pub key-spec : {M : Type 1} → statement M
 key-spec =
@@ -55,13 +40,8 @@ key-spec =
     is-good-with-requires
     same-length
     returns
-    is-good-prompt-requires
+    key-tested-requires
     same-length-2
-    returns-2
     same-length-3
-    returns-3
-    press-requires
     same-length-4
-    same-length-5
-    same-length-6
-    returns-4)
+    returns-2)

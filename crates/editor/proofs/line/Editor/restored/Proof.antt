@@ -1,28 +1,50 @@
 -- `editor::line::Editor::restored` meets its contract.
-use Rattle.editor.proofs.Saved.{restored-is, restored-not, saved-size}
-use Rattle.editor.specs.declared.line.Editor.{Editor}
-use Rattle.editor.specs.declared.saving.Restored.{Restored}
-use mathlib.Core.Bool.{true, false}
-use mathlib.Core.Path.{_≡_, sym, ap, _∙_}
+use Rattle.editor.proofs.Saved.{head-size, no-head, bad-line, line-restored}
+use borrow.Author.Tests.{not-true, not-false}
+use mathlib.Core.Path.{sym, _∙_}
 use borrow.Author.Needs.{needs}
 use Rattle.editor.proofs.line.Editor.restored.Statement.{statement}
 use Rattle.editor.proofs.line.Editor.restored.Tie as tie
 
-is-saved-requires : tie.Need-is-saved-requires
-is-saved-requires c κs = search needs
+has-mode-requires : tie.Need-has-mode-requires
+has-mode-requires c κs = search needs
 
-saved-in-requires : tie.Need-saved-in-requires
-saved-in-requires c κs = saved-size _ (sym (c .before .is-saved .ensures) ∙ c .if1 .taken)
+nothing-requires : tie.Need-nothing-requires
+nothing-requires c κs = search needs
 
 returns : tie.Need-returns
-returns c = ap (λ (x : Editor). record { valid = true; editor = x }) (c .saved-in .ensures) ∙ sym (restored-is (c .before .before .before .before .args .bytes .now) (sym (c .before .before .is-saved .ensures) ∙ c .before .if1 .taken))
+returns c = no-head (c .before .before .before .before .args .bytes .now) _ (sym (c .before .before .has-mode .ensures) ∙ not-true (c .before .before .has-mode .result) (c .before .if1 .taken)) (c .nothing .ensures)
 
-fresh-requires : tie.Need-fresh-requires
-fresh-requires c κs = search needs
+saved-in-requires : tie.Need-saved-in-requires
+saved-in-requires c κs = head-size _ (sym (c .before .has-mode .ensures) ∙ not-false (c .before .has-mode .result) (c .if1 .left))
+
+is-good-requires : tie.Need-is-good-requires
+is-good-requires c κs = search needs
+
+nothing-requires-2 : tie.Need-nothing-requires-2
+nothing-requires-2 c κs = search needs
 
 returns-2 : tie.Need-returns-2
-returns-2 c = ap (λ (x : Editor). record { valid = false; editor = x }) (c .fresh .ensures) ∙ sym (restored-not (c .before .before .before .before .args .bytes .now) (sym (c .before .before .is-saved .ensures) ∙ c .before .if1 .left))
+returns-2 c =
+    let head = sym (c .before .before .before .before .before .has-mode .ensures) ∙ not-false (c .before .before .before .before .before .has-mode .result) (c .before .before .before .before .if1 .left) in
+    let bad = sym (c .before .before .is-good .ensures) ∙ not-true (c .before .before .is-good .result) (c .before .if2 .taken) in
+    bad-line (c .before .before .before .before .before .before .before .args .bytes .now) _ _ head (c .before .before .before .saved-in .ensures) bad (c .nothing2 .ensures)
+
+returns-3 : tie.Need-returns-3
+returns-3 c =
+    let head = sym (c .before .before .before .before .has-mode .ensures) ∙ not-false (c .before .before .before .before .has-mode .result) (c .before .before .before .if1 .left) in
+    let is = sym (c .before .is-good .ensures) ∙ not-false (c .before .is-good .result) (c .if2 .left) in
+    line-restored (c .before .before .before .before .before .before .args .bytes .now) _ head (c .before .before .saved-in .ensures) is
 
 pub restored-spec : {M : Type 1} → statement M
 restored-spec =
-    tie.close (tie.spec is-saved-requires saved-in-requires returns fresh-requires returns-2)
+    tie.close
+    (tie.spec
+    has-mode-requires
+    nothing-requires
+    returns
+    saved-in-requires
+    is-good-requires
+    nothing-requires-2
+    returns-2
+    returns-3)

@@ -1,0 +1,36 @@
+-- `history::stepping::History::restored` meets its contract.
+use borrow.Author.Needs.{needs}
+use borrow.Author.Tests.{not-true, not-false}
+use mathlib.Core.Path.{sym, _∙_}
+use Rattle.history.proofs.Saved.{wrong-length, read-bad, read-good}
+use Rattle.history.proofs.stepping.History.restored.Statement.{statement}
+use Rattle.history.proofs.stepping.History.restored.Tie as tie
+
+returns : tie.Need-returns
+returns c = wrong-length (c .before .before .before .args .bytes .now) (c .before .before .before .args .slots .now) (c .if1 .taken)
+
+byte-at-requires : tie.Need-byte-at-requires
+byte-at-requires c κs = search needs
+
+byte-at-requires-2 : tie.Need-byte-at-requires-2
+byte-at-requires-2 c κs = search needs
+
+is-good-requires : tie.Need-is-good-requires
+is-good-requires c κs = search needs
+
+returns-2 : tie.Need-returns-2
+returns-2 c =
+    let a = c .before .before .before .before .before .before .before .args in
+    let bad = sym (c .before .is-good .ensures) ∙ not-true (c .before .is-good .result) (c .if2 .taken) in
+    read-bad (a .bytes .now) (a .slots .now) _ _ (c .before .before .before .before .if1 .left) (c .before .before .before .byte-at .ensures .byte) (c .before .before .byte-at2 .ensures .byte) bad
+
+returns-3 : tie.Need-returns-3
+returns-3 c =
+    let a = c .before .before .before .before .before .before .before .args in
+    let is = sym (c .before .is-good .ensures) ∙ not-false (c .before .is-good .result) (c .if2 .left) in
+    read-good (a .bytes .now) (a .slots .now) _ _ (c .before .before .before .before .if1 .left) (c .before .before .before .byte-at .ensures .byte) (c .before .before .byte-at2 .ensures .byte) is
+
+pub restored-spec : {M : Type 1} → statement M
+restored-spec =
+    tie.close
+    (tie.spec returns byte-at-requires byte-at-requires-2 is-good-requires returns-2 returns-3)
