@@ -8,7 +8,7 @@ use Rattle.frame.specs.Framed.{frameFirst}
 use Rattle.words.specs.Tokens.{backslash}
 use Rattle.frame.specs.Series.{onFrame}
 use Rattle.quote.specs.Given.{goodWord, listed, judgeWords, Judged, bad, fine, onJudged}
-use Rattle.text.specs.Decoding.{decodeFirst, onDecoded, codesIn, wellFormedLength}
+use Rattle.text.specs.Decoding.{decodeFirst, onDecoded, codesIn, wellFormed}
 use Rattle.text.specs.declared.utf8.Decoded.{Decoded}
 use Rattle.quote.specs.Shown.{special, quoting, plain, shown}
 use Rattle.quote.specs.Answer.{quoteLine}
@@ -34,7 +34,7 @@ quietFirst s = quietOf (decodeFirst s)
 
 -- a well-formed word that is plain
 unfoldable pub plainWord : List ℕ → Bool
-plainWord w = cond (eqb (wellFormedLength w) (length w)) (plain (codesIn w)) false
+plainWord w = cond (wellFormed w) (plain (codesIn w)) false
 
 -- how many characters need `\` before them
 unfoldable pub specials : List ℕ → ℕ

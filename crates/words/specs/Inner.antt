@@ -3,11 +3,10 @@ use Prim.Native.Nat.{ℕ, zero, suc, _+_, _-_, _≤_, _<_}
 use mathlib.Core.Path.{_≡_}
 use mathlib.Core.Bool.{Bool, true, false, cond, not}
 use mathlib.Core.List.{List, [], _∷_, _++_}
-use lib.Dec.{ltb}
 use lib.ListN.{length, take, drop}
 use Rattle.buffer.specs.Write.{overAt}
 use Rattle.frame.specs.Text.{numberBytes}
-use Rattle.text.specs.Decoding.{codesIn, wellFormedLength}
+use Rattle.text.specs.Decoding.{codesIn, wellFormedLength, isIllFormed}
 use Rattle.words.specs.Answer.{written}
 use Rattle.words.specs.declared.role.Role.{Role}
 use Rattle.words.specs.declared.role.Role.the-variants.{Take, Escape, Toggle, Gap}
@@ -96,4 +95,4 @@ putBy line s Gap n out = headed (s .done) (s .word) out
 
 -- what measuring a line finds
 unfoldable pub measured : List ℕ → Measured
-measured line = cond (ltb (wellFormedLength line) (length line)) (Broken (wellFormedLength line)) (Needs (length (written line)))
+measured line = cond (isIllFormed line) (Broken (wellFormedLength line)) (Needs (length (written line)))
