@@ -20,8 +20,8 @@ unfoldable pub houseLine : List ℕ → List ℕ
 houseLine bytes = hexOf bytes ++ (LF ∷ [])
 
 -- whether the last byte is LF; an empty line has no last byte
-unfoldable pub ended : List ℕ → Bool
-ended line = eqb (getD line (length line - 1) 0) LF
+unfoldable pub endsInLF : List ℕ → Bool
+endsInLF line = eqb (getD line (length line - 1) 0) LF
 
 -- what stands before the last byte
 unfoldable pub digitsOf : List ℕ → List ℕ
@@ -39,7 +39,7 @@ readDigits digits room =
 
 -- what a line is, with room for so many bytes
 unfoldable pub readHouse : List ℕ → ℕ → House
-readHouse line room = cond (ended line) (readDigits (digitsOf line) room) Unended
+readHouse line room = cond (endsInLF line) (readDigits (digitsOf line) room) Unended
 
 -- only a frame is written
 abbrev pub leftBy : House → List ℕ → List ℕ → List ℕ

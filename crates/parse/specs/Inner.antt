@@ -17,7 +17,7 @@ use Rattle.tree.specs.declared.check.Checked.the-variants.{Good}
 use Rattle.tree.specs.declared.command.Place.{Place}
 use Rattle.tree.specs.declared.command.Found.{Found as Command}
 use Rattle.report.specs.declared.answer.Reported.{Reported}
-use Rattle.report.specs.declared.answer.Reported.the-variants.{Report as Whole, NoRoom as TooShort}
+use Rattle.report.specs.declared.answer.Reported.the-variants.{Report as AllWritten, NoRoom as TooShort}
 use Rattle.arguments.specs.Arguments.{Found}
 use Rattle.arguments.specs.Inner.{stored, toldOf, definitionsAt, foundOf, standOf, WellSplit}
 use Rattle.arguments.specs.declared.standing.Scan.{Scan}
@@ -133,7 +133,7 @@ abbrev pub numbered : ℕ → ℕ → Parsed
 numbered number n = cond (eqb number 0) (Report n) (faultAnswer number n)
 
 abbrev pub answeredBy : ℕ → Reported → Parsed
-answeredBy number (Whole n) = numbered number n
+answeredBy number (AllWritten n) = numbered number n
 answeredBy number (TooShort n) = NoRoom n
 
 -- an outcome told: the answer, and what is left in the buffer

@@ -14,8 +14,8 @@ use Rattle.quote.specs.Shown.{special, quoting, plain, shown}
 use Rattle.quote.specs.Answer.{quoteLine}
 use Rattle.quote.specs.declared.given.Item.{Item}
 use Rattle.quote.specs.declared.given.Item.the-variants.{Word, Bad as NoWord}
-use Rattle.quote.specs.declared.quoter.Measured.{Measured}
-use Rattle.quote.specs.declared.quoter.Measured.the-variants.{Needs, Bad}
+use Rattle.quote.specs.declared.quoter.LineSize.{LineSize}
+use Rattle.quote.specs.declared.quoter.LineSize.the-variants.{Needs, Bad}
 
 -- a word of n bytes: a good one with its length when it is shown
 abbrev pub itemOf : ℕ → List ℕ → Item
@@ -46,8 +46,8 @@ abbrev pub escapedBytes : Bool → List ℕ → List ℕ
 escapedBytes is bytes = cond is (backslash ∷ bytes) bytes
 
 -- what measuring finds: the length of the line, or the number of the first bad word
-unfoldable pub measured : List ℕ → Measured
-measured words = onJudged (judgeWords (listed words)) (λ n. Bad n) (λ ws. Needs (length (quoteLine ws)))
+unfoldable pub lineSizeOf : List ℕ → LineSize
+lineSizeOf words = onJudged (judgeWords (listed words)) (λ n. Bad n) (λ ws. Needs (length (quoteLine ws)))
 
 -- all words are good
 abbrev pub IsFine : Judged → Type 0

@@ -9,7 +9,7 @@ ghost use Rattle.quote.specs.Given.{listed, judgeWords};
 ghost use Rattle.quote.specs.Shown.{shown};
 ghost use Rattle.quote.specs.Joined.{gapBefore};
 ghost use Rattle.quote.specs.Answer.{lineOf, Quotation};
-ghost use Rattle.quote.specs.Inner.{measured, IsFine};
+ghost use Rattle.quote.specs.Inner.{lineSizeOf, IsFine};
 use super::given::Item;
 use super::given::word_at;
 use super::word::push_shown;
@@ -30,7 +30,7 @@ pub enum Quoted {
 }
 
 // What measuring words finds: the length of their line, or the number of the first bad word.
-enum Measured {
+enum LineSize {
     Needs(usize),
     Bad(usize),
 }
@@ -42,8 +42,8 @@ fn gap_size(n: usize) -> usize
     if n == 0 { 0 } else { 1 }
 }
 
-fn measure(words: &[u8]) -> Measured
-    ensures { λ r. ⌜ r ≡ measured (now (words .entry)) ⌝ }
+fn measure(words: &[u8]) -> LineSize
+    ensures { λ r. ⌜ r ≡ lineSizeOf (now (words .entry)) ⌝ }
 {
     let mut size = 0;
     let mut n = 0;
@@ -54,13 +54,13 @@ fn measure(words: &[u8]) -> Measured
             size: shown,
         } = word_at(words, at)
         else {
-            return Measured::Bad(n);
+            return LineSize::Bad(n);
         };
         size = size + gap_size(n) + shown;
         n += 1;
         at = at + 3 + length;
     }
-    Measured::Needs(size)
+    LineSize::Needs(size)
 }
 
 // Writes a word that n words precede at the place `at` and returns the place after.
@@ -102,8 +102,8 @@ pub fn quote(words: &[u8], out: &mut [u8]) -> Quoted
     ensures { λ r. ⌜ Quotation (now (words .entry)) (now (out .entry)) r (now (out .exit)) ⌝ }
 {
     match measure(words) {
-        Measured::Bad(number) => Quoted::BadWord(number),
-        Measured::Needs(needed) => {
+        LineSize::Bad(number) => Quoted::BadWord(number),
+        LineSize::Needs(needed) => {
             if 1024 < needed {
                 return Quoted::LineTooLong(if needed < 65535 { needed } else { 65535 });
             }

@@ -1,7 +1,7 @@
 // `run`: a line under a tree, in the order of the Rust's `handle_builtin_commands`, `run_cmd_bytes` and `execute_command`.
 use super::answer::Ran;
 use super::answer::called;
-use super::answer::ended;
+use super::answer::exited;
 use super::answer::shown;
 use super::builtin::Builtin;
 use super::builtin::builtin_of;
@@ -182,7 +182,7 @@ fn handle_builtin_commands<'a>(
     let trimmed = trim(line);
     match builtin_of(trimmed) {
         Builtin::Help => shown(0, show_available_commands(image, out)),
-        Builtin::Exit => ended(show_goodbye(out)),
+        Builtin::Exit => exited(show_goodbye(out)),
         Builtin::Clear => shown(0, show_clear(out)),
         Builtin::None => run_other(image, line, words, found, out),
     }

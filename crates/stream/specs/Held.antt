@@ -6,7 +6,7 @@ use mathlib.Core.List.{List, [], _∷_, _++_}
 use lib.Dec.{ltb, leb, eqb}
 use lib.ListN.{length, take, drop}
 use Rattle.buffer.specs.Write.{over, overAt}
-use Rattle.frame.specs.House.{ended}
+use Rattle.frame.specs.House.{endsInLF}
 use Rattle.editor.specs.Answer.{stateOf}
 use Rattle.session.specs.Prints.{Printed, badLine, linesOf}
 use Rattle.session.specs.Lines.{Standing, Course}
@@ -69,7 +69,7 @@ pub record Sound (s : Stream) (line image slots : List ℕ) : Type 0 where
   pub held : s .held < lineRoom
   pub keys : s .keys ≤ lineRoom
   pub early : s .over ≡ false → ltb (s .next) (s .keys) ≡ false → s .session .lines < 65535
-  pub unended : ended (take (s .held) line) ≡ false
+  pub unended : endsInLF (take (s .held) line) ≡ false
 
 -- bytes put after those that are held: how many up to one that ends the line, and whether there is one
 unfoldable pub reach : ℕ → List ℕ → ℕ

@@ -16,7 +16,7 @@ use Rattle.words.specs.declared.tokenizer.Measured.the-variants.{Needs, 
 use Rattle.words.specs.declared.step.Step.{Step}
 use Rattle.words.specs.declared.step.Step.the-variants.{Go, IllFormed}
 use Rattle.text.specs.Unicode.{encodeAll}
-use Rattle.text.specs.Apart.{ended}
+use Rattle.text.specs.Apart.{unlessEmpty}
 use Rattle.words.specs.Tokens.{roleOf, tokensFrom}
 
 -- the words still to come after characters that do what the role says
@@ -24,7 +24,7 @@ abbrev pub doneBy : Role → Bool → List ℕ → List ℕ → List ℕ → Lis
 doneBy Take quotes word run rest = tokensFrom (word ++ run) quotes false rest
 doneBy Escape quotes word run rest = tokensFrom word quotes true rest
 doneBy Toggle quotes word run rest = tokensFrom word (not quotes) false rest
-doneBy Gap quotes word run rest = ended word (tokensFrom [] quotes false rest)
+doneBy Gap quotes word run rest = unlessEmpty word (tokensFrom [] quotes false rest)
 
 -- the first characters that are taken, whatever stood before them
 abbrev pub isTake : Role → Bool
