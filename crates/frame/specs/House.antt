@@ -27,11 +27,15 @@ endsInLF line = eqb (getD line (length line - 1) 0) LF
 unfoldable pub digitsOf : List ℕ → List ℕ
 digitsOf line = take (length line - 1) line
 
+-- the digits of a line that is read
+abbrev pub digitsLimit : ℕ
+digitsLimit = 1024
+
 -- what digits are, with room for so many bytes
 unfoldable pub readDigits : List ℕ → ℕ → House
 readDigits digits room =
     cond (eqb (length digits) 0) Empty
-    (cond (ltb 1024 (length digits)) TooLong
+    (cond (ltb digitsLimit (length digits)) TooLong
     (cond (eqb (length digits % 2) 1) Odd
     (cond (ltb (firstBad digits) (length digits)) (NoDigit (firstBad digits))
     (cond (ltb room (length digits / 2)) (Short (length digits / 2))

@@ -15,7 +15,9 @@ use super::given::word_at;
 use super::word::push_shown;
 use buffer::push_byte;
 use frame::Framed;
+use frame::LINE_LIMIT;
 use frame::read_frame;
+use frame::told_length;
 
 // What quoting words answers.
 pub enum Quoted {
@@ -104,8 +106,8 @@ pub fn quote(words: &[u8], out: &mut [u8]) -> Quoted
     match measure(words) {
         LineSize::Bad(number) => Quoted::BadWord(number),
         LineSize::Needs(needed) => {
-            if 1024 < needed {
-                return Quoted::LineTooLong(if needed < 65535 { needed } else { 65535 });
+            if LINE_LIMIT < needed {
+                return Quoted::LineTooLong(told_length(needed));
             }
             if out.len() < needed {
                 return Quoted::NoRoom(needed);
