@@ -4,11 +4,17 @@ use Prim.Native.Nat.{ℕ, _+_, _-_, _<_, _≤_}
 use mathlib.Core.Path.{_≡_}
 use mathlib.Core.List.{List, _++_}
 use lib.ListN.{length, take, drop, replicate}
+use denote.Ref.{RefT, now}
+use denote.Triple.Both.{Both}
 use Rattle.text.specs.Unicode.{WellFormed}
 use Rattle.text.specs.Decoding.{codesIn}
+use Rattle.frame.specs.Framed.{frameFirst}
+use Rattle.frame.specs.Limits.{framesLimit}
 use Rattle.frame.specs.Series.{textsIn, Whole, AllFrames}
+use Rattle.frame.specs.declared.framed.Framed.the-variants.{Frame as FrameOf}
 use Rattle.image.specs.Frames.{Frame}
 use Rattle.tree.specs.Images.{framesOf}
+use Rattle.tree.specs.Rules.{imageLimit}
 use Rattle.tree.specs.Subtrees.{upTo}
 use Rattle.lookup.specs.Searches.{isNode}
 use Rattle.words.proofs.GoodWords.{Each, Good}
@@ -94,7 +100,7 @@ pub record Apt (rest : List ℕ) (s : Scan) : Type 0 where
 
 -- the code's sizes: a line's words, and an image
 abbrev pub Sizes : List ℕ → List ℕ → Type 0
-Sizes words image = (length words ≤ 4096) × (length image ≤ 32768)
+Sizes words image = (length words ≤ framesLimit) × (length image ≤ imageLimit)
 
 -- a move that keeps no word: where it leads, whatever is kept
 pub record Moved (words image : List ℕ) (s r : Scan) (to : List ℕ → Stand) : Type 0 where
@@ -110,6 +116,10 @@ pub record Kept (frame rest left : List ℕ) (s r : Scan) : Type 0 where
   pub kept : r .kept ≡ s .kept + length frame
   pub room : length left ≡ length rest
   pub bytes : take (r .kept) left ≡ take (s .kept) rest ++ frame
+
+-- the same of a stage, whatever the tables hold
+abbrev pub KeptBy : List ℕ → List ℕ → List ℕ → Stage → Stage → Type 0
+KeptBy frame rest left s r = ((o f : List ℕ) → Kept frame rest left (held o f s) (held o f r)) × (r .options ≡ s .options) × (r .flags ≡ s .flags)
 
 -- a word gone past, of a frame that takes `size` bytes
 pub record Stepped (words image rest left : List ℕ) (s r : Scan) (size : ℕ) (to : Stand) : Type 0 where
@@ -162,18 +172,26 @@ ShortsRead words image first start end f s g r =
     (λ rest. shortSteps stored (definitionsAt image first) (standOf words image rest (held o f s)) (codesIn (take (end - start) (drop start words)))))
     × Fit (r .flags) g × (r .options ≡ s .options)
 
--- a word that is no value, and any word: its text has n bytes and lies three bytes after the place `at`
-abbrev pub ArgumentRead : List ℕ → List ℕ → ℕ → ℕ → ℕ → List ℕ → List ℕ → Stage → List ℕ → List ℕ → List ℕ → Stage → List ℕ → Type 0
-ArgumentRead words image first at n o f s rest p g r left =
-    Stepped words image rest left (held o f s) (held p g r) (3 + n)
-    (formStep stored (definitionsAt image first) (foundOf words image rest (held o f s)) (partOf words (at + 3) n) (formOf (partOf words (at + 3) n)))
-    × Fit (r .options) p × Fit (r .flags) g
+-- a slice that a call is lent: what it holds at entry and at exit
+abbrev pub Slice : Type 0
+Slice = Both (RefT (List ℕ)) (RefT (List ℕ))
 
-abbrev pub WordRead : List ℕ → List ℕ → ℕ → ℕ → ℕ → List ℕ → List ℕ → Stage → List ℕ → List ℕ → List ℕ → Stage → List ℕ → Type 0
-WordRead words image first at n o f s rest p g r left =
-    Stepped words image rest left (held o f s) (held p g r) (3 + n)
-    (wordStep stored (definitionsAt image first) (standOf words image rest (held o f s)) (partOf words (at + 3) n))
-    × Fit (r .options) p × Fit (r .flags) g
+-- a stage and the tables that are lent with it, gone past a word of n bytes to where `to` leads from the positional words and the scan before
+abbrev pub WordPassed : List ℕ → List ℕ → ℕ → Slice → Slice → Stage → Slice → Stage → (List ℕ → Scan → Stand) → Type 0
+WordPassed words image n options flags s rest r to =
+    Stepped words image (now (rest .entry)) (now (rest .exit)) (held (now (options .entry)) (now (flags .entry)) s) (held (now (options .exit)) (now (flags .exit)) r) (3 + n)
+    (to (now (rest .entry)) (held (now (options .entry)) (now (flags .entry)) s))
+    × Fit (r .options) (now (options .exit)) × Fit (r .flags) (now (flags .exit))
+
+-- a word that is no value, and any word: its text has n bytes and lies three bytes after the place `at`
+abbrev pub ArgumentRead : List ℕ → List ℕ → ℕ → ℕ → ℕ → Slice → Slice → Stage → Slice → Stage → Type 0
+ArgumentRead words image first at n options flags s rest r =
+    WordPassed words image n options flags s rest r
+    (λ kept scan. formStep stored (definitionsAt image first) (foundOf words image kept scan) (partOf words (at + 3) n) (formOf (partOf words (at + 3) n)))
+
+abbrev pub WordRead : List ℕ → List ℕ → ℕ → ℕ → ℕ → Slice → Slice → Stage → Slice → Stage → Type 0
+WordRead words image first at n options flags s rest r =
+    WordPassed words image n options flags s rest r (λ kept scan. wordStep stored (definitionsAt image first) (standOf words image kept scan) (partOf words (at + 3) n))
 
 -- all words from the place `start` on
 abbrev pub ArgsScanned : List ℕ → List ℕ → ℕ → ℕ → List ℕ → Scan → List ℕ → Type 0
@@ -182,10 +200,23 @@ ArgsScanned words image first start rest r left = Scanned words image rest left 
 abbrev pub ArgsRead : List ℕ → List ℕ → ℕ → ℕ → List ℕ → List ℕ → List ℕ → Stage → List ℕ → Type 0
 ArgsRead words image first start rest p g r left = ArgsScanned words image first start rest (held p g r) left × Fit (r .options) p × Fit (r .flags) g
 
--- what a word of shorts asks, and what a word that is no value asks of the stage
+-- what a word of shorts asks
 abbrev pub ShortsAsk : List ℕ → List ℕ → ℕ → ℕ → List ℕ → Stage → Type 0
 ShortsAsk words image start end f s =
     Sizes words image × (start ≤ end) × (end ≤ length words) × KeySmall (s .progress) × Fit (s .flags) f × WellFormed (take (end - start) (drop start words))
 
+-- a word at the place `at`: the frame of a well-formed text of n bytes
+abbrev pub WordThere : List ℕ → List ℕ → ℕ → ℕ → Type 0
+WordThere words image at n = Sizes words image × ((kind : ℕ) × (frameFirst (drop at words) ≡ FrameOf kind n)) × WellFormed (partOf words (at + 3) n)
+
+-- what it asks of the stage, where it is no value, and where it may be one
 abbrev pub ArgumentAsks : ℕ → List ℕ → List ℕ → Stage → List ℕ → Type 0
 ArgumentAsks n o f s rest = Apt rest (held o f s) × (s .progress ≡ Going) × (s .kept + 3 + n ≤ length rest) × Fit (s .options) o × Fit (s .flags) f
+
+abbrev pub WordAsks : ℕ → List ℕ → List ℕ → Stage → List ℕ → Type 0
+WordAsks n o f s rest = Apt rest (held o f s) × (s .kept + 3 + n ≤ length rest) × Fit (s .options) o × Fit (s .flags) f
+
+-- what all words from the place `start` on ask: room for them, and tables of the full capacity
+abbrev pub ArgsAsk : List ℕ → List ℕ → ℕ → List ℕ → List ℕ → List ℕ → Type 0
+ArgsAsk words image start o f rest =
+    Sizes words image × (length words ≤ length rest) × (length o ≡ capacity) × (length f ≡ capacity) × WellSplit (drop start words)

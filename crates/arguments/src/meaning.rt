@@ -7,6 +7,7 @@ use table::Span;
 ghost use mathlib.Core.Path.{_≡_};
 ghost use Prim.Native.Nat.{_≤_};
 ghost use lib.ListN.{length};
+ghost use Rattle.tree.specs.Rules.{imageLimit};
 ghost use Rattle.lookup.specs.Definitions.{hasShort};
 ghost use Rattle.arguments.specs.Meanings.{meaning};
 ghost use Rattle.arguments.specs.Inner.{definitionsAt, meansOf, NameSmall};
@@ -20,7 +21,7 @@ pub enum Meaning {
 
 // What the character of that code means as a short, among the definitions from a place on.
 pub fn meaning_by_short(image: &[u8], from: usize, code: usize) -> Meaning
-    requires { ⌜ length (now image) ≤ 32768 ⌝ }
+    requires { ⌜ length (now image) ≤ imageLimit ⌝ }
     ensures { λ r. ⌜ (meansOf (now (image .entry)) r ≡ meaning (hasShort code) (definitionsAt (now (image .entry)) from)) × NameSmall r ⌝ }
 {
     match definition_by_short(image, from, code) {

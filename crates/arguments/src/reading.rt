@@ -18,13 +18,11 @@ use table::Table;
 use text::Decoded;
 use text::decode;
 ghost use mathlib.Core.Path.{_≡_};
-ghost use Prim.Native.Nat.{ℕ, _+_, _≤_};
+ghost use Prim.Native.Nat.{_+_, _≤_};
 ghost use lib.ListN.{length, drop};
-ghost use Rattle.text.specs.Unicode.{encode, WellFormed};
-ghost use Rattle.frame.specs.Framed.{frameFirst};
-ghost use Rattle.frame.specs.declared.framed.Framed.the-variants.{Frame};
-ghost use Rattle.table.specs.Inner.{partOf, capacity, Fit};
-ghost use Rattle.arguments.specs.Inner.{held, Sizes, WellSplit, Apt, LongRead, ShortRead, ShortsAsk, ShortsRead, ArgumentAsks, ArgumentRead, WordRead, ArgsRead, ArgsScanned};
+ghost use Rattle.text.specs.Unicode.{encode};
+ghost use Rattle.table.specs.Inner.{partOf, Fit};
+ghost use Rattle.arguments.specs.Inner.{Sizes, WellSplit, WordThere, WordAsks, ArgsAsk, LongRead, ShortRead, ShortsAsk, ShortsRead, ArgumentAsks, ArgumentRead, WordRead, ArgsRead, ArgsScanned};
 
 impl Stage {
     // What stands after `--`, from one place of the words to another.
@@ -155,9 +153,9 @@ impl Stage {
         bytes: usize,
         rest: &mut [u8],
     ) -> Self
-        requires { ⌜ Sizes (now words) (now image) × ((kind : ℕ) × (frameFirst (drop at (now words)) ≡ Frame kind bytes)) × WellFormed (partOf (now words) (at + 3) bytes) ⌝ }
+        requires { ⌜ WordThere (now words) (now image) at bytes ⌝ }
         requires { ⌜ ArgumentAsks bytes (now options) (now flags) self (now rest) ⌝ }
-        ensures { λ r. ⌜ ArgumentRead (now (words .entry)) (now (image .entry)) from at bytes (now (options .entry)) (now (flags .entry)) self (now (rest .entry)) (now (options .exit)) (now (flags .exit)) r (now (rest .exit)) ⌝ }
+        ensures { λ r. ⌜ ArgumentRead (now (words .entry)) (now (image .entry)) from at bytes options flags self rest r ⌝ }
     {
         let start = at + 3;
         let end = start + bytes;
@@ -185,9 +183,9 @@ impl Stage {
         bytes: usize,
         rest: &mut [u8],
     ) -> Self
-        requires { ⌜ Sizes (now words) (now image) × ((kind : ℕ) × (frameFirst (drop at (now words)) ≡ Frame kind bytes)) × WellFormed (partOf (now words) (at + 3) bytes) ⌝ }
-        requires { ⌜ Apt (now rest) (held (now options) (now flags) self) × (self .kept + 3 + bytes ≤ length (now rest)) × Fit (self .options) (now options) × Fit (self .flags) (now flags) ⌝ }
-        ensures { λ r. ⌜ WordRead (now (words .entry)) (now (image .entry)) from at bytes (now (options .entry)) (now (flags .entry)) self (now (rest .entry)) (now (options .exit)) (now (flags .exit)) r (now (rest .exit)) ⌝ }
+        requires { ⌜ WordThere (now words) (now image) at bytes ⌝ }
+        requires { ⌜ WordAsks bytes (now options) (now flags) self (now rest) ⌝ }
+        ensures { λ r. ⌜ WordRead (now (words .entry)) (now (image .entry)) from at bytes options flags self rest r ⌝ }
     {
         let progress = self.progress;
         match progress {
@@ -218,7 +216,7 @@ fn read_args<'a>(
     flags: &mut [usize],
     rest: &mut [u8],
 ) -> Stage
-    requires { ⌜ Sizes (now words) (now image) × (length (now words) ≤ length (now rest)) × (length (now options) ≡ capacity) × (length (now flags) ≡ capacity) × WellSplit (drop start (now words)) ⌝ }
+    requires { ⌜ ArgsAsk (now words) (now image) start (now options) (now flags) (now rest) ⌝ }
     ensures { λ r. ⌜ ArgsRead (now (words .entry)) (now (image .entry)) from start (now (rest .entry)) (now (options .exit)) (now (flags .exit)) r (now (rest .exit)) ⌝ }
 {
     let mut stage = Stage::start();

@@ -11,7 +11,7 @@ ghost use Prim.Native.Nat.{ℕ, _+_, _≤_, _<_};
 ghost use lib.ListN.{length};
 ghost use Rattle.table.specs.Inner.{Fit};
 ghost use Rattle.arguments.specs.Arguments.{noneFound, go};
-ghost use Rattle.arguments.specs.Inner.{standOf, fresh, held, KeySmall, Apt, Turned, OptionTaken, FlagTaken, Kept};
+ghost use Rattle.arguments.specs.Inner.{standOf, fresh, KeySmall, Apt, Turned, OptionTaken, FlagTaken, KeptBy};
 
 // The text that a fault tells: dashes, and a part of the words.
 pub struct FaultText {
@@ -142,7 +142,7 @@ impl Stage {
     // Keeps a frame after those that are kept.
     pub fn keep(mut self, frame: &[u8], rest: &mut [u8]) -> Self
         requires { ⌜ self .kept + length (now frame) ≤ length (now rest) ⌝ }
-        ensures { λ r. ⌜ ((o f : List ℕ) → Kept (now (frame .entry)) (now (rest .entry)) (now (rest .exit)) (held o f self) (held o f r)) × (r .options ≡ self .options) × (r .flags ≡ self .flags) ⌝ }
+        ensures { λ r. ⌜ KeptBy (now (frame .entry)) (now (rest .entry)) (now (rest .exit)) self r ⌝ }
     {
         self.kept = push(frame, rest, self.kept);
         self

@@ -5,10 +5,17 @@ ghost use lib.ListN.{take, drop, getD};
 ghost use Rattle.buffer.specs.Lend.{ByteAt};
 
 // The byte at a place, 0 past the end.
+pub fn octet_at(s: &[u8], at: usize) -> u8
+    ensures { λ r. ⌜ r ≡ getD (now (s .entry)) at 0 ⌝ }
+{
+    if at < s.len() { s[at] } else { 0 }
+}
+
+// The same as a number to count with.
 pub fn byte_at(s: &[u8], at: usize) -> usize
     ensures { λ r. ⌜ ByteAt (now (s .entry)) at r ⌝ }
 {
-    if at < s.len() { s[at] as usize } else { 0 }
+    octet_at(s, at) as usize
 }
 
 // What stands from a place on.

@@ -7,6 +7,7 @@ mod show;
 mod write;
 
 pub use lend::byte_at;
+pub use lend::octet_at;
 pub use lend::part;
 pub use lend::rest;
 pub use maximum::greatest_byte;

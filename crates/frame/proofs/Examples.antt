@@ -5,7 +5,7 @@ use mathlib.Core.List.{List, [], _∷_}
 use Rattle.frame.specs.Text.{numberBytes, textOf}
 use Rattle.frame.specs.Framed.{frameOf}
 use Rattle.frame.specs.Hex.{digitOf, hexOf, digitValue, pairOf, unhex, firstBad}
-use Rattle.frame.specs.House.{LF, houseLine, ended, digitsOf, readDigits, readHouse}
+use Rattle.frame.specs.House.{LF, houseLine, endsInLF, digitsOf, readDigits, readHouse}
 use Rattle.frame.specs.declared.house.House.the-variants.{Frame, NoDigit}
 
 -- the report of `log`, frame 11 with the path word
@@ -28,7 +28,7 @@ unfolding keys line houseLine hexOf digitOf
 written = refl
 
 read : readHouse line 5 ≡ Frame 5
-unfolding line readHouse ended digitsOf readDigits firstBad digitValue
+unfolding line readHouse endsInLF digitsOf readDigits firstBad digitValue
 read = refl
 
 bytes : unhex (digitsOf line) ≡ keys
@@ -36,5 +36,5 @@ unfolding keys line digitsOf unhex pairOf digitValue
 bytes = refl
 
 upper : readHouse (50 ∷ 48 ∷ 54 ∷ 67 ∷ LF ∷ []) 5 ≡ NoDigit 3
-unfolding readHouse ended digitsOf readDigits firstBad digitValue
+unfolding readHouse endsInLF digitsOf readDigits firstBad digitValue
 upper = refl

@@ -8,7 +8,7 @@ use Rattle.buffer.proofs.Lists.{drop-step, drop-end}
 use Rattle.frame.specs.Text.{Bytes, readText}
 use Rattle.frame.specs.Framed.{frameOf, framed, frameFirst}
 use Rattle.frame.specs.declared.prefixed.Text.{Text}
-use Rattle.frame.specs.declared.prefixed.Text.the-variants.{Whole, Broken as NoText}
+use Rattle.frame.specs.declared.prefixed.Text.the-variants.{Sized, Broken as NoText}
 use Rattle.frame.specs.declared.framed.Framed.the-variants.{Frame, End}
 use Rattle.frame.proofs.Texts.{length-textOf, text-read, text-found, text-back, read-told}
 
@@ -36,12 +36,12 @@ module _ (kind : ℕ) (t rest : List ℕ) where
   frame-found = text-found 2 t rest
 
 -- a frame that was read: its kind is the first byte, and its text is read after that
-first-told : (k : ℕ) (s : List ℕ) (kind n : ℕ) → frameFirst (k ∷ s) ≡ Frame kind n → (k ≡ kind) × (readText 2 s ≡ Whole n)
+first-told : (k : ℕ) (s : List ℕ) (kind n : ℕ) → frameFirst (k ∷ s) ≡ Frame kind n → (k ≡ kind) × (readText 2 s ≡ Sized n)
 unfolding frameFirst
 first-told k s kind n e = by (readText 2 s) refl e
   where
-    by : (x : Text) → readText 2 s ≡ x → framed k x ≡ Frame kind n → (k ≡ kind) × (readText 2 s ≡ Whole n)
-    by (Whole m) q r = let size : m ≡ n = cc in (cc, q ∙ ap Whole size)
+    by : (x : Text) → readText 2 s ≡ x → framed k x ≡ Frame kind n → (k ≡ kind) × (readText 2 s ≡ Sized n)
+    by (Sized m) q r = let size : m ≡ n = cc in (cc, q ∙ ap Sized size)
     by NoText q r = absurd (let z : _≡_ {A = ℕ} 0 1 = cc in omega arith)
 
 -- a frame that is read lies within the list

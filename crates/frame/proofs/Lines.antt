@@ -14,7 +14,7 @@ use Rattle.buffer.specs.Write.{over, Written, Pushed, overIfFits}
 use Rattle.buffer.proofs.Choices.{then-is, else-is}
 use Rattle.frame.specs.Text.{Bytes}
 use Rattle.frame.specs.Hex.{hexOf, unhex, firstBad}
-use Rattle.frame.specs.House.{LF, houseLine, ended, digitsOf, readDigits, readHouse, leftBy, houseLeaves, HouseRead, writeHouse, HouseWritten}
+use Rattle.frame.specs.House.{LF, houseLine, endsInLF, digitsOf, readDigits, readHouse, leftBy, houseLeaves, HouseRead, writeHouse, HouseWritten}
 use Rattle.frame.specs.declared.house.House.{House}
 use Rattle.frame.specs.declared.house.House.the-variants.{Frame, Unended, Empty, TooLong, Odd, NoDigit, Short}
 use Rattle.frame.specs.declared.house.Lined.{Lined}
@@ -32,8 +32,8 @@ module _ (x : List ℕ) where
   last : length (x ++ (LF ∷ [])) - 1 ≡ length x
   last = let e = length-append x (LF ∷ []) in omega arith
 
-  pub line-ended : ended (x ++ (LF ∷ [])) ≡ true
-  unfolding ended
+  pub line-ended : endsInLF (x ++ (LF ∷ [])) ≡ true
+  unfolding endsInLF
   line-ended = rw (last, getD-at x LF [] 0 (length x) refl) refl
 
   pub line-digits : digitsOf (x ++ (LF ∷ [])) ≡ x
@@ -44,18 +44,18 @@ pub house-digits : (bytes : List ℕ) → digitsOf (houseLine bytes) ≡ hexOf b
 unfolding houseLine
 house-digits bytes = line-digits (hexOf bytes)
 
-pub ended-empty : (line : List ℕ) → length line ≡ 0 → ended line ≡ false
-unfolding ended
+pub ended-empty : (line : List ℕ) → length line ≡ 0 → endsInLF line ≡ false
+unfolding endsInLF
 ended-empty [] e = refl
 ended-empty (b ∷ s) e = absurd (omega arith)
 
-pub ended-some : (line : List ℕ) → ended line ≡ true → 0 < length line
-unfolding ended
+pub ended-some : (line : List ℕ) → endsInLF line ≡ true → 0 < length line
+unfolding endsInLF
 ended-some [] e = absurd (let z : _≡_ {A = ℕ} 0 1 = cc in omega arith)
 ended-some (b ∷ s) e = omega arith
 
-pub ended-back : (line : List ℕ) → ended line ≡ true → line ≡ digitsOf line ++ (LF ∷ [])
-unfolding ended digitsOf
+pub ended-back : (line : List ℕ) → endsInLF line ≡ true → line ≡ digitsOf line ++ (LF ∷ [])
+unfolding endsInLF digitsOf
 ended-back line e =
     let k : ℕ = length line - 1 in
     let h = ended-some line e in
@@ -139,20 +139,20 @@ module _ (d : List ℕ) (room n : ℕ) where
 
 -- a line that ends is what its digits are, and one that doesn't is refused
 module _ (line : List ℕ) (room : ℕ) where
-  pub house-ended : ended line ≡ true → readHouse line room ≡ readDigits (digitsOf line) room
+  pub house-ended : endsInLF line ≡ true → readHouse line room ≡ readDigits (digitsOf line) room
   unfolding readHouse
   house-ended e = then-is _ _ _ e
 
-  pub house-unended : ended line ≡ false → readHouse line room ≡ Unended
+  pub house-unended : endsInLF line ≡ false → readHouse line room ≡ Unended
   unfolding readHouse
   house-unended e = else-is _ _ _ e
 
 module _ (line : List ℕ) (room n : ℕ) where
-  pub house-told : readHouse line room ≡ Frame n → (ended line ≡ true) × Framing (digitsOf line) room n
+  pub house-told : readHouse line room ≡ Frame n → (endsInLF line ≡ true) × Framing (digitsOf line) room n
   unfolding readHouse
-  house-told e = by (ended line) refl e
+  house-told e = by (endsInLF line) refl e
     where
-      by : (t : Bool) → ended line ≡ t → cond t (readDigits (digitsOf line) room) Unended ≡ Frame n → (ended line ≡ true) × Framing (digitsOf line) room n
+      by : (t : Bool) → endsInLF line ≡ t → cond t (readDigits (digitsOf line) room) Unended ≡ Frame n → (endsInLF line ≡ true) × Framing (digitsOf line) room n
       by true q r = (q, digits-told (digitsOf line) room n r)
       by false q r = absurd (let z : _≡_ {A = ℕ} 0 1 = cc in omega arith)
 

@@ -12,7 +12,7 @@ use borrow.Author.Tests.{le-leb, lt-leb, leb-true}
 use Rattle.buffer.proofs.Lists.{drop-step}
 use Rattle.buffer.proofs.Choices.{then-is, else-is}
 use Rattle.frame.specs.Text.{Bytes, numberBytes, numberOf, textOf, readText}
-use Rattle.frame.specs.declared.prefixed.Text.the-variants.{Whole, Broken}
+use Rattle.frame.specs.declared.prefixed.Text.the-variants.{Sized, Broken}
 
 pub length-number : (w n : ℕ) → length (numberBytes w n) ≡ w
 unfolding numberBytes
@@ -77,7 +77,7 @@ bytes-drop n s b i = rw (getD-drop n s i 0) (b (n + i))
 
 -- how reading decides, by the number in front
 module _ (w : ℕ) (s : List ℕ) where
-  pub read-by : (v : ℕ) → numberOf (take w s) ≡ v → readText w s ≡ cond (leb (w + v) (length s)) (Whole v) Broken
+  pub read-by : (v : ℕ) → numberOf (take w s) ≡ v → readText w s ≡ cond (leb (w + v) (length s)) (Sized v) Broken
   unfolding readText
   read-by v e = rw e
 
@@ -85,11 +85,11 @@ module _ (w : ℕ) (s : List ℕ) where
   unfolding readText
   read-short h = let k : length s < w + numberOf (take w s) = omega arith in else-is _ _ _ (lt-leb _ _ k)
 
-  pub read-told : (n : ℕ) → readText w s ≡ Whole n → (numberOf (take w s) ≡ n) × (w + n ≤ length s)
+  pub read-told : (n : ℕ) → readText w s ≡ Sized n → (numberOf (take w s) ≡ n) × (w + n ≤ length s)
   unfolding readText
   read-told n e = by (leb (w + numberOf (take w s)) (length s)) refl e
     where
-      by : (t : Bool) → leb (w + numberOf (take w s)) (length s) ≡ t → cond t (Whole (numberOf (take w s))) Broken ≡ Whole n → (numberOf (take w s) ≡ n) × (w + n ≤ length s)
+      by : (t : Bool) → leb (w + numberOf (take w s)) (length s) ≡ t → cond t (Sized (numberOf (take w s))) Broken ≡ Sized n → (numberOf (take w s) ≡ n) × (w + n ≤ length s)
       by true q r = let k : numberOf (take w s) ≡ n = cc in (k, rw k at (leb-true (w + numberOf (take w s)) (length s) q))
       by false q r = absurd (let z : _≡_ {A = ℕ} 0 1 = cc in omega arith)
 
@@ -98,7 +98,7 @@ module _ (w : ℕ) (s : List ℕ) (at left : ℕ) (l : left ≡ length s - at) w
   pub read-end : left < w → readText w (drop at s) ≡ Broken
   read-end h = read-short w (drop at s) (rw (length-drop at s) (omega arith))
 
-  pub read-at : (v : ℕ) → numberOf (take w (drop at s)) ≡ v → readText w (drop at s) ≡ cond (leb (w + v) left) (Whole v) Broken
+  pub read-at : (v : ℕ) → numberOf (take w (drop at s)) ≡ v → readText w (drop at s) ≡ cond (leb (w + v) left) (Sized v) Broken
   read-at v e = rw (l, ← length-drop at s) (read-by w (drop at s) v e)
 
 -- the number in front of a place
@@ -112,7 +112,7 @@ module _ (w : ℕ) (t rest : List ℕ) where
   unfolding textOf
   apart = append-assoc (numberBytes w (length t)) t rest
 
-  pub text-read : length t < 256 ^ w → readText w (textOf w t ++ rest) ≡ Whole (length t)
+  pub text-read : length t < 256 ^ w → readText w (textOf w t ++ rest) ≡ Sized (length t)
   text-read h =
       let e : numberOf (take w (textOf w t ++ rest)) ≡ length t =
       rw (apart, take-at (numberBytes w (length t)) (t ++ rest) w (length-number w (length t))) (number-value w (length t) h)
@@ -126,7 +126,7 @@ module _ (w : ℕ) (t rest : List ℕ) where
       rw (apart, drop-at (numberBytes w (length t)) (t ++ rest) w (length-number w (length t))) (take-at t rest (length t) refl)
 
 -- what is read as a text is the writing of it, and what stands after
-pub text-back : (w : ℕ) (s : List ℕ) (n : ℕ) → Bytes s → readText w s ≡ Whole n → s ≡ textOf w (take n (drop w s)) ++ drop (w + n) s
+pub text-back : (w : ℕ) (s : List ℕ) (n : ℕ) → Bytes s → readText w s ≡ Sized n → s ≡ textOf w (take n (drop w s)) ++ drop (w + n) s
 unfolding textOf
 text-back w s n h e =
     let told = read-told w s n e in

@@ -3,7 +3,7 @@ use Prim.Native.Nat.{ℕ}
 use mathlib.Core.List.{List, [], _∷_}
 use Rattle.frame.specs.Text.{textOf, readText}
 use Rattle.frame.specs.declared.prefixed.Text.{Text}
-use Rattle.frame.specs.declared.prefixed.Text.the-variants.{Whole, Broken as NoText}
+use Rattle.frame.specs.declared.prefixed.Text.the-variants.{Sized, Broken as NoText}
 use Rattle.frame.specs.declared.framed.Framed.{Framed}
 use Rattle.frame.specs.declared.framed.Framed.the-variants.{Frame, Broken, End}
 
@@ -12,7 +12,7 @@ frameOf kind t = kind ∷ textOf 2 t
 
 -- a kind with what was read after it
 abbrev pub framed : ℕ → Text → Framed
-framed kind (Whole n) = Frame kind n
+framed kind (Sized n) = Frame kind n
 framed kind NoText = Broken
 
 -- what the first bytes are: a whole frame, a broken one, or nothing

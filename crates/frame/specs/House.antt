@@ -20,18 +20,22 @@ unfoldable pub houseLine : List ℕ → List ℕ
 houseLine bytes = hexOf bytes ++ (LF ∷ [])
 
 -- whether the last byte is LF; an empty line has no last byte
-unfoldable pub ended : List ℕ → Bool
-ended line = eqb (getD line (length line - 1) 0) LF
+unfoldable pub endsInLF : List ℕ → Bool
+endsInLF line = eqb (getD line (length line - 1) 0) LF
 
 -- what stands before the last byte
 unfoldable pub digitsOf : List ℕ → List ℕ
 digitsOf line = take (length line - 1) line
 
+-- the digits of a line that is read
+abbrev pub digitsLimit : ℕ
+digitsLimit = 1024
+
 -- what digits are, with room for so many bytes
 unfoldable pub readDigits : List ℕ → ℕ → House
 readDigits digits room =
     cond (eqb (length digits) 0) Empty
-    (cond (ltb 1024 (length digits)) TooLong
+    (cond (ltb digitsLimit (length digits)) TooLong
     (cond (eqb (length digits % 2) 1) Odd
     (cond (ltb (firstBad digits) (length digits)) (NoDigit (firstBad digits))
     (cond (ltb room (length digits / 2)) (Short (length digits / 2))
@@ -39,7 +43,7 @@ readDigits digits room =
 
 -- what a line is, with room for so many bytes
 unfoldable pub readHouse : List ℕ → ℕ → House
-readHouse line room = cond (ended line) (readDigits (digitsOf line) room) Unended
+readHouse line room = cond (endsInLF line) (readDigits (digitsOf line) room) Unended
 
 -- only a frame is written
 abbrev pub leftBy : House → List ℕ → List ℕ → List ℕ

@@ -7,8 +7,12 @@ lineLimit = 1024
 
 -- the bytes of the frames of a line's words: at most four for each of the line's
 abbrev pub framesLimit : ℕ
-framesLimit = 4 * 1024
+framesLimit = 4 * lineLimit
 
 -- the greatest value that goes with 2: a longer line is given as this one
 abbrev pub valueLimit : ℕ
 valueLimit = 65535
+
+-- the bytes of a text whose length takes two bytes
+abbrev pub textLimit : ℕ
+textLimit = 65535

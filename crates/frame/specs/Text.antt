@@ -5,7 +5,7 @@ use mathlib.Core.List.{List, [], _∷_, _++_}
 use lib.Dec.{leb}
 use lib.ListN.{length, take, getD}
 use Rattle.frame.specs.declared.prefixed.Text.{Text}
-use Rattle.frame.specs.declared.prefixed.Text.the-variants.{Whole, Broken}
+use Rattle.frame.specs.declared.prefixed.Text.the-variants.{Sized, Broken}
 
 -- a list of bytes: each element is below 256
 unfoldable pub Bytes : List ℕ → Type 0
@@ -28,4 +28,4 @@ textOf width t = numberBytes width (length t) ++ t
 -- what the first bytes are: a whole text, of the length that its first `width` bytes say, or broken
 unfoldable pub readText : ℕ → List ℕ → Text
 readText width s =
-    cond (leb (width + numberOf (take width s)) (length s)) (Whole (numberOf (take width s))) Broken
+    cond (leb (width + numberOf (take width s)) (length s)) (Sized (numberOf (take width s))) Broken

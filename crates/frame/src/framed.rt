@@ -24,7 +24,7 @@ pub fn read_frame(s: &[u8], at: usize) -> Framed
     if s.len() <= at {
         return Framed::End;
     }
-    let Text::Whole(n) = long_text(s, at + 1) else {
+    let Text::Sized(n) = long_text(s, at + 1) else {
         return Framed::Broken;
     };
     Framed::Frame {

@@ -23,6 +23,9 @@ pub enum Lined {
     Short(usize),
 }
 
+// The digits of a line that is read: digitsLimit of the definitions.
+const DIGITS_LIMIT: usize = 1024;
+
 // What the digits before the final LF are, with that much room for their bytes.
 fn read_digits(digits: &[u8], room: usize) -> House
     ensures { λ r. ⌜ r ≡ readDigits (now (digits .entry)) room ⌝ }
@@ -31,7 +34,7 @@ fn read_digits(digits: &[u8], room: usize) -> House
     if n == 0 {
         return House::Empty;
     }
-    if 1024 < n {
+    if DIGITS_LIMIT < n {
         return House::TooLong;
     }
     if n % 2 == 1 {

@@ -2,6 +2,7 @@
 mod framed;
 mod hex;
 mod house;
+mod limits;
 mod prefixed;
 
 pub use framed::Framed;
@@ -13,5 +14,8 @@ pub use house::House;
 pub use house::Lined;
 pub use house::read_line;
 pub use house::write_line;
+pub use limits::FRAMES_LIMIT;
+pub use limits::LINE_LIMIT;
+pub use limits::told_length;
 pub use prefixed::long_text_size;
 pub use prefixed::write_long_text;

@@ -11,7 +11,7 @@ ghost use Rattle.frame.specs.Text.{textOf, readText};
 
 // What stands at a place: a text of that many bytes, or a length or a text that runs past the end.
 pub enum Text {
-    Whole(usize),
+    Sized(usize),
     Broken,
 }
 
@@ -25,10 +25,10 @@ fn left_of(s: &[u8], at: usize) -> usize
 // A text of n bytes after a length of `width` bytes, if `left` bytes hold both.
 fn within(left: usize, width: usize, n: usize) -> Text
     requires { ⌜ width + n < 65538 ⌝ }
-    ensures { λ r. ⌜ r ≡ cond (leb (width + n) left) (Text.Whole n) Text.Broken ⌝ }
+    ensures { λ r. ⌜ r ≡ cond (leb (width + n) left) (Text.Sized n) Text.Broken ⌝ }
 {
     if width + n <= left {
-        Text::Whole(n)
+        Text::Sized(n)
     } else {
         Text::Broken
     }

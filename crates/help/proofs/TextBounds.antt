@@ -6,7 +6,7 @@ use mathlib.Core.List.{List, [], _∷_, _++_, map}
 use native.Mathlib.Omega.{arith}
 use lib.ListN.{length, length-append}
 use Rattle.text.specs.Decoding.{Piece, piecesOf, bytesOf, bytesAll}
-use Rattle.text.specs.Apart.{white, ended, wordsAfter, wordsBetween}
+use Rattle.text.specs.Apart.{white, unlessEmpty, wordsAfter, wordsBetween}
 use Rattle.text.proofs.Pieces.{pieces-bytes}
 use Rattle.text.proofs.WhiteRuns.{some-bytes}
 use Rattle.image.specs.Frames.{Perhaps, absent, present, Frame, node, option, flag}
@@ -24,7 +24,7 @@ spaced-more w words = let a = length-append (ascii " " ++ w) (spaced words) in o
 
 -- words have at least a byte, so that the spaces before them are no more than their bytes
 ended-most : (word : List Piece) (words : List (List Piece))
-    → length (spaced (map bytesAll (ended word words))) ≤ 2 * length (bytesAll word) + length (spaced (map bytesAll words))
+    → length (spaced (map bytesAll (unlessEmpty word words))) ≤ 2 * length (bytesAll word) + length (spaced (map bytesAll words))
 ended-most [] words = omega arith
 ended-most (p ∷ word) words = omega (arith, some-bytes p word, spaced-more (bytesAll (p ∷ word)) (map bytesAll words))
 
@@ -40,7 +40,7 @@ after-most (p ∷ ps) word = by (white p) (after-most ps []) (after-most ps (wor
   where
     by : (t : Bool) → length (spaced (map bytesAll (wordsAfter [] ps))) ≤ 2 * (0 + length (bytesAll ps))
         → length (spaced (map bytesAll (wordsAfter (word ++ (p ∷ [])) ps))) ≤ 2 * (length (bytesAll (word ++ (p ∷ []))) + length (bytesAll ps))
-        → length (spaced (map bytesAll (cond t (ended word (wordsAfter [] ps)) (wordsAfter (word ++ (p ∷ [])) ps)))) ≤ 2 * (length (bytesAll word) + length (bytesOf p ++ bytesAll ps))
+        → length (spaced (map bytesAll (cond t (unlessEmpty word (wordsAfter [] ps)) (wordsAfter (word ++ (p ∷ [])) ps)))) ≤ 2 * (length (bytesAll word) + length (bytesOf p ++ bytesAll ps))
     by true h k = let a = length-append (bytesOf p) (bytesAll ps) in omega (arith, ended-most word (wordsAfter [] ps))
     by false h k = let a = length-append (bytesOf p) (bytesAll ps) in omega (arith, bytes-snoc word p)
 

@@ -7,7 +7,7 @@ use lib.Dec.{ltb}
 use lib.ListN.{length}
 use Rattle.frame.specs.Limits.{lineLimit, valueLimit}
 use Rattle.buffer.specs.Write.{over}
-use Rattle.text.specs.Decoding.{wellFormedLength}
+use Rattle.text.specs.Decoding.{wellFormedLength, isIllFormed}
 use Rattle.text.specs.Apart.{wordsBetween}
 use Rattle.frame.specs.Framed.{frameOf}
 use Rattle.image.specs.Frames.{Frame}
@@ -61,7 +61,7 @@ answerBy wordless room = NoWords
 unfoldable pub answerIn : List ℕ → List ℕ → ℕ → Helped
 answerIn image line room =
     cond (ltb lineLimit (length line)) (LineTooLong (min (length line) valueLimit))
-    (cond (ltb (wellFormedLength line) (length line)) (IllFormed (wellFormedLength line))
+    (cond (isIllFormed line) (IllFormed (wellFormedLength line))
     (answerBy (helpLine image line) room))
 
 abbrev pub onChecked : Checked → Helped → Helped

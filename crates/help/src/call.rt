@@ -4,7 +4,9 @@ use super::path::follow;
 use super::show::show_help;
 use buffer::Shown;
 use buffer::part;
+use frame::LINE_LIMIT;
 use frame::frame_size;
+use frame::told_length;
 use frame::write_frame;
 use text::Word;
 use text::next_word;
@@ -13,14 +15,14 @@ use tree::Checked;
 use tree::check_tree;
 ghost use mathlib.Core.Path.{_≡_};
 ghost use mathlib.Core.List.{List};
-ghost use Prim.Native.Nat.{ℕ, _≤_, min};
+ghost use Prim.Native.Nat.{ℕ, _≤_};
 ghost use lib.ListN.{length};
 ghost use Rattle.buffer.specs.Showing.{Showing};
 ghost use Rattle.tree.specs.Rules.{checkTree};
 ghost use Rattle.tree.specs.declared.check.Checked.the-variants.{Good};
 ghost use Rattle.help.specs.Answer.{said, unknown, helpLine, Helping};
 ghost use Rattle.help.specs.Inner.{Replied};
-ghost use Rattle.frame.specs.Limits.{lineLimit, valueLimit};
+ghost use Rattle.frame.specs.Limits.{lineLimit};
 
 // What help answers.
 pub enum Helped {
@@ -38,13 +40,6 @@ pub enum Helped {
     UnknownCommand(usize),
     // The buffer is too short: the length needed.
     NoRoom(usize),
-}
-
-// The length of a line that is too long, 65,535 if more.
-fn told_length(n: usize) -> usize
-    ensures { λ r. ⌜ r ≡ min n valueLimit ⌝ }
-{
-    if n < 65535 { n } else { 65535 }
 }
 
 // The frame 1E with a word that is unknown.
@@ -92,7 +87,7 @@ pub fn help(image: &[u8], line: &[u8], out: &mut [u8]) -> Helped
     if let Checked::BadFrame(n) = check_tree(image) {
         return Helped::BadTree(n);
     }
-    if 1024 < line.len() {
+    if LINE_LIMIT < line.len() {
         return Helped::LineTooLong(told_length(line.len()));
     }
     let place = well_formed_prefix(line);

@@ -6,6 +6,7 @@ ghost use mathlib.Core.Path.{_≡_};
 ghost use Prim.Native.Nat.{_+_, _*_, _≤_, _<_};
 ghost use lib.ListN.{length};
 ghost use Rattle.frame.specs.Hex.{digitOf};
+ghost use Rattle.frame.specs.Limits.{textLimit};
 ghost use Rattle.buffer.specs.Showing.{Showing};
 ghost use Rattle.buffer.specs.Inks.{Inked, InkedFrom};
 ghost use Rattle.message.specs.Debug.{hexDigits, codeText, debugByte, debugBytes, unknownHelp};
@@ -72,7 +73,7 @@ fn put_word(word: &[u8], out: &mut [u8], at: usize) -> usize
 }
 
 fn put_unknown_help(word: &[u8], out: &mut [u8]) -> usize
-    requires { ⌜ length (now word) ≤ 65535 ⌝ }
+    requires { ⌜ length (now word) ≤ textLimit ⌝ }
     ensures { λ r. ⌜ Inked (unknownHelp (now (word .entry))) (now (out .entry)) 0 r (now (out .exit)) ⌝ }
 {
     let start = put(b"Error: UnknownCommand(\"", out, 0);
@@ -81,7 +82,7 @@ fn put_unknown_help(word: &[u8], out: &mut [u8]) -> usize
 }
 
 fn unknown_help_size(word: &[u8]) -> usize
-    requires { ⌜ length (now word) ≤ 65535 ⌝ }
+    requires { ⌜ length (now word) ≤ textLimit ⌝ }
     ensures { λ r. ⌜ r ≡ length (unknownHelp (now (word .entry))) ⌝ }
 {
     let mut none = [0; 1];
@@ -90,7 +91,7 @@ fn unknown_help_size(word: &[u8]) -> usize
 
 // The message for a word of a help line that names no node.
 pub fn show_unknown_help(word: &[u8], out: &mut [u8]) -> Shown
-    requires { ⌜ length (now word) ≤ 65535 ⌝ }
+    requires { ⌜ length (now word) ≤ textLimit ⌝ }
     ensures { λ r. ⌜ Showing (unknownHelp (now (word .entry))) (now (out .entry)) r (now (out .exit)) ⌝ }
 {
     let needed = unknown_help_size(word);

@@ -4,6 +4,7 @@ use buffer::put;
 ghost use mathlib.Core.Path.{_≡_};
 ghost use Prim.Native.Nat.{_≤_, _<_};
 ghost use lib.ListN.{length};
+ghost use Rattle.frame.specs.Limits.{textLimit};
 ghost use Rattle.buffer.specs.Showing.{Showing};
 ghost use Rattle.buffer.specs.Inks.{Inked};
 ghost use Rattle.message.specs.Messages.{before, after, message};
@@ -51,7 +52,7 @@ fn put_after(told: ParseError, out: &mut [u8], at: usize) -> usize
 }
 
 fn put_message(told: ParseError, text: &[u8], out: &mut [u8]) -> usize
-    requires { ⌜ length (now text) ≤ 65535 ⌝ }
+    requires { ⌜ length (now text) ≤ textLimit ⌝ }
     ensures { λ r. ⌜ Inked (message told (now (text .entry))) (now (out .entry)) 0 r (now (out .exit)) ⌝ }
 {
     let start = put_before(told, out, 0);
@@ -60,7 +61,7 @@ fn put_message(told: ParseError, text: &[u8], out: &mut [u8]) -> usize
 }
 
 fn message_size(told: ParseError, text: &[u8]) -> usize
-    requires { ⌜ length (now text) ≤ 65535 ⌝ }
+    requires { ⌜ length (now text) ≤ textLimit ⌝ }
     ensures { λ r. ⌜ r ≡ length (message told (now (text .entry))) ⌝ }
 {
     let mut none = [0; 1];
@@ -69,7 +70,7 @@ fn message_size(told: ParseError, text: &[u8]) -> usize
 
 // The message that names a text.
 pub fn show_message(told: ParseError, text: &[u8], out: &mut [u8]) -> Shown
-    requires { ⌜ length (now text) ≤ 65535 ⌝ }
+    requires { ⌜ length (now text) ≤ textLimit ⌝ }
     ensures { λ r. ⌜ Showing (message told (now (text .entry))) (now (out .entry)) r (now (out .exit)) ⌝ }
 {
     let needed = message_size(told, text);

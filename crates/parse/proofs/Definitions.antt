@@ -3,7 +3,7 @@ use Prim.Native.Nat.{ℕ, _+_, _<_, _≤_}
 use mathlib.Core.Path.{_≡_, refl, sym, ap, _∙_}
 use mathlib.Core.Bool.{Bool, true, false, cond}
 use mathlib.Core.List.{List, [], _∷_}
-use mathlib.Core.Option.{none, some}
+use mathlib.Core.Option.{Option, none, some}
 use native.Mathlib.Omega.{arith}
 use types.Run.{OneOf, hit, miss}
 use denote.Enum.Declared.{tagOf}
@@ -12,6 +12,7 @@ use lib.Seq.{drop-drop}
 use Rattle.buffer.proofs.Choices.{then-is, else-is}
 use Rattle.table.specs.Map.{Map}
 use Rattle.table.specs.Inner.{partOf}
+use Rattle.table.specs.declared.packing.Span.{Span}
 use Rattle.image.specs.Frames.{Frame, node}
 use Rattle.image.specs.Reading.{read, headFirst, readBy, readFirst, nodeIn, optionIn, flagIn}
 use Rattle.image.specs.declared.head.Lengths.{Lengths}
@@ -26,7 +27,10 @@ use Rattle.tree.specs.Commands.{NodeFirst}
 use Rattle.lookup.specs.Searches.{isNode}
 use Rattle.arguments.specs.Meanings.{definitionsOf}
 use Rattle.arguments.specs.Inner.{definitionsAt}
-use Rattle.parse.specs.Commands.{lacking, isMissing, missingRequired}
+use Rattle.parse.specs.Commands.{lacking, isMissing, missingRequired, onMissing}
+use Rattle.parse.specs.Inner.{requiredBy}
+use Rattle.parse.specs.declared.required.Required.{Required}
+use Rattle.parse.specs.declared.required.Required.the-variants.{Fine, Missing}
 
 -- the frames of bytes, by what they begin with
 pub frames-none : (s : List ℕ) (head : Head) → headFirst s ≡ head → OneOf (3 ∷ 4 ∷ []) (tagOf the-type head) → framesOf s ≡ []
@@ -96,13 +100,13 @@ module _ (node : List ℕ) (at : ℕ) (options : Map) (texts : Lengths) where
       ap (λ (l : List Frame). missingRequired l options) (definitions-more node at _ _ (option-read r c e) refl)
       ∙ ap (λ (name : List ℕ). cond (lacking r name options) (some name) (missingRequired (definitionsAt node (at + texts .size)) options)) name-there
 
-  pub option-missing : (r c : ℕ) (t : Bool) → headFirst (drop at node) ≡ HeadOption r c texts → t ≡ lacking r (partOf node (at + 4) (texts .name)) options → t ≡ true
+  pub option-missing : (r c : ℕ) (name : List ℕ) (t : Bool) → headFirst (drop at node) ≡ HeadOption r c texts → name ≡ partOf node (at + 4) (texts .name) → t ≡ lacking r name options → t ≡ true
       → missingRequired (definitionsAt node at) options ≡ some (partOf node (at + 4) (texts .name))
-  option-missing r c t e q k = option-next r c e ∙ then-is _ _ _ (sym q ∙ k)
+  option-missing r c name t e n q k = option-next r c e ∙ then-is _ _ _ (sym (q ∙ ap (λ (l : List ℕ). lacking r l options) n) ∙ k)
 
-  pub option-there : (r c : ℕ) (t : Bool) → headFirst (drop at node) ≡ HeadOption r c texts → t ≡ lacking r (partOf node (at + 4) (texts .name)) options → t ≡ false
+  pub option-there : (r c : ℕ) (name : List ℕ) (t : Bool) → headFirst (drop at node) ≡ HeadOption r c texts → name ≡ partOf node (at + 4) (texts .name) → t ≡ lacking r name options → t ≡ false
       → missingRequired (definitionsAt node at) options ≡ missingRequired (definitionsAt node (at + texts .size)) options
-  option-there r c t e q k = option-next r c e ∙ else-is _ _ _ (sym q ∙ k)
+  option-there r c name t e n q k = option-next r c e ∙ else-is _ _ _ (sym (q ∙ ap (λ (l : List ℕ). lacking r l options) n) ∙ k)
 
   pub flag-passed : (c : ℕ) → headFirst (drop at node) ≡ HeadFlag c texts → missingRequired (definitionsAt node at) options ≡ missingRequired (definitionsAt node (at + texts .size)) options
   unfolding missingRequired isMissing flagIn
@@ -111,6 +115,44 @@ module _ (node : List ℕ) (at : ℕ) (options : Map) (texts : Lengths) where
 pub none-missing : (options : Map) → missingRequired [] options ≡ none
 unfolding missingRequired
 none-missing options = refl
+
+-- THE SEARCH: what is told, or else what is missing from the place reached, is what is missing from the beginning; nothing is told while definitions are ahead
+pub record Sought (node : List ℕ) (options : Map) (start : ℕ) (told : Required) (at : ℕ) : Type 0 where
+  pub unsaid : at < length node → requiredBy node told ≡ none
+  pub same : onMissing (requiredBy node told) some (missingRequired (definitionsAt node at) options) ≡ missingRequired (definitionsAt node start) options
+
+module _ (node : List ℕ) (options : Map) (start : ℕ) where
+  pub sought-from : Sought node options start Fine start
+  sought-from = record { unsaid = λ h. refl; same = refl }
+
+  module _ (told : Required) (at : ℕ) (s : Sought node options start told at) where
+    -- one is missing here and is told: nothing may be ahead of the search any more
+    pub sought-told : (name : Span) (next : ℕ) → at < length node → missingRequired (definitionsAt node at) options ≡ requiredBy node (Missing name) → length node ≤ next
+        → Sought node options start (Missing name) next
+    sought-told name next h e end = record {
+      unsaid = λ more. absurd (omega (arith, more, end));
+      same = sym e ∙ sym (ap (λ (o : Option (List ℕ)). onMissing o some (missingRequired (definitionsAt node at) options)) (s .unsaid h)) ∙ s .same;
+    }
+
+    -- none is missing here
+    pub sought-on : (next : ℕ) → at < length node → missingRequired (definitionsAt node at) options ≡ missingRequired (definitionsAt node next) options → Sought node options start told next
+    sought-on next h e = record { unsaid = λ more. s .unsaid h; same = ap (onMissing (requiredBy node told) some) (sym e) ∙ s .same }
+
+    -- no definition stands here: nothing is missing
+    pub sought-stop : at < length node → definitionsAt node at ≡ [] → none ≡ missingRequired (definitionsAt node start) options
+    sought-stop h e =
+        sym (none-missing options) ∙ ap (λ (l : List Frame). missingRequired l options) (sym e)
+        ∙ sym (ap (λ (o : Option (List ℕ)). onMissing o some (missingRequired (definitionsAt node at) options)) (s .unsaid h)) ∙ s .same
+
+    pub sought-end : length node ≤ at → requiredBy node told ≡ missingRequired (definitionsAt node start) options
+    unfolding missingRequired
+    sought-end h =
+        told-alone told
+        ∙ ap (λ (l : List Frame). onMissing (requiredBy node told) some (missingRequired l options)) (sym (definitions-end node at h)) ∙ s .same
+      where
+        told-alone : (r : Required) → requiredBy node r ≡ onMissing (requiredBy node r) some (missingRequired [] options)
+        told-alone Fine = refl
+        told-alone (Missing name) = refl
 
 -- where the definitions of a node begin
 module _ (node : List ℕ) where

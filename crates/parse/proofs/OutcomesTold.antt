@@ -14,7 +14,7 @@ use Rattle.buffer.proofs.Choices.{else-is}
 use Rattle.report.specs.Report.{reportOf, faultOf}
 use Rattle.report.specs.Inner.{dashed, reportAnswer, leavesBy, reportLeaves, Reporting}
 use Rattle.report.specs.declared.answer.Reported.{Reported}
-use Rattle.report.specs.declared.answer.Reported.the-variants.{Report as Whole, NoRoom as TooShort}
+use Rattle.report.specs.declared.answer.Reported.the-variants.{Report as AllWritten, NoRoom as TooShort}
 use Rattle.table.specs.Inner.{partOf}
 use Rattle.arguments.specs.Arguments.{Found}
 use Rattle.parse.specs.Commands.{Outcome, parsed, fault}
@@ -76,7 +76,7 @@ module _ (frames out left : List ℕ) (q : Reported) (w : Reporting frames out q
   unfolding reportAnswer
   answers = e ∙ ap (answeredBy number) (w .answer) ∙ by (ltb (length out) (length frames))
     where
-      by : (t : Bool) → answeredBy number (cond t (TooShort (length frames)) (Whole (length frames))) ≡ cond t (NoRoom (length frames)) (numbered number (length frames))
+      by : (t : Bool) → answeredBy number (cond t (TooShort (length frames)) (AllWritten (length frames))) ≡ cond t (NoRoom (length frames)) (numbered number (length frames))
       by true = refl
       by false = refl
 
@@ -84,7 +84,7 @@ module _ (frames out left : List ℕ) (q : Reported) (w : Reporting frames out q
   unfolding reportAnswer reportLeaves
   leaves = w .bytes ∙ by (ltb (length out) (length frames))
     where
-      by : (t : Bool) → leavesBy (cond t (TooShort (length frames)) (Whole (length frames))) frames out ≡ cond t out (over frames out)
+      by : (t : Bool) → leavesBy (cond t (TooShort (length frames)) (AllWritten (length frames))) frames out ≡ cond t out (over frames out)
       by true = refl
       by false = refl
 

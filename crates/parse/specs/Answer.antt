@@ -6,7 +6,8 @@ use mathlib.Core.List.{List}
 use lib.Dec.{ltb, eqb}
 use lib.ListN.{length}
 use Rattle.buffer.specs.Write.{over}
-use Rattle.text.specs.Decoding.{wellFormedLength}
+use Rattle.text.specs.Decoding.{wellFormedLength, isIllFormed}
+use Rattle.frame.specs.Limits.{lineLimit, valueLimit}
 use Rattle.tree.specs.Rules.{checkTree}
 use Rattle.tree.specs.declared.check.Checked.{Checked}
 use Rattle.tree.specs.declared.check.Checked.the-variants.{Good, BadFrame}
@@ -42,15 +43,15 @@ onChecked (BadFrame n) bad good = bad n
 unfoldable pub parseAnswer : List ℕ → List ℕ → ℕ → Parsed
 parseAnswer image line room =
     onChecked (checkTree image) (λ n. BadTree n)
-    (cond (ltb 1024 (length line)) (LineTooLong (min (length line) 65535))
-    (cond (ltb (wellFormedLength line) (length line)) (IllFormed (wellFormedLength line))
+    (cond (ltb lineLimit (length line)) (LineTooLong (min (length line) valueLimit))
+    (cond (isIllFormed line) (IllFormed (wellFormedLength line))
     (outcomeAnswer (parseLine image line) room)))
 
 unfoldable pub parseLeaves : List ℕ → List ℕ → List ℕ → List ℕ
 parseLeaves image line out =
     onChecked (checkTree image) (λ n. out)
-    (cond (ltb 1024 (length line)) out
-    (cond (ltb (wellFormedLength line) (length line)) out
+    (cond (ltb lineLimit (length line)) out
+    (cond (isIllFormed line) out
     (outcomeLeaves (parseLine image line) out)))
 
 pub record Parsing (image line out : List ℕ) (r : Parsed) (left : List ℕ) : Type 0 where

@@ -6,18 +6,19 @@ use mathlib.Core.List.{List, []}
 use mathlib.Core.Option.{Option, none, some}
 use lib.Dec.{eqb}
 use lib.ListN.{length, take, drop}
+use Rattle.frame.specs.Limits.{lineLimit, framesLimit}
 use Rattle.frame.specs.Series.{textsIn, AllFrames}
 use Rattle.table.specs.Inner.{partOf}
 use Rattle.image.specs.Frames.{Frame}
 use Rattle.tree.specs.Images.{framesOf}
-use Rattle.tree.specs.Rules.{checkTree}
+use Rattle.tree.specs.Rules.{imageLimit, checkTree}
 use Rattle.tree.specs.Commands.{Reached, reachedBy, NodeFirst}
 use Rattle.tree.specs.Trails.{imagePart, Within, Descended, Leads}
 use Rattle.tree.specs.declared.check.Checked.the-variants.{Good}
 use Rattle.tree.specs.declared.command.Place.{Place}
 use Rattle.tree.specs.declared.command.Found.{Found as Command}
 use Rattle.report.specs.declared.answer.Reported.{Reported}
-use Rattle.report.specs.declared.answer.Reported.the-variants.{Report as Whole, NoRoom as TooShort}
+use Rattle.report.specs.declared.answer.Reported.the-variants.{Report as AllWritten, NoRoom as TooShort}
 use Rattle.arguments.specs.Arguments.{Found}
 use Rattle.arguments.specs.Inner.{stored, toldOf, definitionsAt, foundOf, standOf, WellSplit}
 use Rattle.arguments.specs.declared.standing.Scan.{Scan}
@@ -33,7 +34,7 @@ use Rattle.parse.specs.declared.judging.Judged.{Judged}
 
 -- as many bytes as the words of a line may take: four for each byte of it
 abbrev pub Enough : List ℕ → ℕ → Type 0
-Enough line room = (room ≤ 4096) × (length line ≤ 1024 → 4 * length line ≤ room)
+Enough line room = (room ≤ framesLimit) × (length line ≤ lineLimit → 4 * length line ≤ room)
 
 -- a name by where it stands in the command's part of the image
 abbrev pub requiredBy : List ℕ → Required → Option (List ℕ)
@@ -105,7 +106,7 @@ Judges words node first scan r =
 -- what the arguments of a command ask, and what judging them comes to
 abbrev pub ArgumentsAsk : List ℕ → List ℕ → Place → List ℕ → Type 0
 ArgumentsAsk words image place rest =
-    (length words ≤ 4096) × (length image ≤ 32768) × (length words ≤ length rest) × Within words image place × NodeFirst (framesOf (imagePart image place)) × Parted words (place .at)
+    (length words ≤ framesLimit) × (length image ≤ imageLimit) × (length words ≤ length rest) × Within words image place × NodeFirst (framesOf (imagePart image place)) × Parted words (place .at)
 
 abbrev pub ArgumentsJudged : List ℕ → List ℕ → Place → List ℕ → Judged → List ℕ → Type 0
 ArgumentsJudged words image place rest r left = (to : Reached) → Descended words image place to → Judging words image rest left r (concluded stored to) (to .frames)
@@ -113,7 +114,7 @@ ArgumentsJudged words image place rest r left = (to : Reached) → Descended wor
 -- what the words of a line ask, and what judging them comes to
 abbrev pub WordsAsk : List ℕ → List ℕ → Command → List ℕ → Type 0
 WordsAsk words image found rest =
-    (length words ≤ 4096) × (length words ≤ length rest) × (checkTree image ≡ Good) × Leads words image found (reachedBy image words) × WellSplit words
+    (length words ≤ framesLimit) × (length words ≤ length rest) × (checkTree image ≡ Good) × Leads words image found (reachedBy image words) × WellSplit words
 
 abbrev pub WordsJudged : List ℕ → List ℕ → List ℕ → Judged → List ℕ → Type 0
 WordsJudged words image rest r left = Judging words image rest left r (parseWords (framesOf image) (textsIn words)) (reachedBy image words .frames)
@@ -121,19 +122,19 @@ WordsJudged words image rest r left = Judging words image rest left r (parseWord
 -- what a judgement asks to be told
 abbrev pub TellingAsks : List ℕ → List ℕ → Judged → List ℕ → Type 0
 TellingAsks words image j rest =
-    Within words image (j .place) × (j .scan .kept ≤ length rest) × (length rest ≤ 4096) × (length words ≤ 4096) × (length image ≤ 32768) × (numberOf (j .verdict) ≡ 0 → Lent words rest j)
+    Within words image (j .place) × (j .scan .kept ≤ length rest) × (length rest ≤ framesLimit) × (length words ≤ framesLimit) × (length image ≤ imageLimit) × (numberOf (j .verdict) ≡ 0 → Lent words rest j)
 
 -- what a command asks to be parsed
 abbrev pub CommandAsks : List ℕ → List ℕ → Command → List ℕ → Type 0
 CommandAsks words image found rest =
-    (length words ≤ length rest) × (length rest ≤ 4096) × (checkTree image ≡ Good) × Leads words image found (reachedBy image words) × WellSplit words
+    (length words ≤ length rest) × (length rest ≤ framesLimit) × (checkTree image ≡ Good) × Leads words image found (reachedBy image words) × WellSplit words
 
 -- the answer of what was written, with its length: 0 is no fault
 abbrev pub numbered : ℕ → ℕ → Parsed
 numbered number n = cond (eqb number 0) (Report n) (faultAnswer number n)
 
 abbrev pub answeredBy : ℕ → Reported → Parsed
-answeredBy number (Whole n) = numbered number n
+answeredBy number (AllWritten n) = numbered number n
 answeredBy number (TooShort n) = NoRoom n
 
 -- an outcome told: the answer, and what is left in the buffer

@@ -7,6 +7,7 @@ use super::fault::number_of;
 use super::fault::text_of;
 use super::judging::Judged;
 use super::judging::judge;
+use frame::FRAMES_LIMIT;
 use report::write_fault;
 use report::write_report;
 use tree::Checked;
@@ -18,6 +19,7 @@ use words::tokenize;
 ghost use mathlib.Core.Path.{_≡_};
 ghost use Prim.Native.Nat.{_≤_};
 ghost use lib.ListN.{length};
+ghost use Rattle.frame.specs.Limits.{framesLimit};
 ghost use Rattle.frame.specs.Series.{textsIn};
 ghost use Rattle.tree.specs.Images.{framesOf};
 ghost use Rattle.tree.specs.Rules.{checkTree};
@@ -84,7 +86,7 @@ fn parse_command<'a>(
 
 // The words of a line. The image is tested, and on the way the words are followed to their command.
 fn parse_words<'a>(words: &'a [u8], image: &'a [u8], rest: &mut [u8], out: &mut [u8]) -> Parsed
-    requires { ⌜ (length (now words) ≤ length (now rest)) × (length (now rest) ≤ 4096) × WellSplit (now words) ⌝ }
+    requires { ⌜ (length (now words) ≤ length (now rest)) × (length (now rest) ≤ framesLimit) × WellSplit (now words) ⌝ }
     ensures { λ r. ⌜ Worded (now (image .entry)) (now (words .entry)) (now (out .entry)) r (now (out .exit)) ⌝ }
 {
     let tested = find_command(words, image);
@@ -127,17 +129,22 @@ fn parse_with(
     }
 }
 
+// The bytes of a line that was typed, and of the frames of its words.
+const TYPED: usize = 255;
+
+const TYPED_FRAMES: usize = 4 * TYPED;
+
 // The report of a line's command, at the front of out; or a refusal, of which 4 to 7 write a frame with their text. The words of a line always find
 // room: four bytes for each byte of it. A line that was typed has at most 255, and needs no more than small buffers.
 pub fn parse(image: &[u8], line: &[u8], out: &mut [u8]) -> Parsed
     ensures { λ r. ⌜ Parsing (now (image .entry)) (now (line .entry)) (now (out .entry)) r (now (out .exit)) ⌝ }
 {
-    if line.len() < 256 {
-        let mut words = [0u8; 1020];
-        let mut rest = [0u8; 1020];
+    if line.len() <= TYPED {
+        let mut words = [0u8; TYPED_FRAMES];
+        let mut rest = [0u8; TYPED_FRAMES];
         return parse_with(image, line, &mut words, &mut rest, out);
     }
-    let mut words = [0u8; 4096];
-    let mut rest = [0u8; 4096];
+    let mut words = [0u8; FRAMES_LIMIT];
+    let mut rest = [0u8; FRAMES_LIMIT];
     parse_with(image, line, &mut words, &mut rest, out)
 }

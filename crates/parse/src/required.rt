@@ -41,6 +41,7 @@ pub fn validate_required_options<'a>(
 ) -> Required
     ensures { λ r. ⌜ requiredBy (now (node .entry)) r ≡ missingRequired (definitionsAt (now (node .entry)) from) (mapOf (now (words .entry)) (now (node .entry)) options) ⌝ }
 {
+    let mut missing = Required::Fine;
     let mut at = from;
     while at < node.len() {
         match head_at(node, at) {
@@ -50,17 +51,21 @@ pub fn validate_required_options<'a>(
                 texts,
             } => {
                 let name = part(node, at + 4, texts.name);
+                let next = at + texts.size;
                 if is_missing(words, node, required, name, options) {
-                    return Required::Missing(Span {
+                    missing = Required::Missing(Span {
                         start: at + 4,
                         length: texts.name,
                     });
+                    // The first is told: nothing after it is looked at.
+                    at = node.len();
+                } else {
+                    at = next;
                 }
-                at += texts.size;
             }
             Head::Flag { short: _, texts } => at += texts.size,
             _ => return Required::Fine,
         }
     }
-    Required::Fine
+    missing
 }

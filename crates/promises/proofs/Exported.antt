@@ -55,7 +55,7 @@ use Rattle.rust.specs.Help.{showHelp}
 use Rattle.rust.specs.Shell.{enter}
 use Rattle.rust.specs.History.{CommandHistory, addCommand}
 use Rattle.rust.specs.Loop.{Shell, rustKey}
-use Rattle.rust.specs.Same.{original, shellOf, Seen, quiet, output, handed, ended, crashed, seenOf, QuotedAsIs}
+use Rattle.rust.specs.Same.{original, shellOf, Seen, quiet, output, handed, exited, crashed, seenOf, QuotedAsIs}
 use Rattle.rust.specs.Calls.{Writes, PressesAs, resultNumber, parseBytes, helpBytes, HelpsAs, seenBytes, Says, Fair, SameAsRust}
 use Rattle.promises.proofs.Tables.{Answered, told}
 use Rattle.promises.proofs.Answers.{tooLong, illFormed, tokenizeTable, tokenize-tells, quoteTable, quote-tells, checkTable, check-tells, parseTable, parse-tells, helpTable, help-tells, Ended, runTable, run-tells}
@@ -197,7 +197,7 @@ PacksHelp none out p left = (p ≡ plain 14 0) × (left ≡ out)
 abbrev pub PacksSeen : Seen → ℕ → Type 0
 PacksSeen quiet p = p ≡ answered 0 0 0 0
 PacksSeen (output number bytes) p = p ≡ answered number (length bytes) 1 0
-PacksSeen (ended bytes) p = p ≡ answered 0 (length bytes) 2 0
+PacksSeen (exited bytes) p = p ≡ answered 0 (length bytes) 2 0
 PacksSeen (handed handler report) p = p ≡ answered 0 (length report) 3 handler
 PacksSeen crashed p = ⊥
 
@@ -233,7 +233,7 @@ unfolding runTold
 says-packed quiet r p e f = e ∙ ap runTold f
 says-packed (output number bytes) r p e f = e ∙ ap runTold f
 says-packed (handed handler report) r p e f = e ∙ ap runTold f
-says-packed (ended bytes) r p e f = e ∙ ap runTold f
+says-packed (exited bytes) r p e f = e ∙ ap runTold f
 says-packed crashed r p e f = f
 
 helps-packed : (o : Option (Result (List ℕ))) (out : List ℕ) (r : Helped) (p : ℕ) (left : List ℕ) → p ≡ plain (helpNumber r) (helpValue r) → HelpsAs o out r left → PacksHelp o out p left

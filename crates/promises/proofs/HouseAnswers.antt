@@ -8,7 +8,7 @@ use lib.Dec.{ltb, eqb}
 use lib.ListN.{length}
 use Rattle.buffer.specs.Write.{over, overIfFits}
 use Rattle.frame.specs.Hex.{unhex, firstBad}
-use Rattle.frame.specs.House.{houseLine, ended, digitsOf, readDigits, readHouse, leftBy, houseLeaves, HouseRead, writeHouse, HouseWritten, number, value, lineNumber, lineValue}
+use Rattle.frame.specs.House.{houseLine, endsInLF, digitsOf, readDigits, readHouse, leftBy, houseLeaves, HouseRead, writeHouse, HouseWritten, number, value, lineNumber, lineValue}
 use Rattle.frame.specs.declared.house.House.{House}
 use Rattle.frame.specs.declared.house.House.the-variants.{Unended}
 use Rattle.frame.specs.declared.house.Lined.{Lined}
@@ -20,7 +20,7 @@ unfoldable pub readTable : List ℕ → List ℕ → Answered (List ℕ)
 readTable line out =
     let digits : List ℕ = digitsOf line in
     first
-    (row 0x2F (not (ended line)) 0 out
+    (row 0x2F (not (endsInLF line)) 0 out
     ∷ row 0x2F (eqb (length digits) 0) 0 out
     ∷ row 0x2F (ltb 1024 (length digits)) 0 out
     ∷ row 0x2F (eqb (length digits % 2) 1) 0 out
@@ -34,7 +34,7 @@ unfolding readTable first readHouse readDigits houseLeaves
 read-line-tells line out r left t =
     let digits : List ℕ = digitsOf line in
     telling number value _ _ _ _ (t .answer) (t .bytes)
-    ∙ turned (ended line) _ _
+    ∙ turned (endsInLF line) _ _
     (either tells (eqb (length digits) 0) _ _ _ _ refl
     (either tells (ltb 1024 (length digits)) _ _ _ _ refl
     (either tells (eqb (length digits % 2) 1) _ _ _ _ refl

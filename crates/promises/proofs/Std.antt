@@ -9,7 +9,7 @@ use lib.Dec.{eqb, leb}
 use borrow.Author.Tests.{eqb-true, leb-true}
 use Rattle.text.specs.Decoding.{Piece, piecesOf, bytesAll}
 use Rattle.text.specs.Space.{whiteSpace, among, isWhiteSpace}
-use Rattle.text.specs.Apart.{white, ended, wordsAfter, wordsBetween}
+use Rattle.text.specs.Apart.{white, unlessEmpty, wordsAfter, wordsBetween}
 use Rattle.text.proofs.Spaces.{allOf, allBelow, below-passes}
 
 -- a row of the list: its first and its last code point
@@ -102,11 +102,11 @@ solid-on : (ps : List Piece) (p : Piece) → Solid ps → white p ≡ false → 
 solid-on [] p h e = (e, tt)
 solid-on (q ∷ ps) p h e = (h .0, solid-on ps p (h .1) e)
 
-words-end : (begun : List Piece) → Solid begun → WordsIn (begun ++ []) (ended begun [])
+words-end : (begun : List Piece) → Solid begun → WordsIn (begun ++ []) (unlessEmpty begun [])
 words-end [] h = done
 words-end (p ∷ begun) h = rw (append-nil begun) (last p begun h)
 
-words-then : (begun : List Piece) (q : Piece) (ps : List Piece) (words : List (List Piece)) → Solid begun → white q ≡ true → WordsIn ps words → WordsIn (begun ++ (q ∷ ps)) (ended begun words)
+words-then : (begun : List Piece) (q : Piece) (ps : List Piece) (words : List (List Piece)) → Solid begun → white q ≡ true → WordsIn ps words → WordsIn (begun ++ (q ∷ ps)) (unlessEmpty begun words)
 words-then [] q ps words h e w = space e w
 words-then (p ∷ begun) q ps words h e w = word p begun q h e w
 
@@ -116,7 +116,7 @@ words-in begun [] h = words-end begun h
 words-in begun (p ∷ ps) h = by (white p) refl (words-in [] ps tt) (words-in (begun ++ (p ∷ [])) ps)
   where
     by : (t : Bool) → white p ≡ t → WordsIn ps (wordsAfter [] ps) → (Solid (begun ++ (p ∷ [])) → WordsIn ((begun ++ (p ∷ [])) ++ ps) (wordsAfter (begun ++ (p ∷ [])) ps))
-        → WordsIn (begun ++ (p ∷ ps)) (cond t (ended begun (wordsAfter [] ps)) (wordsAfter (begun ++ (p ∷ [])) ps))
+        → WordsIn (begun ++ (p ∷ ps)) (cond t (unlessEmpty begun (wordsAfter [] ps)) (wordsAfter (begun ++ (p ∷ [])) ps))
     by true e fresh on = words-then begun p ps (wordsAfter [] ps) h e fresh
     by false e fresh on = rw append-assoc at (on (solid-on begun p h e))
 

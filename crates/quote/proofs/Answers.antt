@@ -8,11 +8,11 @@ use Rattle.buffer.specs.Write.{over}
 use Rattle.buffer.proofs.Choices.{then-is, else-is}
 use Rattle.quote.specs.Given.{listed, Judged, bad, fine, onJudged, judgeWords}
 use Rattle.quote.specs.Answer.{quoteLine, lineAnswer, quoteAnswer, lineOf, leavesBy, quoteLeaves, Quotation}
-use Rattle.quote.specs.Inner.{measured, IsFine}
+use Rattle.quote.specs.Inner.{lineSizeOf, IsFine}
 use Rattle.quote.specs.declared.quoter.Quoted.{Quoted}
 use Rattle.quote.specs.declared.quoter.Quoted.the-variants.{Line, BadWord, LineTooLong, NoRoom}
-use Rattle.quote.specs.declared.quoter.Measured.{Measured}
-use Rattle.quote.specs.declared.quoter.Measured.the-variants.{Needs, Bad}
+use Rattle.quote.specs.declared.quoter.LineSize.{LineSize}
+use Rattle.quote.specs.declared.quoter.LineSize.the-variants.{Needs, Bad}
 
 -- what measuring tells
 pub record TellsLine (words : List ℕ) (n : ℕ) : Type 0 where
@@ -20,12 +20,12 @@ pub record TellsLine (words : List ℕ) (n : ℕ) : Type 0 where
   pub size : n ≡ length (lineOf words)
   pub answers : (room : ℕ) → quoteAnswer words room ≡ lineAnswer n room
 
-abbrev pub Tells : List ℕ → Measured → Type 0
+abbrev pub Tells : List ℕ → LineSize → Type 0
 Tells words (Bad k) = (room : ℕ) → quoteAnswer words room ≡ BadWord k
 Tells words (Needs n) = TellsLine words n
 
-tells : (words : List ℕ) → Tells words (measured words)
-unfolding measured quoteAnswer lineOf
+tells : (words : List ℕ) → Tells words (lineSizeOf words)
+unfolding lineSizeOf quoteAnswer lineOf
 tells words = by (judgeWords (listed words)) refl
   where
     by : (j : Judged) → judgeWords (listed words) ≡ j → Tells words (onJudged j (λ n. Bad n) (λ ws. Needs (length (quoteLine ws))))
@@ -37,8 +37,8 @@ tells words = by (judgeWords (listed words)) refl
           answers = λ room. ap (λ (j : Judged). onJudged j (λ n. BadWord n) (λ v. lineAnswer (length (quoteLine v)) room)) e;
         }
 
-pub measured-tells : (words : List ℕ) (m : Measured) → m ≡ measured words → Tells words m
-measured-tells words m e = rw (sym e) at (tells words)
+pub line-size-tells : (words : List ℕ) (m : LineSize) → m ≡ lineSizeOf words → Tells words m
+line-size-tells words m e = rw (sym e) at (tells words)
 
 -- an answer leaves what it leaves
 told : (words out : List ℕ) (r : Quoted) (left : List ℕ) → quoteAnswer words (length out) ≡ r → left ≡ leavesBy r (lineOf words) out → Quotation words out r left

@@ -16,10 +16,10 @@ use Rattle.quote.specs.Given.{listed, Judged, bad, fine, onJudged, wordB
 use Rattle.quote.specs.Shown.{shown}
 use Rattle.quote.specs.Joined.{gapBefore, joinedFrom, joined}
 use Rattle.quote.specs.Answer.{quoteLine, lineOf}
-use Rattle.quote.specs.Inner.{itemFirst, measured, IsFine}
+use Rattle.quote.specs.Inner.{itemFirst, lineSizeOf, IsFine}
 use Rattle.quote.specs.declared.given.Item.the-variants.{Bad as NoWord}
-use Rattle.quote.specs.declared.quoter.Measured.{Measured}
-use Rattle.quote.specs.declared.quoter.Measured.the-variants.{Needs, Bad}
+use Rattle.quote.specs.declared.quoter.LineSize.{LineSize}
+use Rattle.quote.specs.declared.quoter.LineSize.the-variants.{Needs, Bad}
 use Rattle.quote.proofs.Listing.{good-formed, frame-room, part-is, part-length, WordTold, ItemTold, judge-word, judge-bad, listed-end, item-first, item-other}
 use Rattle.buffer.proofs.Choices.{else-is}
 use Rattle.quote.proofs.Showing.{shown-most}
@@ -50,7 +50,7 @@ module _ (words : List ℕ) (at len : ℕ) (t : WordTold (drop at words) len) wh
   word-judged = judge-word words at len t ∙ ap (λ (w : List ℕ). wordBefore w (judgeWords (listed (drop (at + 3 + len) words)))) (sym (part-is words at len))
 
 -- what measuring finds, where n words of `size` bytes are passed
-abbrev pub resume : ℕ → ℕ → Judged → Measured
+abbrev pub resume : ℕ → ℕ → Judged → LineSize
 resume n size (bad k) = Bad (n + k)
 resume n size (fine ws) = Needs (size + length (joinedFrom n (map shown ws)))
 
@@ -73,10 +73,10 @@ pub record Counted (words : List ℕ) (size n at : ℕ) : Type 0 where
   pub inside : at ≤ length words
   pub few : n ≤ at
   pub cost : size ≤ 2 * at
-  pub all : measured words ≡ resume n size (judgeWords (listed (drop at words)))
+  pub all : lineSizeOf words ≡ resume n size (judgeWords (listed (drop at words)))
 
 pub counted-start : (words : List ℕ) → Counted words 0 0 0
-unfolding measured
+unfolding lineSizeOf
 counted-start words = record { inside = omega arith; few = omega arith; cost = omega arith; all = resume-start (judgeWords (listed words)) }
 
 module _ (words : List ℕ) (size n at : ℕ) (h : Counted words size n at) where
@@ -104,12 +104,12 @@ module _ (words : List ℕ) (size n at : ℕ) (h : Counted words size n at) wher
             ∙ rw (p, i .shows);
       }
 
-  pub counted-bad : at < length words → itemFirst (drop at words) ≡ NoWord → measured words ≡ Bad n
+  pub counted-bad : at < length words → itemFirst (drop at words) ≡ NoWord → lineSizeOf words ≡ Bad n
   counted-bad k e =
       let some : 0 < length (drop at words) = rw (length-drop at words) (omega arith) in
       h .all ∙ ap (resume n size) (judge-bad (drop at words) some e) ∙ ap Bad (omega arith)
 
-  pub counted-end : length words ≤ at → measured words ≡ Needs size
+  pub counted-end : length words ≤ at → lineSizeOf words ≡ Needs size
   unfolding joinedFrom
   counted-end k = h .all ∙ ap (resume n size) (listed-end words at k) ∙ ap Needs (omega arith)
 

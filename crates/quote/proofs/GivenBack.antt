@@ -17,7 +17,7 @@ use Rattle.buffer.proofs.Choices.{else-is, true-is-not-false}
 use Rattle.text.specs.Unicode.{low, Scalars, none, more, encode, encodeAll, WellFormed}
 use Rattle.text.specs.Decoding.{codesIn}
 use Rattle.text.specs.Space.{whiteSpace, among, isWhiteSpace}
-use Rattle.text.specs.Apart.{ended}
+use Rattle.text.specs.Apart.{unlessEmpty}
 use Rattle.frame.specs.Text.{Bytes}
 use Rattle.frame.specs.Framed.{frameOf}
 use Rattle.frame.proofs.Frames.{frame-back, frame-within}
@@ -36,13 +36,13 @@ use Rattle.quote.proofs.Listing.{good-some, good-formed, item-told, jud
 tokens-step : (w : List ℕ) (quotes after : Bool) (code : ℕ) (codes : List ℕ) (t : Role) → roleOf quotes after code ≡ t
     → tokensFrom w quotes after (code ∷ codes)
     ≡ onRole t (λ _. tokensFrom (w ++ (code ∷ [])) quotes false codes) (λ _. tokensFrom w quotes true codes) (λ _. tokensFrom w (not quotes) false codes)
-    (λ _. ended w (tokensFrom [] quotes false codes))
+    (λ _. unlessEmpty w (tokensFrom [] quotes false codes))
 unfolding tokensFrom
 tokens-step w quotes after code codes t e =
     ap
     (λ (x : Role).
     onRole x (λ _. tokensFrom (w ++ (code ∷ [])) quotes false codes) (λ _. tokensFrom w quotes true codes) (λ _. tokensFrom w (not quotes) false codes)
-    (λ _. ended w (tokensFrom [] quotes false codes)))
+    (λ _. unlessEmpty w (tokensFrom [] quotes false codes)))
     e
 
 -- what each character of a line does
@@ -130,18 +130,18 @@ shown-back codes rest = by (plain codes) refl
     by false e = quoted-back codes rest
 
 -- words one after the other, by their characters
-ended-some : (w : List ℕ) (words : List (List ℕ)) → 0 < length w → ended w words ≡ w ∷ words
+ended-some : (w : List ℕ) (words : List (List ℕ)) → 0 < length w → unlessEmpty w words ≡ w ∷ words
 ended-some [] words h = absurd (omega arith)
 ended-some (c ∷ w) words h = refl
 
 behind-back : (n : ℕ) (w : List ℕ) (words : List (List ℕ)) → Each (λ v. 0 < length v) words
-    → tokensFrom w false false (joinedFrom (suc n) (map shownCodes words)) ≡ ended w words
+    → tokensFrom w false false (joinedFrom (suc n) (map shownCodes words)) ≡ unlessEmpty w words
 unfolding joinedFrom gapBefore tokensFrom
 behind-back n w [] nothing = refl
 behind-back n w (v ∷ words) (also h hs) =
     let rest : List ℕ = joinedFrom (suc (suc n)) (map shownCodes words) in
     tokens-step w false false 0x20 (shownCodes v ++ rest) Gap turn-space
-    ∙ ap (ended w) (shown-back v rest ∙ behind-back (suc n) v words hs ∙ ended-some v words h)
+    ∙ ap (unlessEmpty w) (shown-back v rest ∙ behind-back (suc n) v words hs ∙ ended-some v words h)
 
 joined-back : (words : List (List ℕ)) → Each (λ v. 0 < length v) words → tokensFrom [] false false (joined (map shownCodes words)) ≡ words
 unfolding joined joinedFrom gapBefore tokensFrom

@@ -12,7 +12,7 @@ use lib.ListN.{length, take, drop, length-drop, length-take}
 use lib.Seq.{drop-drop, drop-nil}
 use Rattle.buffer.proofs.Choices.{then-is, else-is, true-is-not-false}
 use Rattle.buffer.proofs.Lists.{drop-end}
-use Rattle.text.specs.Decoding.{wellFormedLength}
+use Rattle.text.specs.Decoding.{wellFormedLength, wellFormed}
 use Rattle.frame.specs.Framed.{frameFirst}
 use Rattle.frame.specs.Series.{onFrame}
 use Rattle.frame.specs.declared.framed.Framed.{Framed}
@@ -32,7 +32,7 @@ pub good-some : (w : List ℕ) → goodWord w ≡ true → 0 < length w
 unfolding goodWord
 good-some w e = by (eqb (length w) 0) refl e
   where
-    by : (t : Bool) → eqb (length w) 0 ≡ t → cond t false (eqb (wellFormedLength w) (length w)) ≡ true → 0 < length w
+    by : (t : Bool) → eqb (length w) 0 ≡ t → cond t false (wellFormed w) ≡ true → 0 < length w
     by true p q = absurd (true-is-not-false (sym q))
     by false p q = some w p
       where
@@ -41,15 +41,15 @@ good-some w e = by (eqb (length w) 0) refl e
         some (a ∷ v) r = omega arith
 
 pub good-formed : (w : List ℕ) → goodWord w ≡ true → wellFormedLength w ≡ length w
-unfolding goodWord
+unfolding goodWord wellFormed
 good-formed w e = by (eqb (length w) 0) e
   where
-    by : (t : Bool) → cond t false (eqb (wellFormedLength w) (length w)) ≡ true → wellFormedLength w ≡ length w
+    by : (t : Bool) → cond t false (wellFormed w) ≡ true → wellFormedLength w ≡ length w
     by true q = absurd (true-is-not-false (sym q))
     by false q = eqb-true _ _ q
 
 good-is : (w : List ℕ) → (length w ≡ 0 → ⊥) → wellFormedLength w ≡ length w → goodWord w ≡ true
-unfolding goodWord
+unfolding goodWord wellFormed
 good-is w some h = else-is _ _ _ (ne-eqb (length w) 0 some) ∙ eq-eqb _ _ h
 
 -- what a word is
@@ -64,7 +64,7 @@ pub item-plain : (w : List ℕ) → (length w ≡ 0 → ⊥) → plainWord w ≡
 item-plain w some e = item-good (length w) (length w) w some (plain-formed w e) (sym (ap length (shown-plain w e)))
 
 pub item-broken : (n r : ℕ) (w : List ℕ) → (length w ≡ 0 → ⊥) → r ≡ wellFormedLength w → r < length w → itemOf n w ≡ Bad
-unfolding goodWord
+unfolding goodWord wellFormed
 item-broken n r w some e h = else-is _ _ _ (else-is _ _ _ (ne-eqb (length w) 0 some) ∙ ne-eqb (wellFormedLength w) (length w) (λ q. omega arith))
 
 pub reaches-end : (w : List ℕ) (r : ℕ) → r ≡ wellFormedLength w → length w ≤ r → wellFormedLength w ≡ length w

@@ -16,7 +16,7 @@ use native.Mathlib.Omega.{arith}
 use lib.Seq.{drop-drop}
 use Rattle.buffer.proofs.Choices.{then-is, else-is, true-is-not-false}
 use Rattle.text.specs.Unicode.{encode, encodeAll}
-use Rattle.text.specs.Decoding.{decodeFirst, codesIn, wellFormedLength}
+use Rattle.text.specs.Decoding.{decodeFirst, codesIn, wellFormedLength, wellFormed}
 use Rattle.text.specs.declared.utf8.Decoded.{Decoded}
 use Rattle.text.specs.declared.utf8.Decoded.the-variants.{Character, IllFormed, End}
 use Rattle.text.proofs.Pieces.{character-some, character-fits, character-bytes, encode-some}
@@ -105,14 +105,14 @@ quiet-ordinary s at n e some =
 
 -- a well-formed word that is plain
 pub formed-plain : (w : List ℕ) → wellFormedLength w ≡ length w → plainWord w ≡ plain (codesIn w)
-unfolding plainWord
+unfolding plainWord wellFormed
 formed-plain w h = then-is _ _ _ (eq-eqb _ _ h)
 
 pub plain-formed : (w : List ℕ) → plainWord w ≡ true → wellFormedLength w ≡ length w
-unfolding plainWord
-plain-formed w e = by (eqb (wellFormedLength w) (length w)) refl e
+unfolding plainWord wellFormed
+plain-formed w e = by (wellFormed w) refl e
   where
-    by : (t : Bool) → eqb (wellFormedLength w) (length w) ≡ t → cond t (plain (codesIn w)) false ≡ true → wellFormedLength w ≡ length w
+    by : (t : Bool) → wellFormed w ≡ t → cond t (plain (codesIn w)) false ≡ true → wellFormedLength w ≡ length w
     by true p q = eqb-true _ _ p
     by false p q = absurd (true-is-not-false (sym q))
 
@@ -128,7 +128,7 @@ pub quiet-fits : (w : List ℕ) (at n : ℕ) → n ≡ quietFirst (drop at w) �
 quiet-fits w at n e some = let q = quiet-told (drop at w) n e some in character-fits w at (q .code) n (q .decodes)
 
 pub plain-turn : (w : List ℕ) (at n : ℕ) → n ≡ quietFirst (drop at w) → (n ≡ 0 → ⊥) → plainWord (drop (at + n) w) ≡ plainWord (drop at w)
-unfolding plainWord plain
+unfolding plainWord plain wellFormed
 plain-turn w at n e some =
     let q = quiet-told (drop at w) n e some in
     let fits = character-fits w at (q .code) n (q .decodes) in
@@ -137,19 +137,19 @@ plain-turn w at n e some =
     let whole = both-more n (wellFormedLength (drop (at + n) w)) (length (drop (at + n) w)) (wellFormedLength (drop at w)) (length (drop at w))
     (prefix-step (drop at w) (q .code) n (q .decodes) ∙ ap (λ (l : List ℕ). n + wellFormedLength l) (drop-drop n at w)) (omega arith) in
     let rest : plain (codesIn (drop at w)) ≡ plain (codesIn (drop (at + n) w)) = ap plain (codes-at w at (q .code) n (q .decodes)) ∙ else-is _ _ _ (q .quiet) in
-    sym (ap (λ (t : Bool). cond t (plain (codesIn (drop at w))) false) whole ∙ ap (λ (x : Bool). cond (eqb (wellFormedLength (drop (at + n) w)) (length (drop (at + n) w))) x false) rest)
+    sym (ap (λ (t : Bool). cond t (plain (codesIn (drop at w))) false) whole ∙ ap (λ (x : Bool). cond (wellFormed (drop (at + n) w)) x false) rest)
 
 no-more : (t x : Bool) → x ≡ false → cond t x false ≡ false
 no-more true x e = e
 no-more false x e = refl
 
 plain-broken : (s : List ℕ) → 0 < length s → codesIn s ≡ [] → plainWord s ≡ false
-unfolding plainWord
+unfolding plainWord wellFormed
 plain-broken s h e = let z = prefix-none s e in else-is _ _ _ (ne-eqb (wellFormedLength s) (length s) (λ q. omega arith))
 
 plain-quoting : (s : List ℕ) (code n : ℕ) → decodeFirst s ≡ Character code n → quoting code ≡ true → plainWord s ≡ false
-unfolding plainWord plain
-plain-quoting s code n d e = no-more (eqb (wellFormedLength s) (length s)) (plain (codesIn s)) (ap plain (codes-step s code n d) ∙ then-is _ _ _ e)
+unfolding plainWord plain wellFormed
+plain-quoting s code n d e = no-more (wellFormed s) (plain (codesIn s)) (ap plain (codes-step s code n d) ∙ then-is _ _ _ e)
 
 stopped : (s : List ℕ) (n : ℕ) → 0 < length s → n ≡ quietFirst s → n ≡ 0 → plainWord s ≡ false
 unfolding quietFirst
@@ -168,7 +168,7 @@ pub plain-stop : (w : List ℕ) (at n : ℕ) → at < length w → n ≡ quietFi
 plain-stop w at n h e z = stopped (drop at w) n (rw (length-drop at w) (omega arith)) e z
 
 plain-nothing : (s : List ℕ) → codesIn s ≡ [] → length s ≡ 0 → plainWord s ≡ true
-unfolding plainWord plain
+unfolding plainWord plain wellFormed
 plain-nothing s e h = let z = prefix-none s e in then-is _ _ _ (eq-eqb (wellFormedLength s) (length s) (omega arith)) ∙ ap plain e
 
 pub plain-end : (w : List ℕ) (at : ℕ) → length w ≤ at → plainWord (drop at w) ≡ true

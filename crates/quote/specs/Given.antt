@@ -4,7 +4,7 @@ use mathlib.Core.Bool.{Bool, false, cond}
 use mathlib.Core.List.{List, [], _∷_}
 use lib.Dec.{eqb}
 use lib.ListN.{length, take, drop}
-use Rattle.text.specs.Decoding.{wellFormedLength}
+use Rattle.text.specs.Decoding.{wellFormed}
 use Rattle.frame.specs.Framed.{frameFirst}
 use Rattle.frame.specs.Series.{onFrame}
 
@@ -26,7 +26,7 @@ listed s = listedFrom s 0
 
 -- a good word has some bytes and is well-formed
 unfoldable pub goodWord : List ℕ → Bool
-goodWord w = cond (eqb (length w) 0) false (eqb (wellFormedLength w) (length w))
+goodWord w = cond (eqb (length w) 0) false (wellFormed w)
 
 -- the number, from 0, of the first word that is not good or not a word, or all the words
 pub data Judged : Type 0 where

@@ -8,14 +8,14 @@ use Rattle.frame.specs.Framed.{frameFirst}
 use Rattle.words.specs.Tokens.{backslash}
 use Rattle.frame.specs.Series.{onFrame}
 use Rattle.quote.specs.Given.{goodWord, listed, judgeWords, Judged, bad, fine, onJudged}
-use Rattle.text.specs.Decoding.{decodeFirst, onDecoded, codesIn, wellFormedLength}
+use Rattle.text.specs.Decoding.{decodeFirst, onDecoded, codesIn, wellFormed}
 use Rattle.text.specs.declared.utf8.Decoded.{Decoded}
 use Rattle.quote.specs.Shown.{special, quoting, plain, shown}
 use Rattle.quote.specs.Answer.{quoteLine}
 use Rattle.quote.specs.declared.given.Item.{Item}
 use Rattle.quote.specs.declared.given.Item.the-variants.{Word, Bad as NoWord}
-use Rattle.quote.specs.declared.quoter.Measured.{Measured}
-use Rattle.quote.specs.declared.quoter.Measured.the-variants.{Needs, Bad}
+use Rattle.quote.specs.declared.quoter.LineSize.{LineSize}
+use Rattle.quote.specs.declared.quoter.LineSize.the-variants.{Needs, Bad}
 
 -- a word of n bytes: a good one with its length when it is shown
 abbrev pub itemOf : ℕ → List ℕ → Item
@@ -34,7 +34,7 @@ quietFirst s = quietOf (decodeFirst s)
 
 -- a well-formed word that is plain
 unfoldable pub plainWord : List ℕ → Bool
-plainWord w = cond (eqb (wellFormedLength w) (length w)) (plain (codesIn w)) false
+plainWord w = cond (wellFormed w) (plain (codesIn w)) false
 
 -- how many characters need `\` before them
 unfoldable pub specials : List ℕ → ℕ
@@ -46,8 +46,8 @@ abbrev pub escapedBytes : Bool → List ℕ → List ℕ
 escapedBytes is bytes = cond is (backslash ∷ bytes) bytes
 
 -- what measuring finds: the length of the line, or the number of the first bad word
-unfoldable pub measured : List ℕ → Measured
-measured words = onJudged (judgeWords (listed words)) (λ n. Bad n) (λ ws. Needs (length (quoteLine ws)))
+unfoldable pub lineSizeOf : List ℕ → LineSize
+lineSizeOf words = onJudged (judgeWords (listed words)) (λ n. Bad n) (λ ws. Needs (length (quoteLine ws)))
 
 -- all words are good
 abbrev pub IsFine : Judged → Type 0

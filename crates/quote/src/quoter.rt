@@ -9,13 +9,15 @@ ghost use Rattle.quote.specs.Given.{listed, judgeWords};
 ghost use Rattle.quote.specs.Shown.{shown};
 ghost use Rattle.quote.specs.Joined.{gapBefore};
 ghost use Rattle.quote.specs.Answer.{lineOf, Quotation};
-ghost use Rattle.quote.specs.Inner.{measured, IsFine};
+ghost use Rattle.quote.specs.Inner.{lineSizeOf, IsFine};
 use super::given::Item;
 use super::given::word_at;
 use super::word::push_shown;
 use buffer::push_byte;
 use frame::Framed;
+use frame::LINE_LIMIT;
 use frame::read_frame;
+use frame::told_length;
 
 // What quoting words answers.
 pub enum Quoted {
@@ -30,7 +32,7 @@ pub enum Quoted {
 }
 
 // What measuring words finds: the length of their line, or the number of the first bad word.
-enum Measured {
+enum LineSize {
     Needs(usize),
     Bad(usize),
 }
@@ -42,8 +44,8 @@ fn gap_size(n: usize) -> usize
     if n == 0 { 0 } else { 1 }
 }
 
-fn measure(words: &[u8]) -> Measured
-    ensures { λ r. ⌜ r ≡ measured (now (words .entry)) ⌝ }
+fn measure(words: &[u8]) -> LineSize
+    ensures { λ r. ⌜ r ≡ lineSizeOf (now (words .entry)) ⌝ }
 {
     let mut size = 0;
     let mut n = 0;
@@ -54,13 +56,13 @@ fn measure(words: &[u8]) -> Measured
             size: shown,
         } = word_at(words, at)
         else {
-            return Measured::Bad(n);
+            return LineSize::Bad(n);
         };
         size = size + gap_size(n) + shown;
         n += 1;
         at = at + 3 + length;
     }
-    Measured::Needs(size)
+    LineSize::Needs(size)
 }
 
 // Writes a word that n words precede at the place `at` and returns the place after.
@@ -102,10 +104,10 @@ pub fn quote(words: &[u8], out: &mut [u8]) -> Quoted
     ensures { λ r. ⌜ Quotation (now (words .entry)) (now (out .entry)) r (now (out .exit)) ⌝ }
 {
     match measure(words) {
-        Measured::Bad(number) => Quoted::BadWord(number),
-        Measured::Needs(needed) => {
-            if 1024 < needed {
-                return Quoted::LineTooLong(if needed < 65535 { needed } else { 65535 });
+        LineSize::Bad(number) => Quoted::BadWord(number),
+        LineSize::Needs(needed) => {
+            if LINE_LIMIT < needed {
+                return Quoted::LineTooLong(told_length(needed));
             }
             if out.len() < needed {
                 return Quoted::NoRoom(needed);

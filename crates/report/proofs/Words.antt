@@ -13,7 +13,7 @@ use Rattle.frame.specs.Text.{readText}
 use Rattle.frame.specs.Framed.{frameOf, frameFirst}
 use Rattle.frame.specs.Series.{textsIn, runs, AllFrames}
 use Rattle.frame.specs.declared.prefixed.Text.{Text}
-use Rattle.frame.specs.declared.prefixed.Text.the-variants.{Whole, Broken as NoText}
+use Rattle.frame.specs.declared.prefixed.Text.the-variants.{Sized, Broken as NoText}
 use Rattle.frame.specs.declared.framed.Framed.{Framed}
 use Rattle.frame.specs.declared.framed.Framed.the-variants.{Frame}
 use Rattle.frame.proofs.framed.Framed.{the-type}
@@ -64,8 +64,8 @@ module _ (words : List ℕ) (at k n : ℕ) (e : frameFirst (drop at words) ≡ F
   word-short h = rw word-length (by (readText 2 (drop (at + 1) words)) refl word-within)
     where
       by : (x : Text) → readText 2 (drop (at + 1) words) ≡ x → at + 3 + n ≤ length words → n < 256 ^ 2
-      by (Whole m) q w =
-          let r = sym (first-at words at (Whole m) (omega arith) q) ∙ e in
+      by (Sized m) q w =
+          let r = sym (first-at words at (Sized m) (omega arith) q) ∙ e in
           let s : m ≡ n = cc in
           let t = read-told 2 (drop (at + 1) words) m q .0 in
           let v = value-two words (at + 1) (omega arith) in

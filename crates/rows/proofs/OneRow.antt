@@ -19,7 +19,7 @@ use Rattle.image.proofs.HeadBytes.{view, definition-small}
 use Rattle.buffer.specs.Ascii.{ascii}
 use Rattle.buffer.specs.Inks.{Inked, Countable}
 use Rattle.rows.specs.Rows.{blanks, padded, shortThen, shownAs, entry, requiredMark, optionRow, nodeRow, rowOf, endsList}
-use Rattle.rows.specs.Inner.{labelIn, Measured, rowBy, sizeBy}
+use Rattle.rows.specs.Inner.{labelIn, ReadLengths, rowBy, sizeBy}
 use Rattle.rows.specs.declared.row.Listing.{Listing}
 use Rattle.rows.specs.declared.row.Listing.the-variants.{Options, Flags, Subcommands, Commands}
 use Rattle.rows.proofs.row.Listing.{the-type}
@@ -99,11 +99,11 @@ entry-put indent label description out width at p mid q next r left used a b e c
     (inked-both (indent ++ label) _ out at q next r left (inked-both indent label out at p mid q next a b) (rw e at c))
 
 -- a definition as it was read
-pub measured-by : (p : ℕ) (s : List ℕ) (t : Lengths) → Bytes s → t ≡ definitionLengths p s → Measured p t
+pub read-lengths : (p : ℕ) (s : List ℕ) (t : Lengths) → Bytes s → t ≡ definitionLengths p s → ReadLengths p t
 unfolding definitionLengths
-measured-by p s t b e = record { small = definition-small p s t b e; size = rw e }
+read-lengths p s t b e = record { small = definition-small p s t b e; size = rw e }
 
-pub note-place : (p : ℕ) (s : List ℕ) (t : Lengths) → Measured p t → take (t .description) (drop (t .size - t .description) s) ≡ noteIn s p t
+pub note-place : (p : ℕ) (s : List ℕ) (t : Lengths) → ReadLengths p t → take (t .description) (drop (t .size - t .description) s) ≡ noteIn s p t
 note-place p s t m =
     let k = m .size in
     let e : t .size - t .description ≡ p + 2 + t .name + span (t .other) + 1 = omega arith in
@@ -232,10 +232,10 @@ option-plain r c n x ds e = rw (ne-eqb r 1 e, append-nil (entry (ascii "  ") 20 
 
 -- what the bytes of a definition's head tell
 module _ (s : List ℕ) (b : Bytes s) where
-  pub option-told : (r c : ℕ) (t : Lengths) → headFirst s ≡ OptionHead r c t → Measured 3 t × (c < 256)
+  pub option-told : (r c : ℕ) (t : Lengths) → headFirst s ≡ OptionHead r c t → ReadLengths 3 t × (c < 256)
   unfolding Bytes
-  option-told r c t e = let v = view s (OptionHead r c t) e in (measured-by 3 s t b (v .texts), let k = b 2 in omega (arith, v .short))
+  option-told r c t e = let v = view s (OptionHead r c t) e in (read-lengths 3 s t b (v .texts), let k = b 2 in omega (arith, v .short))
 
-  pub flag-told : (c : ℕ) (t : Lengths) → headFirst s ≡ FlagHead c t → Measured 2 t × (c < 256)
+  pub flag-told : (c : ℕ) (t : Lengths) → headFirst s ≡ FlagHead c t → ReadLengths 2 t × (c < 256)
   unfolding Bytes
-  flag-told c t e = let v = view s (FlagHead c t) e in (measured-by 2 s t b (v .texts), let k = b 1 in omega (arith, v .short))
+  flag-told c t e = let v = view s (FlagHead c t) e in (read-lengths 2 s t b (v .texts), let k = b 1 in omega (arith, v .short))

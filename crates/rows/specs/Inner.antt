@@ -13,7 +13,7 @@ unfoldable pub labelIn : List ℕ → ℕ → ℕ → Lengths → List ℕ
 labelIn s p short texts = shownAs short (nameIn s p texts) (longIn s p texts)
 
 -- lengths that were read from a definition whose first length byte stands at p
-pub record Measured (p : ℕ) (texts : Lengths) : Type 0 where
+pub record ReadLengths (p : ℕ) (texts : Lengths) : Type 0 where
   pub small : Small texts
   pub size : texts .size ≡ p + 3 + texts .name + span (texts .other) + texts .description
 

@@ -13,7 +13,7 @@ ghost use Rattle.image.specs.Reading.{Small, noteIn, nodeIn, optionIn, flagIn, 
 ghost use Rattle.buffer.specs.Ascii.{ascii};
 ghost use Rattle.buffer.specs.Inks.{Inked, Countable};
 ghost use Rattle.rows.specs.Rows.{blanks, shortThen, entry, nodeRow, rowOf, endsList};
-ghost use Rattle.rows.specs.Inner.{labelIn, Measured, rowBy, sizeBy};
+ghost use Rattle.rows.specs.Inner.{labelIn, ReadLengths, rowBy, sizeBy};
 
 // What is listed.
 pub enum Listing {
@@ -89,7 +89,7 @@ fn put_definition(
     out: &mut [u8],
     at: usize,
 ) -> usize
-    requires { ⌜ (p ≤ 3) × Measured p texts × (short < 256) ⌝ }
+    requires { ⌜ (p ≤ 3) × ReadLengths p texts × (short < 256) ⌝ }
     requires { ⌜ Countable (entry (ascii "  ") 20 (labelIn (now s) p short texts) (noteIn (now s) p texts)) at ⌝ }
     ensures { λ r. ⌜ Inked (entry (ascii "  ") 20 (labelIn (now (s .entry)) p short texts) (noteIn (now (s .entry)) p texts)) (now (out .entry)) at r (now (out .exit)) ⌝ }
 {
@@ -107,7 +107,7 @@ fn put_option(
     out: &mut [u8],
     at: usize,
 ) -> usize
-    requires { ⌜ Measured 3 texts × (short < 256) × Countable (rowOf Listing.Options (optionIn (now s) required short texts)) at ⌝ }
+    requires { ⌜ ReadLengths 3 texts × (short < 256) × Countable (rowOf Listing.Options (optionIn (now s) required short texts)) at ⌝ }
     ensures { λ r. ⌜ Inked (rowOf Listing.Options (optionIn (now (s .entry)) required short texts)) (now (out .entry)) at r (now (out .exit)) ⌝ }
 {
     let note = put_definition(s, 3, short, texts, out, at);
@@ -118,7 +118,7 @@ fn put_option(
 }
 
 fn put_flag(s: &[u8], short: usize, texts: Lengths, out: &mut [u8], at: usize) -> usize
-    requires { ⌜ Measured 2 texts × (short < 256) × Countable (rowOf Listing.Flags (flagIn (now s) short texts)) at ⌝ }
+    requires { ⌜ ReadLengths 2 texts × (short < 256) × Countable (rowOf Listing.Flags (flagIn (now s) short texts)) at ⌝ }
     ensures { λ r. ⌜ Inked (rowOf Listing.Flags (flagIn (now (s .entry)) short texts)) (now (out .entry)) at r (now (out .exit)) ⌝ }
 {
     let note = put_definition(s, 2, short, texts, out, at);

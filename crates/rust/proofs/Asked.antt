@@ -9,7 +9,7 @@ use lib.Seq.{drop-at}
 use Rattle.buffer.proofs.Ordering.{same-is}
 use Rattle.text.specs.Unicode.{Scalars, none, more, encode, encodeAll}
 use Rattle.text.specs.Decoding.{Piece, character, piecesOf, bytesAll, codesIn, wellFormedLength}
-use Rattle.text.specs.Apart.{white, ended, wordsAfter, wordsBetween}
+use Rattle.text.specs.Apart.{white, unlessEmpty, wordsAfter, wordsBetween}
 use Rattle.text.proofs.Encoding.{decode-complete}
 use Rattle.text.proofs.Pieces.{pieces-character, pieces-none}
 use Rattle.text.proofs.Prefix.{codes-are, codes-scalars, codes-whole}
@@ -72,7 +72,7 @@ whole-text : (codes : List ℕ) → Scalars codes → Whole (bytesAll (map chara
 whole-text codes h = rw bytes-are (ap encodeAll (codes-are codes h))
 
 -- words between white space
-ended-whole : (word : List ℕ) (words : List (List Piece)) → Scalars word → Each Whole (map bytesAll words) → Each Whole (map bytesAll (ended (map character word) words))
+ended-whole : (word : List ℕ) (words : List (List Piece)) → Scalars word → Each Whole (map bytesAll words) → Each Whole (map bytesAll (unlessEmpty (map character word) words))
 ended-whole [] words h rest = rest
 ended-whole (c ∷ word) words h rest = (whole-text (c ∷ word) h, rest)
 
@@ -87,7 +87,7 @@ words-whole (c ∷ codes) word f (more h hs) =
     by (white (character c)) (words-whole codes [] none hs) (words-whole codes (word ++ (c ∷ [])) (scalars-both word (c ∷ []) f (more h none)) hs)
   where
     by : (t : Bool) → Each Whole (map bytesAll (wordsAfter [] (map character codes))) → Each Whole (map bytesAll (wordsAfter (map character (word ++ (c ∷ []))) (map character codes)))
-        → Each Whole (map bytesAll (cond t (ended (map character word) (wordsAfter [] (map character codes))) (wordsAfter (map character word ++ (character c ∷ [])) (map character codes))))
+        → Each Whole (map bytesAll (cond t (unlessEmpty (map character word) (wordsAfter [] (map character codes))) (wordsAfter (map character word ++ (character c ∷ [])) (map character codes))))
     by true fresh on = ended-whole word (wordsAfter [] (map character codes)) f fresh
     by false fresh on = rw (last-in word c) on
 

@@ -35,7 +35,7 @@ use Rattle.rust.specs.Tree.{Commands, commandsOf}
 use Rattle.rust.specs.Parser.{UnknownCommand, parseTokens, parse}
 use Rattle.rust.specs.Help.{showHelp, showAvailableCommands}
 use Rattle.rust.specs.Shell.{returns, prints, exits, panics, executed, executeCommand, runCmdBytes, debugError, helped, handleBuiltinCommands, runLine, enter}
-use Rattle.rust.specs.Same.{replyFor, output, ended, seenOf, seenFor, allPrinted, wordIn, debugged, QuotedAsIs}
+use Rattle.rust.specs.Same.{replyFor, output, exited, seenOf, seenFor, allPrinted, wordIn, debugged, QuotedAsIs}
 use Rattle.rust.proofs.Words.{tokenize-is}
 use Rattle.rust.proofs.Histories.{blank-is-empty}
 use Rattle.rust.proofs.Parsing.{frames-are}
@@ -178,7 +178,7 @@ module _ (image : List ℕ) (f : Forest) (stands : StandsFor image f) (printable
             (cond (startsWith (ascii "help ") line) (some (ifSome (showHelp (commandsOf f) (wordsBetween (drop 5 line))) (helped printable) panics)) none)) (λ e. e) (runCmdBytes (commandsOf f) line))
             ≡ seenFor (onBuiltin b (text 0 (availableText (framesOf image))) farewell (text 0 clearScreen) (otherSaid (framesOf image) line))
         by Help q = ap (output 0) (same-available image f stands)
-        by Exit q = ap ended goodbye-is
+        by Exit q = ap exited goodbye-is
         by Clear q = ap (output 0) clear-is
         by None q = other-seen q
 

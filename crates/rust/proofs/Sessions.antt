@@ -31,7 +31,7 @@ use Rattle.session.proofs.Screens.{Plain, screen-plain, enters-byte}
 use Rattle.rust.specs.Tree.{Commands, commandsOf}
 use Rattle.rust.specs.Shell.{runLine, enter}
 use Rattle.rust.specs.Loop.{Shell, Event, writes, runs, Loop, turned, promptWithoutFs, rustKeys}
-use Rattle.rust.specs.Same.{Seen, quiet, output, handed, ended, crashed, shellOf, written, entered, seenOf, seenFor, QuotedAsIs}
+use Rattle.rust.specs.Same.{Seen, quiet, output, handed, exited, crashed, shellOf, written, entered, seenOf, seenFor, QuotedAsIs}
 use Rattle.rust.specs.Session.{turnFrom, turnsFrom, seenThen, endsThen, printedBy, endedBy, Unless, EachQuoted, CourseAs, PrintsAs}
 use Rattle.rust.proofs.Running.{same-run}
 use Rattle.rust.proofs.Keys.{eventsBy, Tidy, Same, same-key}
@@ -128,14 +128,14 @@ module _ (printable : ℕ → Bool) (tree : Commands) where
   seen-both (output number bytes) a b false = sym (append-assoc (shown bytes) a b)
   seen-both (handed number report) a b true = refl
   seen-both (handed number report) a b false = refl
-  seen-both (ended bytes) a b ends = refl
+  seen-both (exited bytes) a b ends = refl
   seen-both crashed a b ends = refl
 
   ends-both : (seen : Seen) (ends later : Bool) → endsThen seen (cond ends true later) ≡ cond (endsThen seen ends) true later
   ends-both quiet ends later = refl
   ends-both (output number bytes) ends later = refl
   ends-both (handed number report) ends later = refl
-  ends-both (ended bytes) ends later = refl
+  ends-both (exited bytes) ends later = refl
   ends-both crashed ends later = refl
 
   shown-both : (a b c : List Printed) (ends : Bool) → a ++ cond ends b (b ++ c) ≡ cond ends (a ++ b) ((a ++ b) ++ c)
@@ -175,7 +175,7 @@ module _ (printable : ℕ → Bool) (tree : Commands) where
       by quiet more k = let x = more k in ((q .0, x .0), x .1)
       by (output number said) more k = let x = more k in ((q .0, x .0), x .1)
       by (handed number report) more k = let x = more k in ((q .0, x .0), x .1)
-      by (ended said) more k = ((q .0, tt), λ n. absurd (true-is-not-false n))
+      by (exited said) more k = ((q .0, tt), λ n. absurd (true-is-not-false n))
       by crashed more k = ((q .0, tt), λ n. absurd (true-is-not-false n))
 
   -- a turn, and those after it if the process goes on

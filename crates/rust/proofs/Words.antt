@@ -9,7 +9,7 @@ use lib.ListN.{length, length-append}
 use Rattle.text.specs.Unicode.{encode, encodeAll}
 use Rattle.text.specs.Decoding.{codesIn}
 use Rattle.text.specs.Space.{isWhiteSpace}
-use Rattle.text.specs.Apart.{ended}
+use Rattle.text.specs.Apart.{unlessEmpty}
 use Rattle.text.proofs.Pieces.{encode-some}
 use Rattle.text.proofs.Prefix.{encode-append}
 use Rattle.words.specs.Tokens.{backslash, quote, roleOf, onRole, tokensFrom, tokens, wordsOf}
@@ -22,7 +22,7 @@ unfolding closed
 closed-some done [] h = absurd (omega arith)
 closed-some done (b ∷ word) h = refl
 
-closed-is : (done : List (List ℕ)) (word : List ℕ) → closed done (encodeAll word) ≡ done ++ map encodeAll (ended word [])
+closed-is : (done : List (List ℕ)) (word : List ℕ) → closed done (encodeAll word) ≡ done ++ map encodeAll (unlessEmpty word [])
 unfolding closed encodeAll
 closed-is done [] = sym (append-nil done)
 closed-is done (c ∷ word) =
@@ -30,7 +30,7 @@ closed-is done (c ∷ word) =
     let l = length-append (encode c) (encodeAll word) in
     closed-some done (encode c ++ encodeAll word) (omega arith)
 
-ended-then : (word : List ℕ) (rest : List (List ℕ)) → map encodeAll (ended word rest) ≡ map encodeAll (ended word []) ++ map encodeAll rest
+ended-then : (word : List ℕ) (rest : List (List ℕ)) → map encodeAll (unlessEmpty word rest) ≡ map encodeAll (unlessEmpty word []) ++ map encodeAll rest
 ended-then [] rest = refl
 ended-then (c ∷ word) rest = refl
 
@@ -48,12 +48,12 @@ module _ (ch : ℕ) (chars : List ℕ) (more : FromIs chars) (done : List (List 
   take-is : (quotes : Bool) → tokenizeFrom done (encodeAll word ++ encode ch) quotes false chars ≡ done ++ map encodeAll (tokensFrom (word ++ (ch ∷ [])) quotes false chars)
   take-is quotes = ap (λ (l : List ℕ). tokenizeFrom done l quotes false chars) (taken word ch) ∙ more done (word ++ (ch ∷ [])) quotes false
 
-  gap-is : (quotes : Bool) → tokenizeFrom (closed done (encodeAll word)) [] quotes false chars ≡ done ++ map encodeAll (ended word (tokensFrom [] quotes false chars))
+  gap-is : (quotes : Bool) → tokenizeFrom (closed done (encodeAll word)) [] quotes false chars ≡ done ++ map encodeAll (unlessEmpty word (tokensFrom [] quotes false chars))
   unfolding encodeAll
   gap-is quotes =
       more (closed done (encodeAll word)) [] quotes false
       ∙ ap (λ (l : List (List ℕ)). l ++ map encodeAll (tokensFrom [] quotes false chars)) (closed-is done word)
-      ∙ append-assoc done (map encodeAll (ended word [])) (map encodeAll (tokensFrom [] quotes false chars))
+      ∙ append-assoc done (map encodeAll (unlessEmpty word [])) (map encodeAll (tokensFrom [] quotes false chars))
       ∙ ap (λ (l : List (List ℕ)). done ++ l) (sym (ended-then word (tokensFrom [] quotes false chars)))
 
   -- by the tests in the Rust's order: escape_next, `\`, `"`, white space outside of quotes
@@ -69,7 +69,7 @@ module _ (ch : ℕ) (chars : List ℕ) (more : FromIs chars) (done : List (List 
       (λ _. tokensFrom (word ++ (ch ∷ [])) quotes false chars)
       (λ _. tokensFrom word quotes true chars)
       (λ _. tokensFrom word (not quotes) false chars)
-      (λ _. ended word (tokensFrom [] quotes false chars)))
+      (λ _. unlessEmpty word (tokensFrom [] quotes false chars)))
   char-is true b q quotes w = take-is quotes
   char-is false true q quotes w = more done word quotes true
   char-is false false true quotes w = more done word (not quotes) false

@@ -29,7 +29,7 @@ use Rattle.rust.specs.Parser.{ParsedCommand, Result, ok, err, parse}
 use Rattle.rust.specs.Help.{showHelp}
 use Rattle.rust.specs.Shell.{textIn, enter}
 use Rattle.rust.specs.Loop.{Shell, Event, Loop, firstBytes, lineRun}
-use Rattle.rust.specs.Same.{written, atEnter, reportFor, errorNumber, Seen, quiet, output, handed, ended, crashed, seenOf, QuotedAsIs}
+use Rattle.rust.specs.Same.{written, atEnter, reportFor, errorNumber, Seen, quiet, output, handed, exited, crashed, seenOf, QuotedAsIs}
 
 -- bytes at the front of a buffer where they fit, and an answer that says so; else nothing, and the other answer
 pub record Writes (bytes out left : List ℕ) (fits short : Type 0) : Type 0 where
@@ -86,14 +86,14 @@ abbrev pub seenBytes : Seen → List ℕ
 seenBytes quiet = []
 seenBytes (output number bytes) = bytes
 seenBytes (handed handler report) = report
-seenBytes (ended bytes) = bytes
+seenBytes (exited bytes) = bytes
 seenBytes crashed = []
 
 abbrev pub Says : Seen → Ran → Type 0
 Says quiet r = r ≡ Nothing
 Says (output number bytes) r = r ≡ Text number (length bytes)
 Says (handed handler report) r = r ≡ Handler handler (length report)
-Says (ended bytes) r = r ≡ Exit (length bytes)
+Says (exited bytes) r = r ≡ Exit (length bytes)
 Says crashed r = ⊥
 
 abbrev pub RunsAs : Seen → List ℕ → Ran → List ℕ → Type 0

@@ -88,7 +88,7 @@ pub data Seen : Type 0 where
   quiet : Seen
   output : (number : ℕ) (bytes : List ℕ) → Seen
   handed : (handler : ℕ) (report : List ℕ) → Seen
-  ended : List ℕ → Seen
+  exited : List ℕ → Seen
   crashed : Seen
 
 -- the number of the standard for an error
@@ -113,14 +113,14 @@ seenOf (prints bytes) = output 0 bytes
 seenOf (fails e bytes) = output (errorNumber e) bytes
 seenOf (garbled bytes) = output 3 bytes
 seenOf (calls handler command) = handed handler (reportFor command)
-seenOf (exits bytes) = ended bytes
+seenOf (exits bytes) = exited bytes
 seenOf panics = crashed
 
 -- the same of our answer
 abbrev pub seenFor : Said → Seen
 seenFor silence = quiet
 seenFor (text number bytes) = output number bytes
-seenFor farewell = ended goodbye
+seenFor farewell = exited goodbye
 seenFor (handsOver handler report) = handed handler report
 
 -- characters of which each outside ASCII is one that the Rust's tables print as it is: a `Debug` text copies those, and ours copies all (docs/DIFFERENCES.md)

@@ -12,7 +12,7 @@ use Rattle.session.specs.declared.running.Printing.{Printing}
 use Rattle.rust.specs.Tree.{Commands}
 use Rattle.rust.specs.Shell.{runLine}
 use Rattle.rust.specs.Loop.{Shell, Event, writes, runs, Loop, promptWithoutFs, rustKey, rustKeys}
-use Rattle.rust.specs.Same.{shellOf, Seen, quiet, output, handed, ended, crashed, seenOf, QuotedAsIs}
+use Rattle.rust.specs.Same.{shellOf, Seen, quiet, output, handed, exited, crashed, seenOf, QuotedAsIs}
 
 -- a turn of the loop without the feature fs, from a state of ours, and its turns
 abbrev pub turnFrom : State → ℕ → Loop
@@ -26,14 +26,14 @@ abbrev pub seenThen : Seen → List Printed → List Printed
 seenThen quiet more = more
 seenThen (output number bytes) more = shown bytes ++ more
 seenThen (handed number report) more = handler number report ∷ more
-seenThen (ended bytes) more = shown bytes ++ (exit ∷ [])
+seenThen (exited bytes) more = shown bytes ++ (exit ∷ [])
 seenThen crashed more = []
 
 abbrev pub endsThen : Seen → Bool → Bool
 endsThen quiet more = more
 endsThen (output number bytes) more = more
 endsThen (handed number report) more = more
-endsThen (ended bytes) more = true
+endsThen (exited bytes) more = true
 endsThen crashed more = true
 
 unfoldable pub printedBy : (ℕ → Bool) → Commands → List Event → List Printed

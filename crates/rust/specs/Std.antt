@@ -4,11 +4,11 @@ use Prim.Native.Nat.{ℕ, _-_}
 use mathlib.Core.Bool.{Bool, true, false, cond, not}
 use mathlib.Core.List.{List, [], _∷_, _++_}
 use mathlib.Core.Option.{Option, none, some}
-use lib.Dec.{eqb, ltb}
+use lib.Dec.{eqb}
 use lib.ListN.{length, take, replicate}
 use Rattle.buffer.specs.Compare.{order, sameBytes}
 use Rattle.text.specs.Unicode.{encode}
-use Rattle.text.specs.Decoding.{codesIn, wellFormedLength}
+use Rattle.text.specs.Decoding.{codesIn, isIllFormed}
 use Rattle.text.specs.Space.{isWhiteSpace}
 use Rattle.text.specs.Apart.{trimmed, wordsBetween}
 use Rattle.frame.specs.Hex.{digitOf}
@@ -32,7 +32,7 @@ isEmpty (x ∷ l) = false
 
 -- whether str::from_utf8(bytes) is Ok
 unfoldable pub isUtf8 : List ℕ → Bool
-isUtf8 bytes = not (ltb (wellFormedLength bytes) (length bytes))
+isUtf8 bytes = not (isIllFormed bytes)
 
 -- str::from_utf8(bytes).unwrap_or("")
 unfoldable pub utf8OrEmpty : List ℕ → List ℕ

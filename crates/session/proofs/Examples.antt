@@ -12,7 +12,7 @@ use Rattle.buffer.specs.Compare.{order, sameBytes}
 use Rattle.frame.specs.Text.{Bytes, numberBytes, numberOf, textOf, readText}
 use Rattle.frame.specs.Framed.{frameOf, frameFirst}
 use Rattle.frame.specs.Series.{textsFrom, textsIn, runs}
-use Rattle.frame.specs.House.{houseLine, ended, digitsOf, readDigits, readHouse, houseLeaves, writeHouse}
+use Rattle.frame.specs.House.{houseLine, endsInLF, digitsOf, readDigits, readHouse, houseLeaves, writeHouse}
 use Rattle.frame.specs.Hex.{digitOf, hexOf, digitValue, pairOf, unhex, firstBad}
 use Rattle.image.specs.Frames.{text, perhaps, encodeFrame}
 use Rattle.image.specs.Reading.{span, nodeLengths, definitionLengths, nodeFirst, optionFirst, flagFirst, headFirst, perhapsIn, nodeIn, optionIn, flagIn, strictFirst, readFirst}
@@ -60,5 +60,5 @@ output =
     ++ ascii "2261787669736f723a2420\n"))))
 
 in-full : linesOf (session beginning input) ≡ output
-unfolding encode encodeAll leastSecond greatestSecond within decodeTwo decodeThree decodeFour table decodeFirst letter letterHead letterFirst piecesFrom piecesOf bytesAll codesOf codesIn wellFormedLength whiteSpace among isWhiteSpace lowWhite gap runOf afterRun trimEnd trimmed allWhite blank wordsAfter wordsBetween nextWord order sameBytes Bytes numberBytes numberOf textOf readText frameOf frameFirst textsFrom textsIn runs houseLine ended digitsOf readDigits readHouse houseLeaves writeHouse overIfFits digitOf hexOf digitValue pairOf unhex firstBad text perhaps encodeFrame span nodeLengths definitionLengths nodeFirst optionFirst flagFirst headFirst perhapsIn nodeIn optionIn flagIn definedIn strictFirst readFirst allShown isName isNote isShort definable fair itemsFrom items framesIn framesOf flat rises follows obeys after judgeItems obeyAll checkTree upTo onFrom subtree treeNamed roleOf tokensFrom tokens wordsOf wordFrames put look has amongTable putWithin definitionsOf definitionsAt firstName meaning isOption beforeEquals longForm formOf withOption withFlag withPositional shortSteps args optionFrame flagFrame reportOf faultOf dashed reportAnswer reportLeaves descend isMissing missingRequired concluded parseIn parseWords parseLine toldIn outcomeAnswer outcomeLeaves parseAnswer parseLeaves ascii builtinOf beginsHelp helpWords faultMessage joined handlerOf carried executeIn execute otherSaid lineSaid saidOf digitsIn decimal valueAfter digitsValue moveBack redraw roomAnswer mostEntries newestIs isNew withRoom added wellFormed usable sound limit padded holding lineOf goodLine inserted erased content redrawn enter erase insert typed escaped sequenced up onPlace down right left turnOf afterKeys recordOf slotsOf journalOf wide frameOfSession linesOf shown prompt answered leaves keyPrints keyEnds formOfSession lineForm oneFrame takes takeForm takeLine pressKey pressKeys onTaking lineCourse session input output
+unfolding encode encodeAll leastSecond greatestSecond within decodeTwo decodeThree decodeFour table decodeFirst letter letterHead letterFirst piecesFrom piecesOf bytesAll codesOf codesIn wellFormedLength whiteSpace among isWhiteSpace lowWhite gap runOf afterRun trimEnd trimmed allWhite blank wordsAfter wordsBetween nextWord order sameBytes Bytes numberBytes numberOf textOf readText frameOf frameFirst textsFrom textsIn runs houseLine endsInLF digitsOf readDigits readHouse houseLeaves writeHouse overIfFits digitOf hexOf digitValue pairOf unhex firstBad text perhaps encodeFrame span nodeLengths definitionLengths nodeFirst optionFirst flagFirst headFirst perhapsIn nodeIn optionIn flagIn definedIn strictFirst readFirst allShown isName isNote isShort definable fair itemsFrom items framesIn framesOf flat rises follows obeys after judgeItems obeyAll checkTree upTo onFrom subtree treeNamed roleOf tokensFrom tokens wordsOf wordFrames put look has amongTable putWithin definitionsOf definitionsAt firstName meaning isOption beforeEquals longForm formOf withOption withFlag withPositional shortSteps args optionFrame flagFrame reportOf faultOf dashed reportAnswer reportLeaves descend isMissing missingRequired concluded parseIn parseWords parseLine toldIn outcomeAnswer outcomeLeaves parseAnswer parseLeaves ascii builtinOf beginsHelp helpWords faultMessage joined handlerOf carried executeIn execute otherSaid lineSaid saidOf digitsIn decimal valueAfter digitsValue moveBack redraw roomAnswer mostEntries newestIs isNew withRoom added wellFormed usable sound limit padded holding lineOf goodLine inserted erased content redrawn enter erase insert typed escaped sequenced up onPlace down right left turnOf afterKeys recordOf slotsOf journalOf wide frameOfSession linesOf shown prompt answered leaves keyPrints keyEnds formOfSession lineForm oneFrame takes takeForm takeLine pressKey pressKeys onTaking lineCourse session input output
 in-full = refl

@@ -13,7 +13,7 @@ use lib.Seq.{take-append-seam}
 use Rattle.buffer.specs.Write.{over}
 use Rattle.buffer.proofs.Choices.{then-is, else-is}
 use Rattle.frame.specs.Hex.{unhex, firstBad}
-use Rattle.frame.specs.House.{ended, digitsOf, readDigits, readHouse, houseLeaves, leftBy, HouseRead}
+use Rattle.frame.specs.House.{endsInLF, digitsOf, readDigits, readHouse, houseLeaves, leftBy, HouseRead}
 use Rattle.frame.specs.declared.house.House.{House}
 use Rattle.frame.specs.declared.house.House.the-variants.{Frame, Unended, Empty, TooLong, Odd, NoDigit, Short}
 use Rattle.frame.proofs.house.House.{the-type}
@@ -105,7 +105,7 @@ module _ (digits : List ℕ) (room : ℕ) (h : 512 ≤ room) where
 
 pub house-room : (line : List ℕ) (room : ℕ) → 512 ≤ room → readHouse line room ≡ readHouse line 512
 unfolding readHouse
-house-room line room h = ap (λ (x : House). cond (ended line) x Unended) (digits-room (digitsOf line) room h)
+house-room line room h = ap (λ (x : House). cond (endsInLF line) x Unended) (digits-room (digitsOf line) room h)
 
 -- what a line is by the answer of its reader
 module _ (line frame : List ℕ) (wide : 512 ≤ length frame) (r : House) (left : List ℕ) (g : HouseRead line frame r left) where

@@ -10,7 +10,7 @@ use Rattle.buffer.proofs.Ordering.{same-is}
 use Rattle.text.specs.Unicode.{encode}
 use Rattle.text.specs.Decoding.{Piece, character, table, decodeFirst, piecesFrom, piecesOf, bytesAll}
 use Rattle.text.specs.Space.{whiteSpace, among, isWhiteSpace}
-use Rattle.text.specs.Apart.{white, afterRun, beforeEnd, trimEnd, trimmed, ended, wordsAfter, wordsBetween}
+use Rattle.text.specs.Apart.{white, afterRun, beforeEnd, trimEnd, trimmed, unlessEmpty, wordsAfter, wordsBetween}
 use Rattle.buffer.specs.Ascii.{ascii}
 use Rattle.shell.specs.Lines.{builtinOf, beginsHelp, helpWords}
 use Rattle.shell.specs.declared.builtin.Builtin.the-variants.{Help}
@@ -21,7 +21,7 @@ unfolding wordsAfter
 some-word [] p word e = let z : _≡_ {A = ℕ} 0 1 = cc in omega arith
 some-word (q ∷ ps) p word e = by (white q) (some-word ps p (word ++ (q ∷ []))) e
   where
-    by : (t : Bool) → (wordsAfter (p ∷ (word ++ (q ∷ []))) ps ≡ [] → ⊥) → cond t (ended (p ∷ word) (wordsAfter [] ps)) (wordsAfter (p ∷ (word ++ (q ∷ []))) ps) ≡ [] → ⊥
+    by : (t : Bool) → (wordsAfter (p ∷ (word ++ (q ∷ []))) ps ≡ [] → ⊥) → cond t (unlessEmpty (p ∷ word) (wordsAfter [] ps)) (wordsAfter (p ∷ (word ++ (q ∷ []))) ps) ≡ [] → ⊥
     by true more h = let z : _≡_ {A = ℕ} 0 1 = cc in omega arith
     by false more h = more h
 

@@ -6,6 +6,7 @@ use mathlib.Core.List.{List, []}
 use lib.Dec.{ltb}
 use lib.ListN.{length}
 use Rattle.buffer.specs.Write.{over}
+use Rattle.frame.specs.Limits.{lineLimit, valueLimit}
 use Rattle.tree.specs.Images.{framesOf}
 use Rattle.tree.specs.Rules.{checkTree}
 use Rattle.parse.specs.Answer.{onChecked}
@@ -37,11 +38,11 @@ saidLeaves s out = cond (ltb (length out) (length (bytesOf s))) out (over (bytes
 unfoldable pub runAnswer : List ℕ → List ℕ → ℕ → Ran
 runAnswer image line room =
     onChecked (checkTree image) (λ n. BadTree n)
-    (cond (ltb 1024 (length line)) (LineTooLong (min (length line) 65535)) (saidAnswer (saidOf (framesOf image) line) room))
+    (cond (ltb lineLimit (length line)) (LineTooLong (min (length line) valueLimit)) (saidAnswer (saidOf (framesOf image) line) room))
 
 unfoldable pub runLeaves : List ℕ → List ℕ → List ℕ → List ℕ
 runLeaves image line out =
-    onChecked (checkTree image) (λ n. out) (cond (ltb 1024 (length line)) out (saidLeaves (saidOf (framesOf image) line) out))
+    onChecked (checkTree image) (λ n. out) (cond (ltb lineLimit (length line)) out (saidLeaves (saidOf (framesOf image) line) out))
 
 pub record Running (image line out : List ℕ) (r : Ran) (left : List ℕ) : Type 0 where
   pub answer : r ≡ runAnswer image line (length out)

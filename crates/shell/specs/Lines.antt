@@ -2,10 +2,10 @@
 use Prim.Native.Nat.{ℕ}
 use mathlib.Core.Bool.{Bool, cond}
 use mathlib.Core.List.{List, [], _∷_, _++_}
-use lib.Dec.{ltb, eqb}
-use lib.ListN.{length, take, drop}
+use lib.Dec.{eqb}
+use lib.ListN.{take, drop}
 use Rattle.buffer.specs.Compare.{sameBytes}
-use Rattle.text.specs.Decoding.{wellFormedLength}
+use Rattle.text.specs.Decoding.{isIllFormed}
 use Rattle.text.specs.Apart.{trimmed, blank, wordsBetween}
 use Rattle.words.specs.Tokens.{wordsOf}
 use Rattle.image.specs.Frames.{Frame, node, option, flag}
@@ -99,4 +99,4 @@ lineSaid frames line = onBuiltin (builtinOf (trimmed line)) (text 0 (availableTe
 
 -- any line under the frames of a tree
 unfoldable pub saidOf : List Frame → List ℕ → Said
-saidOf frames line = cond (ltb (wellFormedLength line) (length line)) (text 3 illFormed) (lineSaid frames line)
+saidOf frames line = cond (isIllFormed line) (text 3 illFormed) (lineSaid frames line)

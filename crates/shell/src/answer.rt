@@ -37,7 +37,7 @@ pub fn shown(number: u8, answer: Shown) -> Ran
 }
 
 // What showing the text of the end answers here.
-pub fn ended(answer: Shown) -> Ran
+pub fn exited(answer: Shown) -> Ran
     ensures { λ r. ⌜ ((out left : List ℕ) → Showing goodbye out answer left → Answered farewell out r left) ⌝ }
 {
     match answer {

@@ -2,6 +2,7 @@
 use buffer::Shown;
 use buffer::put;
 use buffer::rest;
+use frame::FRAMES_LIMIT;
 use frame::Framed;
 use frame::read_frame;
 use message::ParseError;
@@ -10,6 +11,7 @@ use report::write_fault;
 ghost use mathlib.Core.Path.{_≡_};
 ghost use Prim.Native.Nat.{_≤_, _<_};
 ghost use lib.ListN.{length};
+ghost use Rattle.frame.specs.Limits.{framesLimit};
 ghost use Rattle.frame.specs.Series.{textsIn, AllFrames};
 ghost use Rattle.report.specs.Inner.{dashed};
 ghost use Rattle.buffer.specs.Inks.{Inked};
@@ -33,7 +35,7 @@ pub fn told_of(number: u8) -> ParseError
 
 // The message that names some dashes and a text: put together as the frame of a fault, and lent without its head.
 pub fn show_dashed(told: ParseError, dashes: usize, text: &[u8], out: &mut [u8]) -> Shown
-    requires { ⌜ (dashes < 256) × (length (now text) ≤ 4096) ⌝ }
+    requires { ⌜ (dashes < 256) × (length (now text) ≤ framesLimit) ⌝ }
     ensures { λ r. ⌜ Showing (message told (dashed dashes (now (text .entry)))) (now (out .entry)) r (now (out .exit)) ⌝ }
 {
     let mut frame = [0u8; 4608];
@@ -44,7 +46,7 @@ pub fn show_dashed(told: ParseError, dashes: usize, text: &[u8], out: &mut [u8])
 
 // Writes the words of a path, which come as frames, each after a space, and returns the place after them.
 fn put_path(path: &[u8], out: &mut [u8]) -> usize
-    requires { ⌜ (length (now path) ≤ 4096) × AllFrames (now path) ⌝ }
+    requires { ⌜ (length (now path) ≤ framesLimit) × AllFrames (now path) ⌝ }
     ensures { λ r. ⌜ Inked (spaced (textsIn (now (path .entry)))) (now (out .entry)) 0 r (now (out .exit)) × (r ≤ length (now (path .entry))) ⌝ }
 {
     let mut at = 0;
@@ -64,10 +66,10 @@ fn put_path(path: &[u8], out: &mut [u8]) -> usize
 
 // The message of a command without a handler, which names its path joined by spaces.
 pub fn show_no_handler(path: &[u8], out: &mut [u8]) -> Shown
-    requires { ⌜ (length (now path) ≤ 4096) × AllFrames (now path) ⌝ }
+    requires { ⌜ (length (now path) ≤ framesLimit) × AllFrames (now path) ⌝ }
     ensures { λ r. ⌜ Showing (message NoHandler (joined (textsIn (now (path .entry))))) (now (out .entry)) r (now (out .exit)) ⌝ }
 {
-    let mut words = [0u8; 4096];
+    let mut words = [0u8; FRAMES_LIMIT];
     let end = put_path(path, &mut words);
     show_message(ParseError::NoHandler, rest(&words[..end], 1), out)
 }

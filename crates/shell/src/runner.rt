@@ -1,7 +1,7 @@
 // `run`: a line under a tree, in the order of the Rust's `handle_builtin_commands`, `run_cmd_bytes` and `execute_command`.
 use super::answer::Ran;
 use super::answer::called;
-use super::answer::ended;
+use super::answer::exited;
 use super::answer::shown;
 use super::builtin::Builtin;
 use super::builtin::builtin_of;
@@ -13,6 +13,9 @@ use super::handler::handler_of;
 use buffer::part;
 use buffer::rest;
 use buffer::same;
+use frame::FRAMES_LIMIT;
+use frame::LINE_LIMIT;
+use frame::told_length;
 use help::Followed;
 use help::follow;
 use help::show_available_commands;
@@ -39,34 +42,24 @@ use tree::find_command;
 use words::Tokens;
 use words::tokenize;
 ghost use mathlib.Core.Path.{_≡_};
-ghost use mathlib.Core.List.{List};
-ghost use Prim.Native.Nat.{ℕ, _≤_, min};
+ghost use Prim.Native.Nat.{_≤_};
 ghost use lib.ListN.{length};
 ghost use Rattle.text.specs.Apart.{wordsBetween};
+ghost use Rattle.frame.specs.Limits.{lineLimit, framesLimit};
 ghost use Rattle.frame.specs.Series.{textsIn};
 ghost use Rattle.tree.specs.Images.{framesOf};
 ghost use Rattle.tree.specs.Rules.{checkTree};
 ghost use Rattle.tree.specs.declared.check.Checked.the-variants.{Good};
-ghost use Rattle.tree.specs.Commands.{reachedBy};
-ghost use Rattle.tree.specs.Trails.{Within, Leads};
 ghost use Rattle.help.specs.Answer.{helpOf};
 ghost use Rattle.arguments.specs.Inner.{WellSplit};
-ghost use Rattle.parse.specs.Inner.{numberOf, outcomeIn};
-ghost use Rattle.shell.specs.Lines.{helpSaid, carried, execute, otherSaid, lineSaid};
+ghost use Rattle.shell.specs.Lines.{helpSaid, execute, otherSaid, lineSaid};
 ghost use Rattle.shell.specs.Answer.{Running};
-ghost use Rattle.shell.specs.Inner.{Answered, Splits, Ready, handlerBy, SplitInto, CommandAsks};
-
-// The length of a line that is too long, 65,535 if more.
-fn told_length(n: usize) -> usize
-    ensures { λ r. ⌜ r ≡ min n 65535 ⌝ }
-{
-    if n < 65535 { n } else { 65535 }
-}
+ghost use Rattle.shell.specs.Inner.{Answered, Splits, Ready, SplitInto, ExecutionAsks, FaultAsks, FaultTold, HandingAsks, HandedOut};
 
 // The message of a fault that was judged.
 fn tell_fault<'a>(words: &'a [u8], image: &'a [u8], judged: Judged, out: &mut [u8]) -> Ran
-    requires { ⌜ Within (now words) (now image) (judged .place) × (length (now words) ≤ 4096) × (length (now image) ≤ 32768) × (numberOf (judged .verdict) ≡ 0 → ⊥) ⌝ }
-    ensures { λ r. ⌜ ((handler : ℕ) (rest : List ℕ) → Answered (carried handler (outcomeIn (now (words .entry)) (now (image .entry)) rest judged)) (now (out .entry)) r (now (out .exit))) ⌝ }
+    requires { ⌜ FaultAsks (now words) (now image) judged ⌝ }
+    ensures { λ r. ⌜ FaultTold (now (words .entry)) (now (image .entry)) judged (now (out .entry)) r (now (out .exit)) ⌝ }
 {
     let place = judged.place;
     let start = place.start;
@@ -90,8 +83,8 @@ fn tell_command<'a>(
     handler: Handler,
     out: &mut [u8],
 ) -> Ran
-    requires { ⌜ CommandAsks (now words) (now image) judged (now rest) ⌝ }
-    ensures { λ r. ⌜ ((n : ℕ) → handler ≡ handlerBy n → Answered (carried n (outcomeIn (now (words .entry)) (now (image .entry)) (now (rest .entry)) judged)) (now (out .entry)) r (now (out .exit))) ⌝ }
+    requires { ⌜ HandingAsks (now words) (now image) judged (now rest) ⌝ }
+    ensures { λ r. ⌜ HandedOut (now (words .entry)) (now (image .entry)) judged (now (rest .entry)) handler (now (out .entry)) r (now (out .exit)) ⌝ }
 {
     let place = judged.place;
     let at = place.at;
@@ -120,10 +113,10 @@ fn tell_command<'a>(
 
 // The words of a line under a well-formed tree, in which they lead to what was found.
 fn execute_command<'a>(words: &'a [u8], image: &'a [u8], found: Found, out: &mut [u8]) -> Ran
-    requires { ⌜ (length (now words) ≤ 4096) × (checkTree (now image) ≡ Good) × Leads (now words) (now image) found (reachedBy (now image) (now words)) × WellSplit (now words) ⌝ }
+    requires { ⌜ ExecutionAsks (now words) (now image) found ⌝ }
     ensures { λ r. ⌜ Answered (execute (framesOf (now (image .entry))) (textsIn (now (words .entry)))) (now (out .entry)) r (now (out .exit)) ⌝ }
 {
-    let mut rest = [0u8; 4096];
+    let mut rest = [0u8; FRAMES_LIMIT];
     let judged = judge(words, image, found, &mut rest);
     let verdict = judged.verdict;
     if number_of(verdict) != 0 {
@@ -138,7 +131,7 @@ fn execute_command<'a>(words: &'a [u8], image: &'a [u8], found: Found, out: &mut
 
 // The help for words split on white space only.
 fn help_for(image: &[u8], words: &[u8], out: &mut [u8]) -> Ran
-    requires { ⌜ (checkTree (now image) ≡ Good) × (length (now words) ≤ 1024) ⌝ }
+    requires { ⌜ (checkTree (now image) ≡ Good) × (length (now words) ≤ lineLimit) ⌝ }
     ensures { λ r. ⌜ Answered (helpSaid (helpOf (framesOf (now (image .entry))) (wordsBetween (now (words .entry))))) (now (out .entry)) r (now (out .exit)) ⌝ }
 {
     let Word::At { start: _, end: _ } = next_word(words, 0) else {
@@ -182,7 +175,7 @@ fn handle_builtin_commands<'a>(
     let trimmed = trim(line);
     match builtin_of(trimmed) {
         Builtin::Help => shown(0, show_available_commands(image, out)),
-        Builtin::Exit => ended(show_goodbye(out)),
+        Builtin::Exit => exited(show_goodbye(out)),
         Builtin::Clear => shown(0, show_clear(out)),
         Builtin::None => run_other(image, line, words, found, out),
     }
@@ -190,7 +183,7 @@ fn handle_builtin_commands<'a>(
 
 // A line with the words that it has once trimmed. The image is tested, and on the way the words are followed.
 fn run_words<'a>(image: &'a [u8], line: &[u8], words: &'a [u8], out: &mut [u8]) -> Ran
-    requires { ⌜ (length (now words) ≤ 4096) × Splits (now line) (now words) × WellSplit (now words) ⌝ }
+    requires { ⌜ (length (now words) ≤ framesLimit) × Splits (now line) (now words) × WellSplit (now words) ⌝ }
     ensures { λ r. ⌜ Running (now (image .entry)) (now (line .entry)) (now (out .entry)) r (now (out .exit)) ⌝ }
 {
     let tested = find_command(words, image);
@@ -198,7 +191,7 @@ fn run_words<'a>(image: &'a [u8], line: &[u8], words: &'a [u8], out: &mut [u8]) 
     if let Checked::BadFrame(n) = checked {
         return Ran::BadTree(n);
     }
-    if 1024 < line.len() {
+    if LINE_LIMIT < line.len() {
         return Ran::LineTooLong(told_length(line.len()));
     }
     if well_formed_prefix(line) < line.len() {
@@ -211,7 +204,7 @@ fn run_words<'a>(image: &'a [u8], line: &[u8], words: &'a [u8], out: &mut [u8]) 
 // Splits a line into its words, as frames at the front of a buffer: how many bytes they take, 0 for a line that is refused. They always find
 // room: four bytes for each byte of a line.
 fn split(line: &[u8], words: &mut [u8]) -> usize
-    requires { ⌜ length (now words) ≡ 4096 ⌝ }
+    requires { ⌜ length (now words) ≡ framesLimit ⌝ }
     ensures { λ r. ⌜ SplitInto (now (line .entry)) r (now (words .exit)) ⌝ }
 {
     let Tokens::Words(n) = tokenize(line, words) else {
@@ -224,7 +217,7 @@ fn split(line: &[u8], words: &mut [u8]) -> usize
 pub fn run(image: &[u8], line: &[u8], out: &mut [u8]) -> Ran
     ensures { λ r. ⌜ Running (now (image .entry)) (now (line .entry)) (now (out .entry)) r (now (out .exit)) ⌝ }
 {
-    let mut words = [0u8; 4096];
+    let mut words = [0u8; FRAMES_LIMIT];
     let n = split(trim(line), &mut words);
     run_words(image, line, &words[..n], out)
 }

@@ -9,7 +9,7 @@ use lib.ListN.{length, take, drop, getD, length-append}
 use lib.Seq.{getD-append-add}
 use borrow.Author.Tests.{le-ltb, leb-false, eqb-true}
 use Rattle.buffer.proofs.Choices.{else-is, true-is-not-false}
-use Rattle.frame.specs.House.{LF, ended}
+use Rattle.frame.specs.House.{LF, endsInLF}
 use Rattle.session.specs.Lines.{Standing}
 use Rattle.session.specs.Sizes.{keyRoom}
 use Rattle.stream.specs.Bytes.{lineRoom, closes}
@@ -64,15 +64,15 @@ open-all held (byte ∷ bytes) e h = by (closes held byte) refl e (open-all (hel
     by true p q f = absurd (true-is-not-false q)
     by false p q f = let k = f q (go-on held byte p .1) in (ap suc (k .0), let l = k .1 in omega arith)
 
-pub ended-snoc : (l : List ℕ) (b : ℕ) → ended (l ++ (b ∷ [])) ≡ eqb b LF
-unfolding ended
+pub ended-snoc : (l : List ℕ) (b : ℕ) → endsInLF (l ++ (b ∷ [])) ≡ eqb b LF
+unfolding endsInLF
 ended-snoc l b =
     let n : length (l ++ (b ∷ [])) - 1 ≡ length l + 0 = simp length-append (omega arith) in
     ap (λ (i : ℕ). eqb (getD (l ++ (b ∷ [])) i 0) LF) n ∙ ap (λ (x : ℕ). eqb x LF) (getD-append-add l (b ∷ []) 0 0)
 
-pub open-unended : (held bytes : List ℕ) → ended held ≡ false → isClosed (length held) bytes ≡ false → ended (held ++ bytes) ≡ false
+pub open-unended : (held bytes : List ℕ) → endsInLF held ≡ false → isClosed (length held) bytes ≡ false → endsInLF (held ++ bytes) ≡ false
 unfolding isClosed
-open-unended held [] e c = ap ended (append-nil held) ∙ e
+open-unended held [] e c = ap endsInLF (append-nil held) ∙ e
 open-unended held (byte ∷ bytes) e c = by (closes (length held) byte) refl c (open-unended (held ++ (byte ∷ [])) bytes)
   where
     no-lf : (b : Bool) → eqb byte LF ≡ b → (byte ≡ LF → ⊥) → b ≡ false
@@ -80,13 +80,13 @@ open-unended held (byte ∷ bytes) e c = by (closes (length held) byte) refl c (
     no-lf false f k = refl
 
     by : (b : Bool) → closes (length held) byte ≡ b → cond b true (isClosed (length held + 1) bytes) ≡ false
-        → (ended (held ++ (byte ∷ [])) ≡ false → isClosed (length (held ++ (byte ∷ []))) bytes ≡ false → ended ((held ++ (byte ∷ [])) ++ bytes) ≡ false)
-        → ended (held ++ (byte ∷ bytes)) ≡ false
+        → (endsInLF (held ++ (byte ∷ [])) ≡ false → isClosed (length (held ++ (byte ∷ []))) bytes ≡ false → endsInLF ((held ++ (byte ∷ [])) ++ bytes) ≡ false)
+        → endsInLF (held ++ (byte ∷ bytes)) ≡ false
     by true p q f = absurd (true-is-not-false q)
     by false p q f =
         let n : length held + 1 ≡ length (held ++ (byte ∷ [])) = simp length-append in
         let other : eqb byte LF ≡ false = no-lf (eqb byte LF) refl (go-on (length held) byte p .0) in
-        ap ended (sym (append-assoc held (byte ∷ []) bytes))
+        ap endsInLF (sym (append-assoc held (byte ∷ []) bytes))
         ∙ f (ended-snoc held byte ∙ other) (ap (λ (m : ℕ). isClosed m bytes) (sym n) ∙ q)
 
 -- the definition, line by line

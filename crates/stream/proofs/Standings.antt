@@ -9,7 +9,7 @@ use lib.ListN.{length, take, drop, getD}
 use borrow.Author.Tests.{lt-ltb, le-ltb, leb-false, leb-true}
 use Rattle.buffer.proofs.Choices.{then-is, else-is, true-is-not-false}
 use Rattle.buffer.proofs.Lists.{drop-step}
-use Rattle.frame.specs.House.{ended}
+use Rattle.frame.specs.House.{endsInLF}
 use Rattle.editor.specs.Turns.{State}
 use Rattle.buffer.proofs.Zeros.{length-zeros}
 use Rattle.history.specs.Journal.{noEntries, slotsOf}
@@ -62,8 +62,8 @@ module _ (h : Session) (line image slots : List ℕ) where
       by true e = sym (else-is _ _ _ (le-ltb (h .lines) 65535 (leb-true _ _ e)))
       by false e = sym (then-is _ _ _ (lt-ltb (h .lines) 65535 (leb-false _ _ e)))
 
-  nothing-held : ended (take 0 line) ≡ false
-  unfolding ended
+  nothing-held : endsInLF (take 0 line) ≡ false
+  unfolding endsInLF
   nothing-held = refl
 
   module _ (k : Ready h line image slots) where

@@ -13,7 +13,7 @@ use borrow.Author.Tests.{lt-ltb, le-ltb, eq-eqb, ne-eqb}
 use Rattle.buffer.specs.Write.{over, overAt}
 use Rattle.buffer.proofs.Choices.{then-is, else-is, true-is-not-false}
 use Rattle.buffer.proofs.Lending.{length-overAt, overAt-front, overAt-nothing}
-use Rattle.frame.specs.House.{ended}
+use Rattle.frame.specs.House.{endsInLF}
 use Rattle.session.specs.Prints.{Printed, badLine, linesOf}
 use Rattle.session.specs.Calls.{RefusingLine}
 use Rattle.session.specs.Sizes.{keyRoom}
@@ -115,7 +115,7 @@ module _ (s : Stream) (line image slots : List ℕ) (k : Sound s line image slot
               held = let c = h .count in let n = all .0 in let l = all .1 in omega arith;
               keys = omega arith;
               early = λ x y. early;
-              unended = ap ended text ∙ open-unended (take (s .held) line) bytes (k .unended) apart;
+              unended = ap endsInLF text ∙ open-unended (take (s .held) line) bytes (k .unended) apart;
             };
       })
 

@@ -8,7 +8,7 @@ use lib.Dec.{ltb, eqb}
 use lib.ListN.{length}
 use borrow.Author.Tests.{lt-ltb, ltb-true, eqb-true}
 use Rattle.buffer.proofs.Choices.{then-is, else-is}
-use Rattle.frame.specs.House.{LF, ended, digitsOf, readHouse}
+use Rattle.frame.specs.House.{LF, endsInLF, digitsOf, readHouse}
 use Rattle.frame.specs.Hex.{unhex}
 use Rattle.frame.specs.declared.house.House.{House}
 use Rattle.session.specs.Prints.{Printed, badLine, linesOf}
@@ -21,7 +21,7 @@ use Rattle.stream.proofs.Reaches.{go-on, ended-snoc}
 
 -- where steps lead: a stream that reads is before its last line, and what it holds is not at its end
 abbrev pub Fit : Stand → Type 0
-Fit (reads at held) = (at .lines < 65535) × (ended held ≡ false)
+Fit (reads at held) = (at .lines < 65535) × (endsInLF held ≡ false)
 Fit (waits at keys) = Unit {0}
 Fit closed = Unit {0}
 
@@ -40,7 +40,7 @@ behind-rest at bytes = by (ltb (at .lines) 65535) refl
     by false e = sym (late at (cut [] bytes) e)
 
 behind-fit : (at : Standing) → Fit (behindLine at)
-unfolding behindLine ended
+unfolding behindLine endsInLF
 behind-fit at = by (ltb (at .lines) 65535) refl
   where
     by : (b : Bool) → ltb (at .lines) 65535 ≡ b → Fit (cond b (reads at []) closed)
@@ -179,11 +179,11 @@ step-comes room s piece more f =
     (take-comes (room - size (resume room s .prints)) (resume room s .after) piece more (resume-fit room s f))
 
 -- THE INPUT'S END
-unended-form : (line : List ℕ) → ended line ≡ false → lineForm line ≡ formless
+unended-form : (line : List ℕ) → endsInLF line ≡ false → lineForm line ≡ formless
 unfolding lineForm readHouse
 unended-form line e = ap (λ (x : House). formBy x (unhex (digitsOf line))) (else-is _ _ _ e)
 
-bad-line : (at : Standing) (line : List ℕ) → ended line ≡ false
+bad-line : (at : Standing) (line : List ℕ) → endsInLF line ≡ false
     → cond (lineCourse at line .ends) (lineCourse at line .prints) (lineCourse at line .prints ++ session (lineCourse at line .after) []) ≡ badLine (at .lines + 1) ∷ []
 unfolding lineCourse takeLine takeForm onTaking
 bad-line at line e =
@@ -214,5 +214,5 @@ run-comes _ _ _ f (steps room s piece more out r) =
 
 -- from the beginning on it writes what the definition says of all bytes that were read
 pub whole : (bytes out : List ℕ) → Run start bytes out → out ≡ console bytes
-unfolding console linesIn rest ended
+unfolding console linesIn rest endsInLF
 whole bytes out r = run-comes start bytes out (omega arith, refl) r

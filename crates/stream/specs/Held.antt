@@ -6,7 +6,7 @@ use mathlib.Core.List.{List, [], _∷_}
 use lib.Dec.{ltb, leb, eqb}
 use lib.ListN.{length, take, drop}
 use Rattle.buffer.specs.Write.{over}
-use Rattle.frame.specs.House.{ended}
+use Rattle.frame.specs.House.{endsInLF}
 use Rattle.editor.specs.Answer.{stateOf}
 use Rattle.session.specs.Prints.{Printed, badLine, linesOf}
 use Rattle.session.specs.Lines.{Standing}
@@ -65,7 +65,7 @@ pub record Sound (s : Stream) (line image slots : List ℕ) : Type 0 where
   pub held : s .held < lineRoom
   pub keys : s .keys ≤ lineRoom
   pub early : s .over ≡ false → ltb (s .next) (s .keys) ≡ false → s .session .lines < 65535
-  pub unended : ended (take (s .held) line) ≡ false
+  pub unended : endsInLF (take (s .held) line) ≡ false
 
 -- a step over a piece of the input, printed at the front
 pub record Stepped (went : Went) (piece out : List ℕ) (r : Step) (line′ image′ slots′ out′ : List ℕ) : Type 0 where

@@ -12,7 +12,7 @@ use Rattle.buffer.proofs.Lists.{drop-end}
 use Rattle.text.specs.Decoding.{Piece, piecesOf, bytesOf, bytesAll}
 use Rattle.text.specs.declared.apart.Word.{Word}
 use Rattle.text.specs.declared.apart.Word.the-variants.{At, Nothing}
-use Rattle.text.specs.Apart.{white, runOf, afterRun, trimEnd, beforeEnd, trimmed, allWhite, blank, ended, wordsAfter, wordsBetween, wordAt, nextWord}
+use Rattle.text.specs.Apart.{white, runOf, afterRun, trimEnd, beforeEnd, trimmed, allWhite, blank, unlessEmpty, wordsAfter, wordsBetween, wordAt, nextWord}
 use Rattle.text.proofs.Pieces.{Fair, by-pieces, pieces-bytes, pieces-none, piece-some}
 use Rattle.text.proofs.WhiteRuns.{solidLength}
 
@@ -282,16 +282,16 @@ words-start (p ∷ ps) = by (white p) refl (words-start ps)
     by true e h = h
     by false e h = rw e
 
-words-first : (word ps : List Piece) → wordsAfter word ps ≡ ended (word ++ runOf false ps) (wordsAfter [] (afterRun false ps))
+words-first : (word ps : List Piece) → wordsAfter word ps ≡ unlessEmpty (word ++ runOf false ps) (wordsAfter [] (afterRun false ps))
 unfolding wordsAfter runOf afterRun
-words-first word [] = ap (λ (l : List Piece). ended l []) (sym (append-nil word))
+words-first word [] = ap (λ (l : List Piece). unlessEmpty l []) (sym (append-nil word))
 words-first word (p ∷ ps) = by (white p) refl (words-first (word ++ (p ∷ [])) ps)
   where
-    by : (t : Bool) → white p ≡ t → wordsAfter (word ++ (p ∷ [])) ps ≡ ended ((word ++ (p ∷ [])) ++ runOf false ps) (wordsAfter [] (afterRun false ps))
-        → cond t (ended word (wordsAfter [] ps)) (wordsAfter (word ++ (p ∷ [])) ps)
-        ≡ ended (word ++ cond (Bool·beq t false) (p ∷ runOf false ps) []) (wordsAfter [] (cond (Bool·beq t false) (afterRun false ps) (p ∷ ps)))
-    by true e h = rw e (ap (λ (l : List Piece). ended l (wordsAfter [] ps)) (sym (append-nil word)))
-    by false e h = h ∙ ap (λ (l : List Piece). ended l (wordsAfter [] (afterRun false ps))) (append-snoc word p (runOf false ps))
+    by : (t : Bool) → white p ≡ t → wordsAfter (word ++ (p ∷ [])) ps ≡ unlessEmpty ((word ++ (p ∷ [])) ++ runOf false ps) (wordsAfter [] (afterRun false ps))
+        → cond t (unlessEmpty word (wordsAfter [] ps)) (wordsAfter (word ++ (p ∷ [])) ps)
+        ≡ unlessEmpty (word ++ cond (Bool·beq t false) (p ∷ runOf false ps) []) (wordsAfter [] (cond (Bool·beq t false) (afterRun false ps) (p ∷ ps)))
+    by true e h = rw e (ap (λ (l : List Piece). unlessEmpty l (wordsAfter [] ps)) (sym (append-nil word)))
+    by false e h = h ∙ ap (λ (l : List Piece). unlessEmpty l (wordsAfter [] (afterRun false ps))) (append-snoc word p (runOf false ps))
 
 -- the next word of a text, and the words after it, are its words
 abbrev pub WordsBy : List ℕ → Word → Type 0
@@ -331,8 +331,8 @@ words-by s start (p ∷ word) e w =
     let size : start + k - start ≡ k = omega arith in
     let taken : take k t ≡ bytesAll (p ∷ word) = rw w at (h .taken) in
     let rest : piecesOf (drop k t) ≡ afterRun false (piecesOf t) = rw w at (h .rest) in
-    let words : wordsAfter [] (piecesOf s) ≡ ended (p ∷ word) (wordsAfter [] (afterRun false (piecesOf t))) =
-    words-start (piecesOf s) ∙ ap (wordsAfter []) (sym e) ∙ words-first [] (piecesOf t) ∙ ap (λ (l : List Piece). ended l (wordsAfter [] (afterRun false (piecesOf t)))) w
+    let words : wordsAfter [] (piecesOf s) ≡ unlessEmpty (p ∷ word) (wordsAfter [] (afterRun false (piecesOf t))) =
+    words-start (piecesOf s) ∙ ap (wordsAfter []) (sym e) ∙ words-first [] (piecesOf t) ∙ ap (λ (l : List Piece). unlessEmpty l (wordsAfter [] (afterRun false (piecesOf t)))) w
     in
     ap (map bytesAll) words
     ∙ ap (λ (l : List ℕ). l ∷ map bytesAll (wordsAfter [] (afterRun false (piecesOf t)))) (sym taken ∙ ap (λ (n : ℕ). take n t) (sym size))

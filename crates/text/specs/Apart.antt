@@ -44,14 +44,14 @@ unfoldable pub blank : List ℕ → Bool
 blank s = allWhite (piecesOf s)
 
 -- a word that ends stands before the words that follow; an empty one does not exist
-abbrev pub ended : {A : Type 0} → List A → List (List A) → List (List A)
-ended [] words = words
-ended (a ∷ word) words = (a ∷ word) ∷ words
+abbrev pub unlessEmpty : {A : Type 0} → List A → List (List A) → List (List A)
+unlessEmpty [] words = words
+unlessEmpty (a ∷ word) words = (a ∷ word) ∷ words
 
 -- the words between white space: `word` has been read and not yet ended
 unfoldable pub wordsAfter : List Piece → List Piece → List (List Piece)
-wordsAfter word [] = ended word []
-wordsAfter word (p ∷ pieces) = cond (white p) (ended word (wordsAfter [] pieces)) (wordsAfter (word ++ (p ∷ [])) pieces)
+wordsAfter word [] = unlessEmpty word []
+wordsAfter word (p ∷ pieces) = cond (white p) (unlessEmpty word (wordsAfter [] pieces)) (wordsAfter (word ++ (p ∷ [])) pieces)
 
 unfoldable pub wordsBetween : List ℕ → List (List ℕ)
 wordsBetween s = map bytesAll (wordsAfter [] (piecesOf s))

@@ -114,3 +114,7 @@ wellFormedLength s = length (encodeAll (codesIn s))
 -- a well-formed text: its longest well-formed prefix is all of it
 unfoldable pub wellFormed : List ℕ → Bool
 wellFormed text = eqb (wellFormedLength text) (length text)
+
+-- an ill-formed one: that prefix is shorter
+abbrev pub isIllFormed : List ℕ → Bool
+isIllFormed text = ltb (wellFormedLength text) (length text)

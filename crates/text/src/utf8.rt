@@ -5,6 +5,7 @@ ghost use Prim.Native.Nat.{_%_, _≤_, _<_};
 ghost use Rattle.text.specs.Decoding.{leastSecond, greatestSecond, within, second, later, decodeTwo, decodeThree, decodeFour, table, decodeFirst, letterFirst, wellFormedLength};
 ghost use Rattle.text.specs.Inner.{lengthOf, letterHead};
 use buffer::greatest_byte;
+use buffer::octet_at;
 
 // What stands at a place of a text.
 pub enum Decoded {
@@ -114,13 +115,6 @@ fn four(a: u8, b: u8, c: u8, d: u8) -> Decoded
     Decoded::IllFormed
 }
 
-// The byte at a place, 0 past the end.
-fn byte_at(s: &[u8], at: usize) -> u8
-    ensures { λ r. ⌜ r ≡ getD (now (s .entry)) at 0 ⌝ }
-{
-    if at < s.len() { s[at] } else { 0 }
-}
-
 // The character that begins with a, no ASCII byte, and goes on with b, c and d as far as it needs them.
 fn longer(a: u8, b: u8, c: u8, d: u8) -> Decoded
     requires { ⌜ 0x80 ≤ a ⌝ }
@@ -142,9 +136,9 @@ fn decode_longer(s: &[u8], at: usize) -> Decoded
 {
     longer(
         s[at],
-        byte_at(s, at + 1),
-        byte_at(s, at + 2),
-        byte_at(s, at + 3),
+        octet_at(s, at + 1),
+        octet_at(s, at + 2),
+        octet_at(s, at + 3),
     )
 }
 
@@ -207,10 +201,10 @@ pub fn letter_at(s: &[u8], at: usize) -> usize
         return 0;
     }
     if a < 0xE0 {
-        return length_of_two(a, byte_at(s, at + 1));
+        return length_of_two(a, octet_at(s, at + 1));
     }
     if is_letter_head(a) {
-        return length_of_three(a, byte_at(s, at + 1), byte_at(s, at + 2));
+        return length_of_three(a, octet_at(s, at + 1), octet_at(s, at + 2));
     }
     0
 }

@@ -24,6 +24,9 @@ pub struct Tested {
     pub found: Found,
 }
 
+// The bytes of an image: imageLimit of the definitions.
+pub const IMAGE_LIMIT: usize = 32768;
+
 // An image that is bad at that frame.
 fn bad(n: usize) -> Tested
     ensures { λ r. ⌜ r .checked ≡ BadFrame n ⌝ }
@@ -39,7 +42,7 @@ pub fn find_command(words: &[u8], image: &[u8]) -> Tested
     requires { ⌜ length (now words) ≤ framesLimit ⌝ }
     ensures { λ r. ⌜ Finding (now (words .entry)) (now (image .entry)) r ⌝ }
 {
-    if 32768 < image.len() {
+    if IMAGE_LIMIT < image.len() {
         return bad(0);
     }
     let mut walk = Walk::start();

@@ -1,4 +1,5 @@
 // One frame more at the end of an image that lies at the front of a lent buffer.
+use super::check::IMAGE_LIMIT;
 use super::walk::Step;
 use super::walk::Walk;
 use super::walk::step_over;
@@ -13,10 +14,10 @@ fn has_room(walk: Walk, size: usize, room: usize) -> bool
     if 8 < walk.deep {
         return false;
     }
-    if 32768 < walk.at {
+    if IMAGE_LIMIT < walk.at {
         return false;
     }
-    if 32768 - walk.at < size {
+    if IMAGE_LIMIT - walk.at < size {
         return false;
     }
     walk.at + size <= room

@@ -6,6 +6,7 @@ mod growing;
 mod walk;
 
 pub use check::Checked;
+pub use check::IMAGE_LIMIT;
 pub use check::Tested;
 pub use check::check_tree;
 pub use check::find_command;

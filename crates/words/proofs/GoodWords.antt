@@ -7,7 +7,7 @@ use native.Mathlib.Omega.{arith}
 use lib.ListN.{length, length-append}
 use Rattle.text.specs.Unicode.{Scalar, Scalars, none, more, encode, encodeAll, WellFormed}
 use Rattle.text.specs.Decoding.{codesIn}
-use Rattle.text.specs.Apart.{ended}
+use Rattle.text.specs.Apart.{unlessEmpty}
 use Rattle.text.proofs.Pieces.{encode-some}
 use Rattle.text.proofs.Prefix.{codes-scalars}
 use Rattle.words.specs.declared.role.Role.{Role}
@@ -33,7 +33,7 @@ scalars-more : (word : List ℕ) (code : ℕ) → Scalars word → Scalar code �
 scalars-more [] code none h = more h none
 scalars-more (c ∷ word) code (more k ks) h = more k (scalars-more word code ks h)
 
-ended-fair : (word : List ℕ) (words : List (List ℕ)) → Scalars word → Each Fair words → Each Fair (ended word words)
+ended-fair : (word : List ℕ) (words : List (List ℕ)) → Scalars word → Each Fair words → Each Fair (unlessEmpty word words)
 ended-fair [] words s h = h
 ended-fair (c ∷ word) words s h = also {word = c ∷ word} (record { some = omega arith; scalars = s }) h
 
@@ -47,7 +47,7 @@ tokens-fair word quotes escaped (code ∷ codes) s (more h hs) =
     by : (t : Role) → Each Fair (tokensFrom (word ++ (code ∷ [])) quotes false codes) → Each Fair (tokensFrom word quotes true codes)
         → Each Fair (tokensFrom word (not quotes) false codes) → Each Fair (tokensFrom [] quotes false codes)
         → Each Fair (onRole t (λ _. tokensFrom (word ++ (code ∷ [])) quotes false codes) (λ _. tokensFrom word quotes true codes) (λ _. tokensFrom word (not quotes) false codes)
-        (λ _. ended word (tokensFrom [] quotes false codes)))
+        (λ _. unlessEmpty word (tokensFrom [] quotes false codes)))
     by Take a b c d = a
     by Escape a b c d = b
     by Toggle a b c d = c

@@ -9,7 +9,7 @@ use lib.ListN.{length}
 use Rattle.buffer.specs.Write.{over, overAt, Written}
 use Rattle.buffer.proofs.Lending.{length-over, overAt-front, overAt-both, overAt-before, overAt-nothing}
 use Rattle.text.specs.Unicode.{encodeAll}
-use Rattle.text.specs.Apart.{ended}
+use Rattle.text.specs.Apart.{unlessEmpty}
 use Rattle.text.proofs.Prefix.{encode-append}
 use Rattle.frame.specs.Text.{numberBytes, textOf}
 use Rattle.frame.specs.Framed.{frameOf}
@@ -58,7 +58,7 @@ some-word : (c : ℕ) (word : List ℕ) → length (encodeAll (c ∷ word)) ≡ 
 some-word c word e = let q = word-none (c ∷ word) e in let z : _≡_ {A = ℕ} 0 1 = cc in omega arith
 
 close-word : (frames word out : List ℕ) (done n : ℕ) → done ≡ length frames → n ≡ length (encodeAll word) → closedAt done n ≤ length out
-    → headed done n (laid frames word out done) ≡ over (frames ++ shown (ended word [])) out
+    → headed done n (laid frames word out done) ≡ over (frames ++ shown (unlessEmpty word [])) out
 unfolding laid shown wordFrames encodeAll
 close-word frames [] out done n d e room =
     headed-none done n _ e
@@ -121,7 +121,7 @@ laid-turn line out₀ out s Gap n h r room =
       bytes =
           ap (headed (s .done) (s .word)) (h .bytes)
           ∙ close-word (l .frames) (l .word) out₀ (s .done) (s .word) (l .done-is) (l .word-is) k
-          ∙ laid-empty (l .frames ++ shown (ended (l .word) [])) out₀ (closedAt (s .done) (s .word));
+          ∙ laid-empty (l .frames ++ shown (unlessEmpty (l .word) [])) out₀ (closedAt (s .done) (s .word));
     }
 
 -- the line has ended

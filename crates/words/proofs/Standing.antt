@@ -8,7 +8,7 @@ use lib.ListN.{length, drop, length-append, length-drop}
 use lib.Seq.{length-take-le}
 use Rattle.text.specs.Unicode.{encode, encodeAll}
 use Rattle.text.specs.Decoding.{codesIn, wellFormedLength}
-use Rattle.text.specs.Apart.{ended}
+use Rattle.text.specs.Apart.{unlessEmpty}
 use Rattle.text.proofs.Pieces.{encode-some}
 use Rattle.text.proofs.Prefix.{codes-whole, codes-end, prefix-none, encode-append}
 use Rattle.frame.specs.Framed.{frameOf}
@@ -31,7 +31,7 @@ unfoldable pub shown : List (List ℕ) → List ℕ
 shown words = wordFrames (map encodeAll words)
 
 -- a word that ends stands in front of the rest
-pub shown-ended : (word : List ℕ) (words : List (List ℕ)) → shown (ended word words) ≡ shown (ended word []) ++ shown words
+pub shown-ended : (word : List ℕ) (words : List (List ℕ)) → shown (unlessEmpty word words) ≡ shown (unlessEmpty word []) ++ shown words
 unfolding shown wordFrames
 shown-ended [] words = refl
 shown-ended (c ∷ word) words = ap (λ (l : List ℕ). l ++ wordFrames (map encodeAll words)) (sym (append-nil (frameOf 0x14 (encodeAll (c ∷ word)))))
@@ -43,7 +43,7 @@ word-none [] e = refl
 word-none (c ∷ word) e = absurd (let h = encode-some c in omega (arith, length-append (encode c) (encodeAll word)))
 
 -- what an open word takes once it ends
-pub shown-length : (word : List ℕ) (done n : ℕ) → n ≡ length (encodeAll word) → done + length (shown (ended word [])) ≡ closedAt done n
+pub shown-length : (word : List ℕ) (done n : ℕ) → n ≡ length (encodeAll word) → done + length (shown (unlessEmpty word [])) ≡ closedAt done n
 unfolding shown wordFrames encodeAll
 shown-length [] done n e = let z = closed-none done n e in omega arith
 shown-length (c ∷ word) done n e =
@@ -153,7 +153,7 @@ standing-turn line s Toggle n h r =
 standing-turn line s Gap n h r =
     let k = h .cost in
     let l = h .done-is in
-    let last : List ℕ = shown (ended (h .word) []) in
+    let last : List ℕ = shown (unlessEmpty (h .word) []) in
     let size = shown-length (h .word) (s .done) (s .word) (h .word-is) in
     let whole = length-append (h .frames) last in
     let empty = closed-none (closedAt (s .done) (s .word)) 0 refl in
@@ -174,7 +174,7 @@ standing-turn line s Gap n h r =
 
 -- the line has ended: the open word ends with it
 module _ (line : List ℕ) (s : Scan) (h : Standing line s) (end : length line ≤ s .at) where
-  pub all-ended : written line ≡ h .frames ++ shown (ended (h .word) [])
+  pub all-ended : written line ≡ h .frames ++ shown (unlessEmpty (h .word) [])
   unfolding tokensFrom
   all-ended =
       h .all ∙ ap (λ (l : List ℕ). h .frames ++ shown (tokensFrom (h .word) (s .quotes) (s .escaped) l)) (codes-end line (s .at) end)
@@ -183,7 +183,7 @@ module _ (line : List ℕ) (s : Scan) (h : Standing line s) (end : length line �
   length-ended =
       let l = h .done-is in
       let size = shown-length (h .word) (s .done) (s .word) (h .word-is) in
-      let whole = ap length all-ended ∙ length-append (h .frames) (shown (ended (h .word) [])) in
+      let whole = ap length all-ended ∙ length-append (h .frames) (shown (unlessEmpty (h .word) [])) in
       omega arith
 
   pub well-formed-ended : wellFormedLength line ≡ length line
@@ -214,7 +214,7 @@ module _ (line : List ℕ) (s : Scan) (h : Standing line s) (on : s .at < length
       then-is _ _ _ (lt-ltb (wellFormedLength line) (length line) (omega arith)) ∙ ap IllFormed w
 
 -- what comes takes at least what the open word takes once it ends
-longer-word : (word : List ℕ) (code : ℕ) → length (shown (ended word [])) ≤ length (shown (ended (word ++ (code ∷ [])) []))
+longer-word : (word : List ℕ) (code : ℕ) → length (shown (unlessEmpty word [])) ≤ length (shown (unlessEmpty (word ++ (code ∷ [])) []))
 longer-word word code =
     let m = word-more word (code ∷ []) in
     let a = shown-length word 0 (length (encodeAll word)) refl in
@@ -227,23 +227,23 @@ longer-word word code =
     (λ (p : length (encodeAll word) ≤ 0). let c = closed-none 0 (length (encodeAll word)) (omega arith) in omega arith)
     (below-or-not 0 (length (encodeAll word)))
 
-grows : (word : List ℕ) (quotes escaped : Bool) (codes : List ℕ) → length (shown (ended word [])) ≤ length (shown (tokensFrom word quotes escaped codes))
+grows : (word : List ℕ) (quotes escaped : Bool) (codes : List ℕ) → length (shown (unlessEmpty word [])) ≤ length (shown (tokensFrom word quotes escaped codes))
 unfolding tokensFrom
 grows word quotes escaped [] = omega arith
 grows word quotes escaped (code ∷ codes) =
     by (roleOf quotes escaped code) (grows (word ++ (code ∷ [])) quotes false codes) (grows word quotes true codes) (grows word (not quotes) false codes)
   where
-    by : (t : Role) → length (shown (ended (word ++ (code ∷ [])) [])) ≤ length (shown (tokensFrom (word ++ (code ∷ [])) quotes false codes))
-        → length (shown (ended word [])) ≤ length (shown (tokensFrom word quotes true codes))
-        → length (shown (ended word [])) ≤ length (shown (tokensFrom word (not quotes) false codes))
-        → length (shown (ended word []))
+    by : (t : Role) → length (shown (unlessEmpty (word ++ (code ∷ [])) [])) ≤ length (shown (tokensFrom (word ++ (code ∷ [])) quotes false codes))
+        → length (shown (unlessEmpty word [])) ≤ length (shown (tokensFrom word quotes true codes))
+        → length (shown (unlessEmpty word [])) ≤ length (shown (tokensFrom word (not quotes) false codes))
+        → length (shown (unlessEmpty word []))
         ≤ length (shown (onRole t (λ _. tokensFrom (word ++ (code ∷ [])) quotes false codes) (λ _. tokensFrom word quotes true codes) (λ _. tokensFrom word (not quotes) false codes)
-        (λ _. ended word (tokensFrom [] quotes false codes))))
+        (λ _. unlessEmpty word (tokensFrom [] quotes false codes))))
     by Take a b c = let l = longer-word word code in omega arith
     by Escape a b c = b
     by Toggle a b c = c
     by Gap a b c =
-        omega (arith, ap length (shown-ended word (tokensFrom [] quotes false codes)), length-append (shown (ended word [])) (shown (tokensFrom [] quotes false codes)))
+        omega (arith, ap length (shown-ended word (tokensFrom [] quotes false codes)), length-append (shown (unlessEmpty word [])) (shown (tokensFrom [] quotes false codes)))
 
 pub standing-room : (line : List ℕ) (s : Scan) → Standing line s → closedBy s ≤ length (written line)
 standing-room line s h =
@@ -254,7 +254,7 @@ standing-room line s h =
     omega arith
 
 -- the words of a line take at most four times its bytes
-word-costs : (word : List ℕ) (code : ℕ) → length (shown (ended (word ++ (code ∷ [])) [])) ≤ length (shown (ended word [])) + 4 * length (encode code)
+word-costs : (word : List ℕ) (code : ℕ) → length (shown (unlessEmpty (word ++ (code ∷ [])) [])) ≤ length (shown (unlessEmpty word [])) + 4 * length (encode code)
 word-costs word code =
     let some = encode-some code in
     let m = word-more word (code ∷ []) in
@@ -267,12 +267,12 @@ word-costs word code =
     (λ (p : length (encodeAll word) ≤ 0). let c = closed-none 0 (length (encodeAll word)) (omega arith) in omega arith)
     (below-or-not 0 (length (encodeAll word)))
 
-nothing-shown : length (shown (ended {A = ℕ} [] [])) ≡ 0
+nothing-shown : length (shown (unlessEmpty {A = ℕ} [] [])) ≡ 0
 unfolding shown wordFrames
 nothing-shown = refl
 
 costs : (word : List ℕ) (quotes escaped : Bool) (codes : List ℕ)
-    → length (shown (tokensFrom word quotes escaped codes)) ≤ length (shown (ended word [])) + 4 * length (encodeAll codes)
+    → length (shown (tokensFrom word quotes escaped codes)) ≤ length (shown (unlessEmpty word [])) + 4 * length (encodeAll codes)
 unfolding tokensFrom encodeAll
 costs word quotes escaped [] = omega arith
 costs word quotes escaped (code ∷ codes) =
@@ -282,12 +282,12 @@ costs word quotes escaped (code ∷ codes) =
     size : length (encode code ++ encodeAll codes) ≡ length (encode code) + length (encodeAll codes)
     size = length-append (encode code) (encodeAll codes)
 
-    by : (t : Role) → length (shown (tokensFrom (word ++ (code ∷ [])) quotes false codes)) ≤ length (shown (ended (word ++ (code ∷ [])) [])) + 4 * length (encodeAll codes)
-        → length (shown (tokensFrom word quotes true codes)) ≤ length (shown (ended word [])) + 4 * length (encodeAll codes)
-        → length (shown (tokensFrom word (not quotes) false codes)) ≤ length (shown (ended word [])) + 4 * length (encodeAll codes)
-        → length (shown (tokensFrom [] quotes false codes)) ≤ length (shown (ended {A = ℕ} [] [])) + 4 * length (encodeAll codes)
+    by : (t : Role) → length (shown (tokensFrom (word ++ (code ∷ [])) quotes false codes)) ≤ length (shown (unlessEmpty (word ++ (code ∷ [])) [])) + 4 * length (encodeAll codes)
+        → length (shown (tokensFrom word quotes true codes)) ≤ length (shown (unlessEmpty word [])) + 4 * length (encodeAll codes)
+        → length (shown (tokensFrom word (not quotes) false codes)) ≤ length (shown (unlessEmpty word [])) + 4 * length (encodeAll codes)
+        → length (shown (tokensFrom [] quotes false codes)) ≤ length (shown (unlessEmpty {A = ℕ} [] [])) + 4 * length (encodeAll codes)
         → length (shown (onRole t (λ _. tokensFrom (word ++ (code ∷ [])) quotes false codes) (λ _. tokensFrom word quotes true codes) (λ _. tokensFrom word (not quotes) false codes)
-        (λ _. ended word (tokensFrom [] quotes false codes)))) ≤ length (shown (ended word [])) + 4 * length (encode code ++ encodeAll codes)
+        (λ _. unlessEmpty word (tokensFrom [] quotes false codes)))) ≤ length (shown (unlessEmpty word [])) + 4 * length (encode code ++ encodeAll codes)
     by Take a b c d = omega (arith, word-costs word code, size)
     by Escape a b c d = omega (arith, size)
     by Toggle a b c d = omega (arith, size)
@@ -297,7 +297,7 @@ costs word quotes escaped (code ∷ codes) =
           size,
           nothing-shown,
           ap length (shown-ended word (tokensFrom [] quotes false codes)),
-          length-append (shown (ended word [])) (shown (tokensFrom [] quotes false codes)),
+          length-append (shown (unlessEmpty word [])) (shown (tokensFrom [] quotes false codes)),
         )
 
 pub written-most : (line : List ℕ) → wellFormedLength line ≡ length line → length (written line) ≤ 4 * length line

@@ -7,7 +7,7 @@ use lib.Dec.{ltb}
 use lib.ListN.{length}
 use Rattle.frame.specs.Limits.{lineLimit, valueLimit}
 use Rattle.buffer.specs.Write.{over}
-use Rattle.text.specs.Decoding.{wellFormedLength}
+use Rattle.text.specs.Decoding.{wellFormedLength, isIllFormed}
 use Rattle.words.specs.Tokens.{wordsOf, wordFrames}
 use Rattle.words.specs.declared.tokenizer.Tokens.{Tokens}
 use Rattle.words.specs.declared.tokenizer.Tokens.the-variants.{Words, LineTooLong, IllFormed, NoRoom}
@@ -20,7 +20,7 @@ written line = wordFrames (wordsOf line)
 unfoldable pub answerFor : List ℕ → ℕ → Tokens
 answerFor line room =
     cond (ltb lineLimit (length line)) (LineTooLong (min (length line) valueLimit))
-    (cond (ltb (wellFormedLength line) (length line)) (IllFormed (wellFormedLength line))
+    (cond (isIllFormed line) (IllFormed (wellFormedLength line))
     (cond (ltb room (length (written line))) (NoRoom (length (written line)))
     (Words (length (written line)))))
 

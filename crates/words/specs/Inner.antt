@@ -3,11 +3,10 @@ use Prim.Native.Nat.{ℕ, zero, suc, _+_, _-_, _≤_, _<_}
 use mathlib.Core.Path.{_≡_}
 use mathlib.Core.Bool.{Bool, true, false, cond, not}
 use mathlib.Core.List.{List, [], _∷_, _++_}
-use lib.Dec.{ltb}
 use lib.ListN.{length, take, drop}
 use Rattle.buffer.specs.Write.{overAt}
 use Rattle.frame.specs.Text.{numberBytes}
-use Rattle.text.specs.Decoding.{codesIn, wellFormedLength}
+use Rattle.text.specs.Decoding.{codesIn, wellFormedLength, isIllFormed}
 use Rattle.words.specs.Answer.{written}
 use Rattle.words.specs.declared.role.Role.{Role}
 use Rattle.words.specs.declared.role.Role.the-variants.{Take, Escape, Toggle, Gap}
@@ -17,7 +16,7 @@ use Rattle.words.specs.declared.tokenizer.Measured.the-variants.{Needs, 
 use Rattle.words.specs.declared.step.Step.{Step}
 use Rattle.words.specs.declared.step.Step.the-variants.{Go, IllFormed}
 use Rattle.text.specs.Unicode.{encodeAll}
-use Rattle.text.specs.Apart.{ended}
+use Rattle.text.specs.Apart.{unlessEmpty}
 use Rattle.words.specs.Tokens.{roleOf, tokensFrom}
 
 -- the words still to come after characters that do what the role says
@@ -25,7 +24,7 @@ abbrev pub doneBy : Role → Bool → List ℕ → List ℕ → List ℕ → Lis
 doneBy Take quotes word run rest = tokensFrom (word ++ run) quotes false rest
 doneBy Escape quotes word run rest = tokensFrom word quotes true rest
 doneBy Toggle quotes word run rest = tokensFrom word (not quotes) false rest
-doneBy Gap quotes word run rest = ended word (tokensFrom [] quotes false rest)
+doneBy Gap quotes word run rest = unlessEmpty word (tokensFrom [] quotes false rest)
 
 -- the first characters that are taken, whatever stood before them
 abbrev pub isTake : Role → Bool
@@ -96,4 +95,4 @@ putBy line s Gap n out = headed (s .done) (s .word) out
 
 -- what measuring a line finds
 unfoldable pub measured : List ℕ → Measured
-measured line = cond (ltb (wellFormedLength line) (length line)) (Broken (wellFormedLength line)) (Needs (length (written line)))
+measured line = cond (isIllFormed line) (Broken (wellFormedLength line)) (Needs (length (written line)))

@@ -6,7 +6,7 @@ use lib.Dec.{eqb}
 use Rattle.text.specs.Unicode.{encodeAll}
 use Rattle.text.specs.Decoding.{codesIn}
 use Rattle.text.specs.Space.{isWhiteSpace}
-use Rattle.text.specs.Apart.{ended}
+use Rattle.text.specs.Apart.{unlessEmpty}
 use Rattle.frame.specs.Framed.{frameOf}
 use Rattle.words.specs.declared.role.Role.{Role}
 use Rattle.words.specs.declared.role.Role.the-variants.{Take, Escape, Toggle, Gap}
@@ -37,13 +37,13 @@ onRole Gap a b c d = d tt
 -- the words still to come where `word` has been read and not ended, inside quotes or not, after `\` or not. Empty words don't exist;
 -- a final `\` is lost; an open quotation ends with the line.
 unfoldable pub tokensFrom : List ℕ → Bool → Bool → List ℕ → List (List ℕ)
-tokensFrom word quotes escaped [] = ended word []
+tokensFrom word quotes escaped [] = unlessEmpty word []
 tokensFrom word quotes escaped (code ∷ codes) =
     onRole (roleOf quotes escaped code)
     (λ _. tokensFrom (word ++ (code ∷ [])) quotes false codes)
     (λ _. tokensFrom word quotes true codes)
     (λ _. tokensFrom word (not quotes) false codes)
-    (λ _. ended word (tokensFrom [] quotes false codes))
+    (λ _. unlessEmpty word (tokensFrom [] quotes false codes))
 
 -- the words of a line, each by its characters, and each as a text
 unfoldable pub tokens : List ℕ → List (List ℕ)

@@ -14,6 +14,8 @@ use super::step::Step;
 use super::step::step_of;
 use buffer::push;
 use buffer::push_byte;
+use frame::LINE_LIMIT;
+use frame::told_length;
 use text::well_formed_prefix;
 
 // What tokenizing a line answers.
@@ -130,12 +132,8 @@ fn split_roomy(line: &[u8], out: &mut [u8]) -> Tokens
 pub fn tokenize(line: &[u8], out: &mut [u8]) -> Tokens
     ensures { λ r. ⌜ Tokenized (now (line .entry)) (now (out .entry)) r (now (out .exit)) ⌝ }
 {
-    if 1024 < line.len() {
-        return Tokens::LineTooLong(if line.len() < 65535 {
-            line.len()
-        } else {
-            65535
-        });
+    if LINE_LIMIT < line.len() {
+        return Tokens::LineTooLong(told_length(line.len()));
     }
     if 4 * line.len() <= out.len() {
         return split_roomy(line, out);

@@ -1,6 +1,6 @@
 -- `frame::read_house` meets its contract: a line that ends with LF is what its digits are, and any other is unended.
 use Rattle.frame.proofs.Lines.{ended-empty, house-ended, house-unended}
-use Rattle.frame.specs.House.{ended, digitsOf}
+use Rattle.frame.specs.House.{endsInLF, digitsOf}
 use lib.Seq.{length-take-le}
 use borrow.Author.Needs.{needs}
 use native.Mathlib.Omega.{arith}
@@ -22,7 +22,7 @@ shared-slice-read-if2 : tie.Need-shared-slice-read-if2
 shared-slice-read-if2 c = search needs
 
 returns-2 : tie.Need-returns-2
-unfolding ended
+unfolding endsInLF
 returns-2 c = sym (house-unended (c .before .before .before .before .args .line .now) _ (ne-eqb _ _ (c .if2 .taken)))
 
 slice-aggregate-read-digits : tie.Need-slice-aggregate-read-digits
@@ -34,7 +34,7 @@ read-digits-requires : tie.Need-read-digits-requires
 read-digits-requires c κs = search needs
 
 returns-3 : tie.Need-returns-3
-unfolding ended digitsOf
+unfolding endsInLF digitsOf
 returns-3 c =
     let s = c .before .before .before .before .before .before in
     c .read-digits .ensures ∙ sym (house-ended (s .args .line .now) _ (eq-eqb _ _ (c .before .before .if2 .left)))

@@ -1,24 +1,22 @@
 -- `parse::required::validate_required_options` meets its contract: what is missing from the place reached is what is missing from the beginning.
 use Prim.Native.Nat.{_-_}
-use mathlib.Core.Path.{_≡_, refl, sym, ap, _∙_}
+use mathlib.Core.Path.{sym, _∙_}
 use native.Mathlib.Omega.{arith}
 use borrow.Author.Needs.{needs}
 use lib.ListN.{length}
 use Rattle.table.specs.Inner.{mapOf}
-use Rattle.arguments.specs.Inner.{definitionsAt}
-use Rattle.parse.specs.Commands.{lacking, missingRequired}
-use Rattle.parse.proofs.Definitions.{option-step, flag-step, option-missing, option-there, flag-passed, none-missing, definitions-stop, definitions-end}
+use Rattle.parse.proofs.Definitions.{option-step, flag-step, option-missing, option-there, flag-passed, definitions-stop, Sought, sought-from, sought-told, sought-on, sought-stop, sought-end}
 use Rattle.parse.proofs.required.validate_required_options.Statement.{statement}
 use Rattle.parse.proofs.required.validate_required_options.Tie as tie
 
 abbrev Inv-loop : tie.InvT-loop
-Inv-loop words node from options at₀ at = missingRequired (definitionsAt node at) (mapOf words node options) ≡ missingRequired (definitionsAt node «from») (mapOf words node options)
+Inv-loop words node from options missing₀ at₀ missing at = Sought node (mapOf words node options) «from» missing at
 
 abbrev μ-loop : tie.MeasureT-loop
-μ-loop words node from options at₀ at = length node - at
+μ-loop words node from options missing₀ at₀ missing at = length node - at
 
 loop-holds : tie.Need-loop-holds Inv-loop μ-loop
-loop-holds c = refl
+loop-holds c = let a = c .before .before .args in sought-from (a .node .now) (mapOf (a .words .now) (a .node .now) (a .options)) (a .from)
 
 head-at-requires : tie.Need-head-at-requires Inv-loop μ-loop
 head-at-requires c κs = search needs
@@ -32,55 +30,85 @@ add-part c = search needs
 part-requires : tie.Need-part-requires Inv-loop μ-loop
 part-requires c κs = search needs
 
-is-missing-requires : tie.Need-is-missing-requires Inv-loop μ-loop
-is-missing-requires c κs = search needs
-
-add-t15 : tie.Need-add-t15 Inv-loop μ-loop
-add-t15 c = search needs
-
-returns : tie.Need-returns Inv-loop μ-loop
-returns c = sym (option-missing (c .before .before .before .before .before .before .before .before .before .before .before .args .node .now) (c .before .before .before .before .before .before .before .before .loop .at) (mapOf (c .before .before .before .before .before .before .before .before .before .before .before .args .words .now) (c .before .before .before .before .before .before .before .before .before .before .before .args .node .now) (c .before .before .before .before .before .before .before .before .before .before .before .args .options)) _ _ _ _ (sym (c .before .before .before .before .before .before .head-at .ensures) ∙ c .before .before .before .before .required .given .1) (c .before .is-missing .ensures ∙ ap (λ name. lacking (c .before .before .before .before .required .given .0 .0) name (mapOf (c .before .before .before .before .before .before .before .before .before .before .before .args .words .now) (c .before .before .before .before .before .before .before .before .before .before .before .args .node .now) (c .before .before .before .before .before .before .before .before .before .before .before .args .options))) (c .before .before .part .ensures)) (c .if1 .taken)) ∙ c .before .before .before .before .before .before .before .before .loop .inv
-
-add-at : tie.Need-add-at Inv-loop μ-loop
-add-at c =
-    let s = option-step (c .before .before .before .before .before .before .before .before .before .before .before .before .args .node .now) (c .before .before .before .before .before .before .before .before .before .loop .at) (mapOf (c .before .before .before .before .before .before .before .before .before .before .before .before .args .words .now) (c .before .before .before .before .before .before .before .before .before .before .before .before .args .node .now) (c .before .before .before .before .before .before .before .before .before .before .before .before .args .options)) _ _ _ (c .before .before .before .before .before .before .before .before .loop-test .taken) (sym (c .before .before .before .before .before .before .before .head-at .ensures) ∙ c .before .before .before .before .before .required .given .1) in
+add-next : tie.Need-add-next Inv-loop μ-loop
+add-next c =
+    let a = c .before .before .before .before .before .before .before .before .before .before .args in
+    let s = option-step (a .node .now) (c .before .before .before .before .before .before .before .loop .at) (mapOf (a .words .now) (a .node .now) (a .options)) _ _ _ (c .before .before .before .before .before .before .loop-test .taken) (sym (c .before .before .before .before .before .head-at .ensures) ∙ c .before .before .before .required .given .1) in
     let w = s .within in
     omega arith
 
+is-missing-requires : tie.Need-is-missing-requires Inv-loop μ-loop
+is-missing-requires c κs = search needs
+
+add-t17 : tie.Need-add-t17 Inv-loop μ-loop
+add-t17 c = search needs
+
 loop-less : tie.Need-loop-less Inv-loop μ-loop
 loop-less c =
-    let s = option-step (c .before .before .before .before .before .before .before .before .before .before .before .before .args .node .now) (c .before .before .before .before .before .before .before .before .before .loop .at) (mapOf (c .before .before .before .before .before .before .before .before .before .before .before .before .args .words .now) (c .before .before .before .before .before .before .before .before .before .before .before .before .args .node .now) (c .before .before .before .before .before .before .before .before .before .before .before .before .args .options)) _ _ _ (c .before .before .before .before .before .before .before .before .loop-test .taken) (sym (c .before .before .before .before .before .before .before .head-at .ensures) ∙ c .before .before .before .before .before .required .given .1) in
+    let a = c .before .before .before .before .before .before .before .before .before .before .before .before .args in
+    let s = option-step (a .node .now) (c .before .before .before .before .before .before .before .before .before .loop .at) (mapOf (a .words .now) (a .node .now) (a .options)) _ _ _ (c .before .before .before .before .before .before .before .before .loop-test .taken) (sym (c .before .before .before .before .before .before .before .head-at .ensures) ∙ c .before .before .before .before .before .required .given .1) in
     let w = s .within in
     let o = s .some in
     omega arith
 
+-- nothing after it is looked at
 loop-again : tie.Need-loop-again Inv-loop μ-loop
-loop-again c = sym (option-there (c .before .before .before .before .before .before .before .before .before .before .before .before .args .node .now) (c .before .before .before .before .before .before .before .before .before .loop .at) (mapOf (c .before .before .before .before .before .before .before .before .before .before .before .before .args .words .now) (c .before .before .before .before .before .before .before .before .before .before .before .before .args .node .now) (c .before .before .before .before .before .before .before .before .before .before .before .before .args .options)) _ _ _ _ (sym (c .before .before .before .before .before .before .before .head-at .ensures) ∙ c .before .before .before .before .before .required .given .1) (c .before .before .is-missing .ensures ∙ ap (λ name. lacking (c .before .before .before .before .before .required .given .0 .0) name (mapOf (c .before .before .before .before .before .before .before .before .before .before .before .before .args .words .now) (c .before .before .before .before .before .before .before .before .before .before .before .before .args .node .now) (c .before .before .before .before .before .before .before .before .before .before .before .before .args .options))) (c .before .before .before .part .ensures)) (c .before .if1 .left)) ∙ c .before .before .before .before .before .before .before .before .before .loop .inv
-
-enum-known-texts : tie.Need-enum-known-texts Inv-loop μ-loop
-enum-known-texts c = search needs
-
-add-at-2 : tie.Need-add-at-2 Inv-loop μ-loop
-add-at-2 c =
-    let s = flag-step (c .before .before .before .before .before .before .before .before .before .args .node .now) (c .before .before .before .before .before .before .loop .at) (mapOf (c .before .before .before .before .before .before .before .before .before .args .words .now) (c .before .before .before .before .before .before .before .before .before .args .node .now) (c .before .before .before .before .before .before .before .before .before .args .options)) _ _ (c .before .before .before .before .before .loop-test .taken) (sym (c .before .before .before .before .head-at .ensures) ∙ c .before .before .texts .given .1) in
-    let w = s .within in
-    omega arith
+loop-again c =
+    let a = c .before .before .before .before .before .before .before .before .before .before .before .before .args in
+    let m = mapOf (a .words .now) (a .node .now) (a .options) in
+    let e = option-missing (a .node .now) (c .before .before .before .before .before .before .before .before .before .loop .at) m _ _ _ _ _ (sym (c .before .before .before .before .before .before .before .head-at .ensures) ∙ c .before .before .before .before .before .required .given .1) (c .before .before .before .part .ensures) (c .before .is-missing .ensures) (c .if1 .taken) in
+    sought-told (a .node .now) m (a .from) _ (c .before .before .before .before .before .before .before .before .before .loop .at) (c .before .before .before .before .before .before .before .before .before .loop .inv) _ _ (c .before .before .before .before .before .before .before .before .loop-test .taken) e (omega arith)
 
 loop-less-2 : tie.Need-loop-less-2 Inv-loop μ-loop
 loop-less-2 c =
-    let s = flag-step (c .before .before .before .before .before .before .before .before .before .args .node .now) (c .before .before .before .before .before .before .loop .at) (mapOf (c .before .before .before .before .before .before .before .before .before .args .words .now) (c .before .before .before .before .before .before .before .before .before .args .node .now) (c .before .before .before .before .before .before .before .before .before .args .options)) _ _ (c .before .before .before .before .before .loop-test .taken) (sym (c .before .before .before .before .head-at .ensures) ∙ c .before .before .texts .given .1) in
+    let a = c .before .before .before .before .before .before .before .before .before .before .before .before .args in
+    let s = option-step (a .node .now) (c .before .before .before .before .before .before .before .before .before .loop .at) (mapOf (a .words .now) (a .node .now) (a .options)) _ _ _ (c .before .before .before .before .before .before .before .before .loop-test .taken) (sym (c .before .before .before .before .before .before .before .head-at .ensures) ∙ c .before .before .before .before .before .required .given .1) in
     let w = s .within in
     let o = s .some in
     omega arith
 
 loop-again-2 : tie.Need-loop-again-2 Inv-loop μ-loop
-loop-again-2 c = sym (flag-passed (c .before .before .before .before .before .before .before .before .before .args .node .now) (c .before .before .before .before .before .before .loop .at) (mapOf (c .before .before .before .before .before .before .before .before .before .args .words .now) (c .before .before .before .before .before .before .before .before .before .args .node .now) (c .before .before .before .before .before .before .before .before .before .args .options)) _ _ (sym (c .before .before .before .before .head-at .ensures) ∙ c .before .before .texts .given .1)) ∙ c .before .before .before .before .before .before .loop .inv
+loop-again-2 c =
+    let a = c .before .before .before .before .before .before .before .before .before .before .before .before .args in
+    let m = mapOf (a .words .now) (a .node .now) (a .options) in
+    let e = option-there (a .node .now) (c .before .before .before .before .before .before .before .before .before .loop .at) m _ _ _ _ _ (sym (c .before .before .before .before .before .before .before .head-at .ensures) ∙ c .before .before .before .before .before .required .given .1) (c .before .before .before .part .ensures) (c .before .is-missing .ensures) (c .if1 .left) in
+    sought-on (a .node .now) m (a .from) _ (c .before .before .before .before .before .before .before .before .before .loop .at) (c .before .before .before .before .before .before .before .before .before .loop .inv) _ (c .before .before .before .before .before .before .before .before .loop-test .taken) e
+
+enum-known-texts : tie.Need-enum-known-texts Inv-loop μ-loop
+enum-known-texts c = search needs
+
+add-at : tie.Need-add-at Inv-loop μ-loop
+add-at c =
+    let a = c .before .before .before .before .before .before .before .before .before .args in
+    let s = flag-step (a .node .now) (c .before .before .before .before .before .before .loop .at) (mapOf (a .words .now) (a .node .now) (a .options)) _ _ (c .before .before .before .before .before .loop-test .taken) (sym (c .before .before .before .before .head-at .ensures) ∙ c .before .before .texts .given .1) in
+    let w = s .within in
+    omega arith
+
+loop-less-3 : tie.Need-loop-less-3 Inv-loop μ-loop
+loop-less-3 c =
+    let a = c .before .before .before .before .before .before .before .before .before .args in
+    let s = flag-step (a .node .now) (c .before .before .before .before .before .before .loop .at) (mapOf (a .words .now) (a .node .now) (a .options)) _ _ (c .before .before .before .before .before .loop-test .taken) (sym (c .before .before .before .before .head-at .ensures) ∙ c .before .before .texts .given .1) in
+    let w = s .within in
+    let o = s .some in
+    omega arith
+
+loop-again-3 : tie.Need-loop-again-3 Inv-loop μ-loop
+loop-again-3 c =
+    let a = c .before .before .before .before .before .before .before .before .before .args in
+    let m = mapOf (a .words .now) (a .node .now) (a .options) in
+    sought-on (a .node .now) m (a .from) _ (c .before .before .before .before .before .before .loop .at) (c .before .before .before .before .before .before .loop .inv) _ (c .before .before .before .before .before .loop-test .taken) (flag-passed (a .node .now) (c .before .before .before .before .before .before .loop .at) m _ _ (sym (c .before .before .before .before .head-at .ensures) ∙ c .before .before .texts .given .1))
+
+returns : tie.Need-returns Inv-loop μ-loop
+returns c =
+    let a = c .before .before .before .before .before .before .args in
+    let m = mapOf (a .words .now) (a .node .now) (a .options) in
+    sought-stop (a .node .now) m (a .from) _ (c .before .before .before .loop .at) (c .before .before .before .loop .inv) (c .before .before .loop-test .taken) (definitions-stop (a .node .now) (c .before .before .before .loop .at) _ (sym (c .before .head-at .ensures)) (c .match .keys3))
 
 returns-2 : tie.Need-returns-2 Inv-loop μ-loop
-returns-2 c = sym (none-missing (mapOf (c .before .before .before .before .before .before .args .words .now) (c .before .before .before .before .before .before .args .node .now) (c .before .before .before .before .before .before .args .options))) ∙ sym (ap (λ l. missingRequired l (mapOf (c .before .before .before .before .before .before .args .words .now) (c .before .before .before .before .before .before .args .node .now) (c .before .before .before .before .before .before .args .options))) (definitions-stop (c .before .before .before .before .before .before .args .node .now) (c .before .before .before .loop .at) _ (sym (c .before .head-at .ensures)) (c .match .keys3))) ∙ c .before .before .before .loop .inv
-
-returns-3 : tie.Need-returns-3 Inv-loop μ-loop
-returns-3 c = sym (none-missing (mapOf (c .before .before .before .before .args .words .now) (c .before .before .before .before .args .node .now) (c .before .before .before .before .args .options))) ∙ sym (ap (λ l. missingRequired l (mapOf (c .before .before .before .before .args .words .now) (c .before .before .before .before .args .node .now) (c .before .before .before .before .args .options))) (definitions-end (c .before .before .before .before .args .node .now) (c .before .loop .at) (c .loop-test .left))) ∙ c .before .loop .inv
+returns-2 c =
+    let a = c .before .before .before .before .args in
+    let m = mapOf (a .words .now) (a .node .now) (a .options) in
+    sought-end (a .node .now) m (a .from) _ (c .before .loop .at) (c .before .loop .inv) (c .loop-test .left)
 
 pub validate-required-options-spec : {M : Type 1} → statement M
 validate-required-options-spec =
@@ -93,15 +121,16 @@ validate-required-options-spec =
     enum-known-required
     add-part
     part-requires
+    add-next
     is-missing-requires
-    add-t15
-    returns
-    add-at
+    add-t17
     loop-less
     loop-again
-    enum-known-texts
-    add-at-2
     loop-less-2
     loop-again-2
-    returns-2
-    returns-3)
+    enum-known-texts
+    add-at
+    loop-less-3
+    loop-again-3
+    returns
+    returns-2)

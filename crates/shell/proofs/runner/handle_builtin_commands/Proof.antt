@@ -30,8 +30,8 @@ enum-told-2 c = search needs
 show-goodbye-requires : tie.Need-show-goodbye-requires
 show-goodbye-requires c κs = search needs
 
-ended-requires : tie.Need-ended-requires
-ended-requires c κs = search needs
+exited-requires : tie.Need-exited-requires
+exited-requires c κs = search needs
 
 enum-told-3 : tie.Need-enum-told-3
 enum-told-3 c = search needs
@@ -58,7 +58,7 @@ same-length-2 : tie.Need-same-length-2
 same-length-2 c = search needs
 
 returns-2 : tie.Need-returns-2
-returns-2 c = said-same _ _ _ _ _ (builtin-is (c .before .before .before .before .before .before .before .before .before .before .before .before .before .args .line .now) (framesOf (c .before .before .before .before .before .before .before .before .before .before .before .before .before .args .image .now)) _ _ _ (c .before .before .before .before .before .before .before .before .trim .ensures) (c .before .before .before .before .before .before .before .builtin-of .ensures) (c .before .before .before .before .before .enum-told2 .given .1)) (c .ended .ensures _ _ (c .before .before .before .show-goodbye .ensures))
+returns-2 c = said-same _ _ _ _ _ (builtin-is (c .before .before .before .before .before .before .before .before .before .before .before .before .before .args .line .now) (framesOf (c .before .before .before .before .before .before .before .before .before .before .before .before .before .args .image .now)) _ _ _ (c .before .before .before .before .before .before .before .before .trim .ensures) (c .before .before .before .before .before .before .before .builtin-of .ensures) (c .before .before .before .before .before .enum-told2 .given .1)) (c .exited .ensures _ _ (c .before .before .before .show-goodbye .ensures))
 
 same-length-3 : tie.Need-same-length-3
 same-length-3 c = search needs
@@ -83,7 +83,7 @@ handle-builtin-commands-spec =
     shown-requires
     enum-told-2
     show-goodbye-requires
-    ended-requires
+    exited-requires
     enum-told-3
     show-clear-requires
     shown-requires-2

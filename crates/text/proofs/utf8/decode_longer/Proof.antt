@@ -8,23 +8,23 @@ use Rattle.text.proofs.utf8.decode_longer.Tie as tie
 shared-slice-read-longer : tie.Need-shared-slice-read-longer
 shared-slice-read-longer c = search needs
 
-add-byte-at : tie.Need-add-byte-at
-add-byte-at c = search needs
+add-octet-at : tie.Need-add-octet-at
+add-octet-at c = search needs
 
-byte-at-requires : tie.Need-byte-at-requires
-byte-at-requires c κs = search needs
+octet-at-requires : tie.Need-octet-at-requires
+octet-at-requires c κs = search needs
 
-add-byte-at-2 : tie.Need-add-byte-at-2
-add-byte-at-2 c = search needs
+add-octet-at-2 : tie.Need-add-octet-at-2
+add-octet-at-2 c = search needs
 
-byte-at-requires-2 : tie.Need-byte-at-requires-2
-byte-at-requires-2 c κs = search needs
+octet-at-requires-2 : tie.Need-octet-at-requires-2
+octet-at-requires-2 c κs = search needs
 
-add-byte-at-3 : tie.Need-add-byte-at-3
-add-byte-at-3 c = search needs
+add-octet-at-3 : tie.Need-add-octet-at-3
+add-octet-at-3 c = search needs
 
-byte-at-requires-3 : tie.Need-byte-at-requires-3
-byte-at-requires-3 c κs = search needs
+octet-at-requires-3 : tie.Need-octet-at-requires-3
+octet-at-requires-3 c κs = search needs
 
 longer-requires : tie.Need-longer-requires
 longer-requires c κs = search needs
@@ -37,11 +37,11 @@ decode-longer-spec =
     tie.close
     (tie.spec
     shared-slice-read-longer
-    add-byte-at
-    byte-at-requires
-    add-byte-at-2
-    byte-at-requires-2
-    add-byte-at-3
-    byte-at-requires-3
+    add-octet-at
+    octet-at-requires
+    add-octet-at-2
+    octet-at-requires-2
+    add-octet-at-3
+    octet-at-requires-3
     longer-requires
     returns)

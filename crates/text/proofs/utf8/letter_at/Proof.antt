@@ -14,38 +14,38 @@ shared-slice-read-a c = search needs
 returns-2 : tie.Need-returns-2
 returns-2 c = sym (at-low _ _ (c .before .before .if1 .left) (c .if2 .taken))
 
-add-byte-at : tie.Need-add-byte-at
-add-byte-at c = search needs
+add-octet-at : tie.Need-add-octet-at
+add-octet-at c = search needs
 
-byte-at-requires : tie.Need-byte-at-requires
-byte-at-requires c κs = search needs
+octet-at-requires : tie.Need-octet-at-requires
+octet-at-requires c κs = search needs
 
 length-of-two-requires : tie.Need-length-of-two-requires
 length-of-two-requires c κs = search needs
 
 returns-3 : tie.Need-returns-3
-returns-3 c = at-two _ _ (c .before .before .before .before .before .if1 .left) _ _ (c .before .before .before .if2 .left) (c .before .before .if3 .taken) (c .before .byte-at .ensures) (c .length-of-two .ensures)
+returns-3 c = at-two _ _ (c .before .before .before .before .before .if1 .left) _ _ (c .before .before .before .if2 .left) (c .before .before .if3 .taken) (c .before .octet-at .ensures) (c .length-of-two .ensures)
 
 is-letter-head-requires : tie.Need-is-letter-head-requires
 is-letter-head-requires c κs = search needs
 
-add-byte-at-2 : tie.Need-add-byte-at-2
-add-byte-at-2 c = search needs
+add-octet-at-2 : tie.Need-add-octet-at-2
+add-octet-at-2 c = search needs
 
-byte-at-requires-2 : tie.Need-byte-at-requires-2
-byte-at-requires-2 c κs = search needs
+octet-at-requires-2 : tie.Need-octet-at-requires-2
+octet-at-requires-2 c κs = search needs
 
-add-byte-at-3 : tie.Need-add-byte-at-3
-add-byte-at-3 c = search needs
+add-octet-at-3 : tie.Need-add-octet-at-3
+add-octet-at-3 c = search needs
 
-byte-at-requires-3 : tie.Need-byte-at-requires-3
-byte-at-requires-3 c κs = search needs
+octet-at-requires-3 : tie.Need-octet-at-requires-3
+octet-at-requires-3 c κs = search needs
 
 length-of-three-requires : tie.Need-length-of-three-requires
 length-of-three-requires c κs = search needs
 
 returns-4 : tie.Need-returns-4
-returns-4 c = at-three _ _ (c .before .before .before .before .before .before .before .before .if1 .left) _ _ _ (sym (c .before .before .before .before .is-letter-head .ensures) ∙ c .before .before .before .if4 .taken) (c .before .before .byte-at2 .ensures) (c .before .byte-at3 .ensures) (c .length-of-three .ensures)
+returns-4 c = at-three _ _ (c .before .before .before .before .before .before .before .before .if1 .left) _ _ _ (sym (c .before .before .before .before .is-letter-head .ensures) ∙ c .before .before .before .if4 .taken) (c .before .before .octet-at2 .ensures) (c .before .octet-at3 .ensures) (c .length-of-three .ensures)
 
 returns-5 : tie.Need-returns-5
 returns-5 c = sym (at-none _ _ (c .before .before .before .before .before .if1 .left) (c .before .before .if3 .left) (sym (c .before .is-letter-head .ensures) ∙ c .if4 .left))
@@ -57,15 +57,15 @@ letter-at-spec =
     returns
     shared-slice-read-a
     returns-2
-    add-byte-at
-    byte-at-requires
+    add-octet-at
+    octet-at-requires
     length-of-two-requires
     returns-3
     is-letter-head-requires
-    add-byte-at-2
-    byte-at-requires-2
-    add-byte-at-3
-    byte-at-requires-3
+    add-octet-at-2
+    octet-at-requires-2
+    add-octet-at-3
+    octet-at-requires-3
     length-of-three-requires
     returns-4
     returns-5)

@@ -1,9 +1,9 @@
--- `shell::answer::ended` meets its contract: by what showing the text answered.
+-- `shell::answer::exited` meets its contract: by what showing the text answered.
 use borrow.Author.Needs.{needs}
 use Rattle.shell.specs.Lines.{farewell}
 use Rattle.shell.proofs.WrittenAnswers.{said-shown}
-use Rattle.shell.proofs.answer.ended.Statement.{statement}
-use Rattle.shell.proofs.answer.ended.Tie as tie
+use Rattle.shell.proofs.answer.exited.Statement.{statement}
+use Rattle.shell.proofs.answer.exited.Tie as tie
 
 enum-known-answer : tie.Need-enum-known-answer
 enum-known-answer c = search needs
@@ -17,5 +17,5 @@ returns c = λ out left s. rw (c .before .answer .given .1) at (said-shown farew
 returns-2 : tie.Need-returns-2
 returns-2 c = λ out left s. rw (c .before .answer2 .given .1) at (said-shown farewell out left (c .before .before .before .args .answer) s)
 
-pub ended-spec : {M : Type 1} → statement M
-ended-spec = tie.close (tie.spec enum-known-answer enum-known-answer-2 returns returns-2)
+pub exited-spec : {M : Type 1} → statement M
+exited-spec = tie.close (tie.spec enum-known-answer enum-known-answer-2 returns returns-2)
