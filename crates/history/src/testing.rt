@@ -6,6 +6,7 @@ ghost use lib.ListN.{length, take, drop};
 ghost use Rattle.buffer.specs.Compare.{sameBytes};
 ghost use Rattle.buffer.specs.Greatest.{greatest};
 ghost use Rattle.history.specs.Entries.{usable};
+ghost use Rattle.history.specs.Slots.{slotSize};
 ghost use Rattle.history.specs.Journal.{good};
 ghost use Rattle.history.specs.Inner.{goodSlot, slotBefore, judged};
 use super::stepping::History;
@@ -31,7 +32,7 @@ fn is_usable(text: &[u8], top: u8) -> bool
 
 // The greatest byte of the entry at a place, of which a short one is passed with what follows it: a pass over fewer than 32 bytes takes them one by one.
 fn top_of(slots: &[u8], start: usize, size: usize) -> u8
-    requires { ⌜ (start + 255 ≤ length (now slots)) × (size < 256) ⌝ }
+    requires { ⌜ (start + 255 ≤ length (now slots)) × (size < slotSize) ⌝ }
     ensures { λ r. ⌜ r ≡ greatest (take (max size 32) (drop start (now (slots .entry)))) ⌝ }
 {
     if size < 32 {
@@ -44,13 +45,13 @@ fn top_of(slots: &[u8], start: usize, size: usize) -> u8
 
 // Whether the slot at a place holds a usable entry, with zeros after it.
 fn is_good_slot(slots: &[u8], at: usize) -> bool
-    requires { ⌜ at + 256 ≤ length (now slots) ⌝ }
+    requires { ⌜ at + slotSize ≤ length (now slots) ⌝ }
     ensures { λ r. ⌜ r ≡ goodSlot (drop at (now (slots .entry))) ⌝ }
 {
     let start = at + 1;
     let size = byte_at(slots, at);
     let end = start + size;
-    let next = at + 256;
+    let next = at + History::SLOT;
     let top = top_of(slots, start, size);
     if !is_usable(&slots[start..end], top) {
         return false;
@@ -60,14 +61,14 @@ fn is_good_slot(slots: &[u8], at: usize) -> bool
 
 // Whether the slot at a place is the same as the one before it. Most differ in their first bytes.
 fn is_repeated(slots: &[u8], at: usize) -> bool
-    requires { ⌜ at + 256 ≤ length (now slots) ⌝ }
-    ensures { λ r. ⌜ r ≡ sameBytes (slotBefore at (now (slots .entry))) (take 256 (drop at (now (slots .entry)))) ⌝ }
+    requires { ⌜ at + slotSize ≤ length (now slots) ⌝ }
+    ensures { λ r. ⌜ r ≡ sameBytes (slotBefore at (now (slots .entry))) (take slotSize (drop at (now (slots .entry)))) ⌝ }
 {
-    if at < 256 {
+    if at < History::SLOT {
         return false;
     }
-    let before = at - 256;
-    let next = at + 256;
+    let before = at - History::SLOT;
+    let next = at + History::SLOT;
     let head = before + 32;
     let block = at + 32;
     if !same_throughout(&slots[before..head], &slots[at..block]) {
@@ -78,7 +79,7 @@ fn is_repeated(slots: &[u8], at: usize) -> bool
 
 // Whether so many slots are good and no two neighbours the same, with zeros after them.
 fn are_good(slots: &[u8], count: usize) -> bool
-    requires { ⌜ 256 * count ≤ length (now slots) ⌝ }
+    requires { ⌜ slotSize * count ≤ length (now slots) ⌝ }
     ensures { λ r. ⌜ r ≡ judged [] count (now (slots .entry)) ⌝ }
 {
     let mut k = 0;
@@ -91,7 +92,7 @@ fn are_good(slots: &[u8], count: usize) -> bool
             return false;
         }
         k += 1;
-        at += 256;
+        at += History::SLOT;
     }
     greatest_byte(&slots[at..]) == 0
 }
@@ -101,10 +102,10 @@ pub fn is_good(history: History, slots: &[u8]) -> bool
     ensures { λ r. ⌜ r ≡ good history (now (slots .entry)) ⌝ }
 {
     let count = history.count;
-    if slots.len() != 25600 {
+    if slots.len() != History::SLOTS {
         return false;
     }
-    if 100 < count {
+    if History::MOST < count {
         return false;
     }
     if count < history.place {

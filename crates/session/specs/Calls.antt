@@ -10,7 +10,7 @@ use Rattle.frame.specs.House.{houseLeaves}
 use Rattle.image.specs.Frames.{Frame}
 use Rattle.image.specs.Reading.{readFirst}
 use Rattle.tree.specs.Images.{framesOf}
-use Rattle.tree.specs.Rules.{checkTree}
+use Rattle.tree.specs.Rules.{imageLimit, checkTree}
 use Rattle.tree.specs.Steps.{startWalk}
 use Rattle.tree.specs.declared.check.Checked.{Checked}
 use Rattle.tree.specs.declared.check.Checked.the-variants.{Good, BadFrame}
@@ -23,7 +23,7 @@ use Rattle.editor.specs.Turns.{State, Turn, turnOf}
 use Rattle.editor.specs.Answer.{stateOf, editorOf, historyOf, slotsOf, goodState}
 use Rattle.session.specs.Prints.{Printed, linesOf, badLine, prompt, keyPrints, keyEnds}
 use Rattle.session.specs.Lines.{Form, tree, keys, formless, lineForm}
-use Rattle.session.specs.Sizes.{keyRoom}
+use Rattle.session.specs.Sizes.{lastLine, frameRoom, keyRoom}
 use Rattle.session.specs.declared.running.Printing.{Printing}
 use Rattle.session.specs.declared.running.Printing.the-variants.{Goes, Ends, BadTree, BadState, NoRoom}
 use Rattle.session.specs.declared.standing.Session.{Session}
@@ -68,9 +68,9 @@ imageBy h image formless = image
 -- nothing is read past line 65,535, nor into buffers that a frame or an image may not fit: so many bytes are needed
 unfoldable pub onLine : {A : Type 0} → Session → List ℕ → List ℕ → A → (ℕ → A) → A → A
 onLine h image frame late narrow read =
-    cond (ltb (h .lines) 65535)
-    (cond (ltb (length frame) 512) (narrow 512)
-    (cond (ltb (length image) 32768) (narrow 32768)
+    cond (ltb (h .lines) lastLine)
+    (cond (ltb (length frame) frameRoom) (narrow frameRoom)
+    (cond (ltb (length image) imageLimit) (narrow imageLimit)
     read))
     late
 

@@ -10,6 +10,7 @@ use Rattle.frame.specs.declared.house.House.the-variants.{Frame, Unended, Empty
 use Rattle.tree.specs.Images.{framesOf}
 use Rattle.tree.specs.Growth.{takes}
 use Rattle.editor.specs.Turns.{State, freshState, turnOf}
+use Rattle.session.specs.Sizes.{lastLine, frameRoom}
 use Rattle.session.specs.Prints.{Printed, badLine, prompt, keyPrints, keyEnds}
 
 -- what a house line is: a tree frame, keys after a 20, or of no such form
@@ -33,7 +34,7 @@ formBy (NoDigit place) bytes = formless
 formBy (Short needed) bytes = formless
 
 unfoldable pub lineForm : List ℕ → Form
-lineForm line = formBy (readHouse line 512) (unhex (digitsOf line))
+lineForm line = formBy (readHouse line frameRoom) (unhex (digitsOf line))
 
 -- where a session stands: the image so far, whether a frame 20 has come, the editor and its history, the lines read
 pub record Standing : Type 0 where
@@ -107,7 +108,7 @@ lineCourse s line = onTaking s (takeLine s line)
 unfoldable pub session : Standing → List (List ℕ) → List Printed
 session s [] = []
 session s (line ∷ lines) =
-    cond (ltb (s .lines) 65535)
+    cond (ltb (s .lines) lastLine)
     (cond (lineCourse s line .ends) (lineCourse s line .prints)
     (lineCourse s line .prints ++ session (lineCourse s line .after) lines))
     []

@@ -1,5 +1,17 @@
--- How many bytes a key prints at most, each number once.
+-- The limits of a session, and how many bytes a key prints at most, each number once.
 use Prim.Native.Nat.{ℕ, _+_, _*_}
+
+-- the last line that is read: `Session::LAST_LINE`
+abbrev pub lastLine : ℕ
+lastLine = 65535
+
+-- the bytes of a frame that is read: `Session::FRAME_ROOM`
+abbrev pub frameRoom : ℕ
+frameRoom = 512
+
+-- room for what a key shows, and for the kind before it
+abbrev pub screenRoom : ℕ
+screenRoom = 1024
 
 -- a frame with its kind, and the text that stands in one after the kind and a handler's number
 abbrev pub frameSize : ℕ

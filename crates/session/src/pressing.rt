@@ -6,6 +6,7 @@ use super::running::Printing;
 use super::running::run_line;
 use super::standing::Session;
 use buffer::part;
+use editor::Editor;
 use editor::KeyAnswer;
 use editor::Pressed;
 use tree::Checked;
@@ -17,13 +18,17 @@ ghost use Rattle.buffer.specs.Write.{Pushed};
 ghost use Rattle.tree.specs.Images.{framesOf};
 ghost use Rattle.tree.specs.Rules.{checkTree};
 ghost use Rattle.tree.specs.declared.check.Checked.the-variants.{Good};
+ghost use Rattle.editor.specs.Line.{limit};
 ghost use Rattle.session.specs.Prints.{linesOf, shown};
 ghost use Rattle.session.specs.Inner.{Within, Enters, Tells};
 ghost use Rattle.session.specs.Calls.{withKey, imageOf, treeBefore, PressingKey, RefusingLine};
-ghost use Rattle.session.specs.Sizes.{keyRoom};
+ghost use Rattle.session.specs.Sizes.{screenRoom, keyRoom};
 
 // How many bytes a key prints at most: the line feed, a frame, the prompt, each as a house line.
 pub const KEY_ROOM: usize = 5 + 131073 + 23;
+
+// Room for what a key shows, and for the kind before it.
+const SCREEN_ROOM: usize = 1024;
 
 // The session after a key, and what the key prints.
 pub struct Pressing {
@@ -105,7 +110,7 @@ fn press_with(
     screen: &mut [u8],
     out: &mut [u8],
 ) -> Pressing
-    requires { ⌜ (treeBefore byte (imageOf session (now image)) ≡ Good) × (length (now line) ≡ 255) × (length (now screen) ≡ 1024) × (keyRoom ≤ length (now out)) ⌝ }
+    requires { ⌜ (treeBefore byte (imageOf session (now image)) ≡ Good) × (length (now line) ≡ limit) × (length (now screen) ≡ screenRoom) × (keyRoom ≤ length (now out)) ⌝ }
     ensures { λ r. ⌜ PressingKey session (now (image .entry)) (now (slots .entry)) byte (now (out .entry)) r (now (slots .exit)) (now (out .exit)) ⌝ }
 {
     screen[0] = 0x22;
@@ -142,8 +147,8 @@ pub fn press(session: Session, image: &[u8], slots: &mut [u8], byte: u8, out: &m
             answer: Printing::BadTree(n),
         };
     }
-    let mut line = [0u8; 255];
-    let mut screen = [0u8; 1024];
+    let mut line = [0u8; Editor::LIMIT];
+    let mut screen = [0u8; SCREEN_ROOM];
     press_with(session, image, slots, byte, &mut line, &mut screen, out)
 }
 

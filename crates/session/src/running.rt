@@ -19,6 +19,9 @@ ghost use Rattle.session.specs.Sizes.{frameSize, textSize, frameLine, an
 ghost use Rattle.session.specs.Prints.{wide, frameOf, linesOf, shown, handler as handed};
 ghost use Rattle.session.specs.Inner.{Fits, Says, Answers};
 
+// The bytes of a frame that is printed, with its kind.
+const FRAME_SIZE: usize = 65536;
+
 // What a key prints.
 pub enum Printing {
     // House lines of so many bytes, and the session goes on.
@@ -105,6 +108,6 @@ pub fn run_line(image: &[u8], line: &[u8], out: &mut [u8], at: usize) -> Printin
     requires { ⌜ (checkTree (now image) ≡ Good) × (length (now line) ≤ 255) × (at + answerRoom ≤ length (now out)) ⌝ }
     ensures { λ r. ⌜ Answers (saidOf (framesOf (now (image .entry))) (now (line .entry))) (now (out .entry)) at r (now (out .exit)) ⌝ }
 {
-    let mut text = [0u8; 65536];
+    let mut text = [0u8; FRAME_SIZE];
     run_in(image, line, &mut text, out, at)
 }

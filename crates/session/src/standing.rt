@@ -4,6 +4,7 @@ use history::History;
 use tree::Walk;
 ghost use mathlib.Core.Path.{_≡_};
 ghost use Prim.Native.Nat.{_<_};
+ghost use Rattle.session.specs.Sizes.{lastLine};
 ghost use Rattle.session.specs.Calls.{fresh, withWalk, withKeys};
 
 pub struct Session {
@@ -15,6 +16,12 @@ pub struct Session {
 }
 
 impl Session {
+    // The last line that is read.
+    pub const LAST_LINE: usize = 65535;
+
+    // The bytes of a frame that is read, at most.
+    pub const FRAME_ROOM: usize = 512;
+
     // No line is read.
     pub fn fresh() -> Session
         ensures { λ r. ⌜ r ≡ fresh ⌝ }
@@ -30,7 +37,7 @@ impl Session {
 
     // A line more, which was a frame of the tree.
     pub fn with_walk(self, walk: Walk) -> Session
-        requires { ⌜ self .lines < 65535 ⌝ }
+        requires { ⌜ self .lines < lastLine ⌝ }
         ensures { λ r. ⌜ r ≡ withWalk self walk ⌝ }
     {
         let editor = self.editor;
@@ -46,7 +53,7 @@ impl Session {
 
     // A line more, which was keys.
     pub fn with_keys(self) -> Session
-        requires { ⌜ self .lines < 65535 ⌝ }
+        requires { ⌜ self .lines < lastLine ⌝ }
         ensures { λ r. ⌜ r ≡ withKeys self ⌝ }
     {
         let editor = self.editor;

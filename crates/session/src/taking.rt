@@ -3,10 +3,12 @@ use super::standing::Session;
 use buffer::part;
 use frame::House;
 use frame::read_line;
+use tree::IMAGE_LIMIT;
 use tree::add_frame;
 ghost use mathlib.Core.Path.{_≡_};
 ghost use Prim.Native.Nat.{_<_};
 ghost use lib.ListN.{length};
+ghost use Rattle.session.specs.Sizes.{lastLine};
 ghost use Rattle.session.specs.Lines.{formOf};
 ghost use Rattle.session.specs.Calls.{refusing, tookBy, imageBy, TakingLine};
 
@@ -30,7 +32,7 @@ pub struct Took {
 }
 
 fn refused(session: Session) -> Took
-    requires { ⌜ session .lines < 65535 ⌝ }
+    requires { ⌜ session .lines < lastLine ⌝ }
     ensures { λ r. ⌜ r ≡ refusing session ⌝ }
 {
     Took {
@@ -41,7 +43,7 @@ fn refused(session: Session) -> Took
 
 // The frame of a line: keys, or a frame of the tree that the image takes.
 fn take_frame(session: Session, bytes: &[u8], image: &mut [u8]) -> Took
-    requires { ⌜ (session .lines < 65535) × (0 < length (now bytes)) ⌝ }
+    requires { ⌜ (session .lines < lastLine) × (0 < length (now bytes)) ⌝ }
     ensures { λ r. ⌜ (r ≡ tookBy session (now (image .entry)) (formOf (now (bytes .entry)))) × (now (image .exit) ≡ imageBy session (now (image .entry)) (formOf (now (bytes .entry)))) ⌝ }
 {
     if bytes[0] == 0x20 {
@@ -68,22 +70,22 @@ fn take_frame(session: Session, bytes: &[u8], image: &mut [u8]) -> Took
 pub fn take_line(session: Session, line: &[u8], image: &mut [u8], frame: &mut [u8]) -> Took
     ensures { λ r. ⌜ TakingLine session (now (line .entry)) (now (image .entry)) (now (frame .entry)) r (now (image .exit)) (now (frame .exit)) ⌝ }
 {
-    if 65535 <= session.lines {
+    if Session::LAST_LINE <= session.lines {
         return Took {
             session,
             answer: Taken::Over,
         };
     }
-    if frame.len() < 512 {
+    if frame.len() < Session::FRAME_ROOM {
         return Took {
             session,
-            answer: Taken::NoRoom(512),
+            answer: Taken::NoRoom(Session::FRAME_ROOM),
         };
     }
-    if image.len() < 32768 {
+    if image.len() < IMAGE_LIMIT {
         return Took {
             session,
-            answer: Taken::NoRoom(32768),
+            answer: Taken::NoRoom(IMAGE_LIMIT),
         };
     }
     let House::Frame(n) = read_line(line, frame) else {
