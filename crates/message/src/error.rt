@@ -2,12 +2,13 @@
 use buffer::Shown;
 use buffer::put;
 ghost use mathlib.Core.Path.{_≡_};
-ghost use Prim.Native.Nat.{_≤_, _<_};
+ghost use Prim.Native.Nat.{_≤_};
+ghost use mathlib.Core.List.{_++_};
 ghost use lib.ListN.{length};
 ghost use Rattle.frame.specs.Limits.{textLimit};
 ghost use Rattle.buffer.specs.Showing.{Showing};
 ghost use Rattle.buffer.specs.Inks.{Inked};
-ghost use Rattle.message.specs.Messages.{before, after, message};
+ghost use Rattle.message.specs.Messages.{message};
 
 // What is wrong with a line.
 pub enum ParseError {
@@ -23,41 +24,47 @@ pub enum ParseError {
     NoHandler,
 }
 
-// Writes what stands before the text that a message names.
-fn put_before(told: ParseError, out: &mut [u8], at: usize) -> usize
-    requires { ⌜ at < 4294967000 ⌝ }
-    ensures { λ r. ⌜ Inked (before told) (now (out .entry)) at r (now (out .exit)) ⌝ }
+// Writes a text between two others.
+fn put_between(before: &[u8], text: &[u8], after: &[u8], out: &mut [u8]) -> usize
+    requires { ⌜ (length (now before) ≤ 255) × (length (now text) ≤ 65535) × (length (now after) ≤ 255) ⌝ }
+    ensures { λ r. ⌜ Inked (now (before .entry) ++ now (text .entry) ++ now (after .entry)) (now (out .entry)) 0 r (now (out .exit)) ⌝ }
 {
-    match told {
-        ParseError::UnknownCommand => put(b"Error: Unknown command '", out, at),
-        ParseError::UnknownOption => put(b"Error: Unknown option '", out, at),
-        ParseError::MissingValue => put(b"Error: Option '", out, at),
-        ParseError::MissingRequired => put(b"Error: Missing required option '", out, at),
-        ParseError::NoHandler => put(b"Error: Command '", out, at),
-    }
-}
-
-// Writes what stands after the text that a message names.
-fn put_after(told: ParseError, out: &mut [u8], at: usize) -> usize
-    requires { ⌜ at < 4294967000 ⌝ }
-    ensures { λ r. ⌜ Inked (after told) (now (out .entry)) at r (now (out .exit)) ⌝ }
-{
-    match told {
-        ParseError::UnknownCommand => put(b"'\nType 'help' to see available commands\n", out, at),
-        ParseError::UnknownOption => put(b"'\n", out, at),
-        ParseError::MissingValue => put(b"' is missing a value\n", out, at),
-        ParseError::MissingRequired => put(b"'\n", out, at),
-        ParseError::NoHandler => put(b"' has no handler function\n", out, at),
-    }
+    let start = put(before, out, 0);
+    let end = put(text, out, start);
+    put(after, out, end)
 }
 
 fn put_message(told: ParseError, text: &[u8], out: &mut [u8]) -> usize
     requires { ⌜ length (now text) ≤ textLimit ⌝ }
     ensures { λ r. ⌜ Inked (message told (now (text .entry))) (now (out .entry)) 0 r (now (out .exit)) ⌝ }
 {
-    let start = put_before(told, out, 0);
-    let end = put(text, out, start);
-    put_after(told, out, end)
+    match told {
+        ParseError::UnknownCommand => put_between(
+            b"Error: Unknown command '",
+            text,
+            b"'\nType 'help' to see available commands\n",
+            out,
+        ),
+        ParseError::UnknownOption => put_between(b"Error: Unknown option '", text, b"'\n", out),
+        ParseError::MissingValue => put_between(
+            b"Error: Option '",
+            text,
+            b"' is missing a value\n",
+            out,
+        ),
+        ParseError::MissingRequired => put_between(
+            b"Error: Missing required option '",
+            text,
+            b"'\n",
+            out,
+        ),
+        ParseError::NoHandler => put_between(
+            b"Error: Command '",
+            text,
+            b"' has no handler function\n",
+            out,
+        ),
+    }
 }
 
 fn message_size(told: ParseError, text: &[u8]) -> usize

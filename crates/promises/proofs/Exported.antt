@@ -47,8 +47,8 @@ use Rattle.shell.specs.declared.builtin.Builtin.the-variants.{Help}
 use Rattle.shell.proofs.Answers.{naming}
 use Rattle.rissemat.specs.Packed.{answered, plain}
 use Rattle.rissemat.specs.Calls.{WordsCall, QuoteCall, FreshCall, KeyCall, keyTold, AddCall, TreeCall, ParseCall, HelpCall, RunCall, runTold}
-use Rattle.rissemat.proofs.Packing.{value-back, number-back, kind-back, second-back}
-use Rattle.rissemat.proofs.Behind.{words-behind, quote-behind, fresh-behind, key-behind, add-behind, tree-behind, parse-behind, help-behind, run-behind}
+use Rattle.rissemat.proofs.Unpacking.{value-back, number-back, kind-back, second-back}
+use Rattle.rissemat.proofs.Packings.{words-packs, quote-packs, fresh-packs, key-packs, add-packs, tree-packs, parse-packs, help-packs, run-packs}
 use Rattle.rust.specs.Tree.{Commands}
 use Rattle.rust.specs.Parser.{tokenize, Result, parse}
 use Rattle.rust.specs.Help.{showHelp}
@@ -119,21 +119,21 @@ packs-run r left t p e f =
 pub tell-tables : TellTables
 tell-tables =
     record {
-      words = λ line out p left c. let b = words-behind line out p left c in packs _ _ left _ p (tokenize-tells line out (b .0) left (b .1)) (b .2);
-      quote = λ words out p left c. let b = quote-behind words out p left c in packs _ _ left _ p (quote-tells words out (b .0) left (b .1)) (b .2);
+      words = λ line out p left c. let b = words-packs line out p left c in packs _ _ left _ p (tokenize-tells line out (b .0) left (b .1)) (b .2);
+      quote = λ words out p left c. let b = quote-packs words out p left c in packs _ _ left _ p (quote-tells words out (b .0) left (b .1)) (b .2);
       fresh = λ state slots p state′ slots′ c.
-          let b = fresh-behind state slots p state′ slots′ c in
+          let b = fresh-packs state slots p state′ slots′ c in
           packs _ _ (state′, slots′) _ p (begin-tells state slots (b .0) state′ slots′ (b .1)) (b .2);
       key = λ state slots prompt byte line screen p state′ slots′ line′ screen′ c.
-          let b = key-behind state slots prompt byte line screen p state′ slots′ line′ screen′ c in
+          let b = key-packs state slots prompt byte line screen p state′ slots′ line′ screen′ c in
           packs-key (b .0) (state′, slots′, line′, screen′) _ p (press-tells state slots prompt byte line screen (b .0) state′ slots′ line′ screen′ (b .1)) (b .2);
       history-add = λ state slots text p state′ slots′ c.
-          let b = add-behind state slots text p state′ slots′ c in
+          let b = add-packs state slots text p state′ slots′ c in
           packs _ _ (state′, slots′) _ p (saved-add-tells state slots text (b .0) state′ slots′ (b .1)) (b .2);
-      tree = λ image p c. let b = tree-behind image p c in packs _ _ tt _ p (check-tells image (b .0) (b .1)) (b .2);
-      parse = λ image line out p left c. let b = parse-behind image line out p left c in packs _ _ left _ p (parse-tells image line out (b .0) left (b .1)) (b .2);
-      help = λ image line out p left c. let b = help-behind image line out p left c in packs _ _ left _ p (help-tells image line out (b .0) left (b .1)) (b .2);
-      run = λ image line out p left c. let b = run-behind image line out p left c in packs-run (b .0) left _ p (run-tells image line out (b .0) left (b .1)) (b .2);
+      tree = λ image p c. let b = tree-packs image p c in packs _ _ tt _ p (check-tells image (b .0) (b .1)) (b .2);
+      parse = λ image line out p left c. let b = parse-packs image line out p left c in packs _ _ left _ p (parse-tells image line out (b .0) left (b .1)) (b .2);
+      help = λ image line out p left c. let b = help-packs image line out p left c in packs _ _ left _ p (help-tells image line out (b .0) left (b .1)) (b .2);
+      run = λ image line out p left c. let b = run-packs image line out p left c in packs-run (b .0) left _ p (run-tells image line out (b .0) left (b .1)) (b .2);
     }
 
 -- DEMAND 1, what lasts: no sequence of these calls reaches a bad state; a byte typed into a full line is answered kind 2, and nothing changes
@@ -155,10 +155,10 @@ ready-of NoState e = absurd (omega arith)
 
 reached : {state slots : List ℕ} → ReachedByCalls state slots → Reached state slots
 reached (by-fresh {state} {slots} {state′} {slots′} c) =
-    let b = fresh-behind state slots 0 state′ slots′ c in begun (subst (λ (r : Begun). Beginning state slots r state′ slots′) (ready-of (b .0) (b .2)) (b .1))
+    let b = fresh-packs state slots 0 state′ slots′ c in begun (subst (λ (r : Begun). Beginning state slots r state′ slots′) (ready-of (b .0) (b .2)) (b .1))
 reached (by-key {state} {slots} {prompt} {line} {screen} {state′} {slots′} {line′} {screen′} {byte} {p} r c) =
-    key-reached (reached r) (key-behind state slots prompt byte line screen p state′ slots′ line′ screen′ c .1)
-reached (by-history-add {state} {slots} {text} {state′} {slots′} {p} r c) = add-reached (reached r) (add-behind state slots text p state′ slots′ c .1)
+    key-reached (reached r) (key-packs state slots prompt byte line screen p state′ slots′ line′ screen′ c .1)
+reached (by-history-add {state} {slots} {text} {state′} {slots′} {p} r c) = add-reached (reached r) (add-packs state slots text p state′ slots′ c .1)
 
 pub never-bad-by-calls : (state slots : List ℕ) → ReachedByCalls state slots → goodSaved state slots ≡ true
 never-bad-by-calls state slots r = never-bad state slots (reached r)
@@ -169,7 +169,7 @@ pub full-line : (state slots prompt : List ℕ) (byte : ℕ) (line screen : List
     → (p ≡ answered 0 0 2 0) × (state′ ≡ state) × (slots′ ≡ slots) × (line′ ≡ line) × (screen′ ≡ screen)
 unfolding keyTold
 full-line state slots prompt byte line screen p state′ slots′ line′ screen′ c good fair room typing full shown not-del =
-    let b = key-behind state slots prompt byte line screen p state′ slots′ line′ screen′ c in
+    let b = key-packs state slots prompt byte line screen p state′ slots′ line′ screen′ c in
     let d = full-line-saved state slots prompt byte line screen (b .0) state′ slots′ line′ screen′ (b .1) good fair room typing full shown not-del in
     (b .2 ∙ ap keyTold (d .0), d .1, d .2, d .3, d .4)
 
@@ -266,7 +266,7 @@ module _ (state slots prompt : List ℕ) (byte : ℕ) (line screen : List ℕ) (
   key-as-rust : KeyCall state slots prompt byte line screen p state′ slots′ line′ screen′ → goodSaved state slots ≡ true → numberIn p ≡ 0
       → PacksTurn prompt (shellIn state slots) byte line screen p (shellIn state′ slots′) line′ screen′
   key-as-rust c fine zero =
-      let b = key-behind state slots prompt byte line screen p state′ slots′ line′ screen′ c in
+      let b = key-packs state slots prompt byte line screen p state′ slots′ line′ screen′ c in
       let is = good-saved-parts state slots fine in
       let k : KeyAnswer = keyFor state (turnIn state slots prompt byte) (b .0) in
       let saved : state′ ≡ savedOf (k .editor) (k .history) = key-saved state slots prompt byte line screen (b .0) state′ slots′ line′ screen′ (b .1) (is .0) in
@@ -283,7 +283,7 @@ module _ (state slots prompt : List ℕ) (byte : ℕ) (line screen : List ℕ) (
 module _ (state slots text : List ℕ) (p : ℕ) (state′ slots′ : List ℕ) where
   add-as-rust : AddCall state slots text p state′ slots′ → goodSaved state slots ≡ true → numberIn p ≡ 0 → addCommand (commandsIn state slots) text ≡ commandsIn state′ slots′
   add-as-rust c fine zero =
-      let b = add-behind state slots text p state′ slots′ c in
+      let b = add-packs state slots text p state′ slots′ c in
       let is = good-saved-parts state slots fine in
       let fair = good-parts (editorIn state) (historyIn state) slots (is .1) .0 in
       let done = done-add (b .0) p (b .2) zero in
@@ -298,16 +298,16 @@ pub packs-as-rust : (image : List ℕ) (tree : Commands) → SameAsRust image tr
 packs-as-rust image tree same =
     record {
       splits = λ line out p left fair c.
-          let b = words-behind line out p left c in
+          let b = words-packs line out p left c in
           maps (words line fair out left (b .0) (b .1)) (λ f. b .2 ∙ ap (λ (x : Tokens). plain (wordsNumber x) (wordsValue x)) f) (λ f. b .2 ∙ ap (λ (x : Tokens). plain (wordsNumber x) (wordsValue x)) f);
       parses = λ line out p left fair c.
-          let b = parse-behind image line out p left c in
+          let b = parse-packs image line out p left c in
           maps (same .parses line out left (b .0) fair (b .1)) (λ f. b .2 ∙ same-plain (f .0) (f .1)) (λ f. b .2 ∙ ap (λ (x : Parsed). plain (parseNumber x) (parseValue x)) f);
       helps = λ line out p left fair c.
-          let b = help-behind image line out p left c in
+          let b = help-packs image line out p left c in
           helps-packed (showHelp tree (wordsBetween line)) out (b .0) p left (b .2) (same .helps line out left (b .0) fair (b .1));
       runs = λ printable line out p left short plain-help c.
-          let b = run-behind image line out p left c in
+          let b = run-packs image line out p left c in
           maps (same .runs printable line out left (b .0) short plain-help (b .1)) (says-packed (seenOf (enter printable tree line)) (b .0) p (b .2)) (λ f. b .2 ∙ run-short f);
       keys = key-as-rust;
       adds = add-as-rust;
@@ -326,18 +326,18 @@ pub packs-alone : (image other : List ℕ) → checkTree image ≡ Good → chec
 packs-alone image other good good′ =
     record {
       parse = λ line out p q left left′ agree c d.
-          let a = parse-behind image line out p left c in
-          let b = parse-behind other line out q left′ d in
+          let a = parse-packs image line out p left c in
+          let b = parse-packs other line out q left′ d in
           let s = parse-alone image other line good good′ out left left′ agree (a .0) (b .0) (a .1) (b .1) in
           (a .2 ∙ ap (λ (x : Parsed). plain (parseNumber x) (parseValue x)) (s .0) ∙ sym (b .2), s .1);
       help = λ line out p q left left′ agree c d.
-          let a = help-behind image line out p left c in
-          let b = help-behind other line out q left′ d in
+          let a = help-packs image line out p left c in
+          let b = help-packs other line out q left′ d in
           let s = help-alone image other line good good′ out left left′ agree (a .0) (b .0) (a .1) (b .1) in
           (a .2 ∙ ap (λ (x : Helped). plain (helpNumber x) (helpValue x)) (s .0) ∙ sym (b .2), s .1);
       run = λ line out p q left left′ bare agree c d.
-          let a = run-behind image line out p left c in
-          let b = run-behind other line out q left′ d in
+          let a = run-packs image line out p left c in
+          let b = run-packs other line out q left′ d in
           let s = run-alone image other line good good′ out left left′ bare agree (a .0) (b .0) (a .1) (b .1) in
           (a .2 ∙ ap runTold (s .0) ∙ sym (b .2), s .1);
     }

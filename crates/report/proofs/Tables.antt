@@ -1,6 +1,7 @@
 -- The options and the flags of a table, one by one: what a turn of each loop takes and leaves, and how much they can come to.
 use Prim.Native.Nat.{ℕ, _+_, _-_, _*_, _^_, _≤_, _<_}
 use mathlib.Core.Path.{_≡_, refl}
+use mathlib.Core.Bool.{Bool, true, false}
 use mathlib.Core.List.{List, [], _∷_, _++_, map}
 use native.Mathlib.Omega.{arith}
 use lib.ListN.{length, take, drop, getD, length-append, length-take}
@@ -16,6 +17,7 @@ use Rattle.table.specs.Inner.{keyOf, valueOf, entries, mapOf, sizeOf}
 use Rattle.table.specs.declared.sorted.Table.{Table}
 use Rattle.table.proofs.TableMaps.{at-place, at-end}
 use Rattle.report.specs.Report.{optionFrame, flagFrame}
+use Rattle.report.specs.Inner.{pairFrame}
 use Rattle.report.proofs.Ahead.{Ahead, ahead-room, ahead-lent, ahead-turn, ahead-first, runs-more, runs-none, count-turn}
 
 -- how long the frames of a pair are
@@ -33,6 +35,10 @@ option-kind k v out r left fits p =
 length-flag : (k v : List ℕ) → length (flagFrame (k, v)) ≡ 3 + length k
 unfolding flagFrame
 length-flag k v = length-frameOf 0x13 k
+
+-- a flag's frame has its key alone, and is as long for any kind
+pub flag-any : (k v out : List ℕ) → length (flagFrame (k, v)) ≤ length out → (kind : ℕ) → length (frameOf kind k) ≤ length out
+flag-any k v out h kind = let l = length-flag k v in let m = length-frameOf kind k in omega arith
 
 -- an entry has 16 bits for the length of its key and 13 for that of its value
 module _ (words image : List ℕ) (e : ℕ) where
@@ -68,13 +74,10 @@ runs-most f g (e ∷ l) h =
     omega arith
 
 module _ (words image : List ℕ) (t : Table) where
-  pub options-most : length (runs optionFrame (mapOf words image t)) ≤ 0x20000 * sizeOf t
+  pub pairs-most : (valued : Bool) → length (runs (pairFrame valued) (mapOf words image t)) ≤ 0x20000 * sizeOf t
   unfolding mapOf sizeOf entries
-  options-most = runs-most optionFrame (λ e. (keyOf words image e, valueOf words e)) (take (t .count) (t .at)) (option-most words image)
-
-  pub flags-most : length (runs flagFrame (mapOf words image t)) ≤ 0x20000 * sizeOf t
-  unfolding mapOf sizeOf entries
-  flags-most = runs-most flagFrame (λ e. (keyOf words image e, valueOf words e)) (take (t .count) (t .at)) (flag-most words image)
+  pairs-most true = runs-most optionFrame (λ e. (keyOf words image e, valueOf words e)) (take (t .count) (t .at)) (option-most words image)
+  pairs-most false = runs-most flagFrame (λ e. (keyOf words image e, valueOf words e)) (take (t .count) (t .at)) (flag-most words image)
 
 module _ (f : List ℕ × List ℕ → List ℕ) (words image : List ℕ) (t : Table) where
   -- the frames of the pairs from a place on
@@ -108,30 +111,3 @@ module _ (f : List ℕ × List ℕ → List ℕ) (words image : List ℕ) (t : T
       pub pair-written : (r : ℕ) (left : List ℕ) → Written (f (k, v)) (take (length out - o) (drop o out)) r left
           → AheadPairs out₀ (i + 1) (o + r) (putMid o (length out - o) out left)
       pair-written r left w = ahead-turn _ _ _ (f (k, v)) (pairsAt (i + 1)) o out a pair-next fits r left w
-
--- a flag more: its frame has its key alone
-module _ (words image : List ℕ) (t : Table) (i : ℕ) (h : i < sizeOf t) (k : List ℕ) (p : k ≡ keyOf words image (getD (t .at) i 0)) where
-  pub flag-counted : (size n whole : ℕ) → n ≡ length (frameOf 0x13 k) → size + length (pairsAt flagFrame words image t i) ≡ whole
-      → size + n + length (pairsAt flagFrame words image t (i + 1)) ≡ whole
-  unfolding flagFrame
-  flag-counted size n whole e c = pair-counted flagFrame words image t i h k _ p refl size n whole e c
-
-  module _ (out₀ : List ℕ) (o : ℕ) (out : List ℕ) (a : AheadPairs flagFrame words image t out₀ i o out) (fits : length (runs flagFrame (mapOf words image t)) ≤ length out₀) where
-    pub flag-lent : (kind : ℕ) → length (frameOf kind k) ≤ length (take (length out - o) (drop o out))
-    flag-lent kind =
-        let r = pair-lent flagFrame words image t i h k _ p refl out₀ o out a fits in
-        let l = length-flag k (valueOf words (getD (t .at) i 0)) in
-        let m = length-frameOf kind k in
-        omega arith
-
-    pub flag-place : (kind n : ℕ) (lent left : List ℕ) → Written (frameOf kind k) lent n left → o + n ≤ length out
-    flag-place kind n lent left w =
-        let r = pair-room flagFrame words image t i h k _ p refl out₀ o out a fits in
-        let l = length-flag k (valueOf words (getD (t .at) i 0)) in
-        let m = length-frameOf kind k in
-        omega (arith, r, l, m, w .count)
-
-    pub flag-written : (r : ℕ) (left : List ℕ) → Written (frameOf 0x13 k) (take (length out - o) (drop o out)) r left
-        → AheadPairs flagFrame words image t out₀ (i + 1) (o + r) (putMid o (length out - o) out left)
-    unfolding flagFrame
-    flag-written r left w = pair-written flagFrame words image t i h k _ p refl out₀ o out a fits r left w

@@ -1,7 +1,7 @@
--- What only contracts of inner calls cite: a report of what the code holds, the text of a fault in its parts, and what writing either answers and leaves.
+-- What only contracts of inner calls cite: a report of what the code holds, the frame of a pair, the text of a fault in its parts, and what writing either answers and leaves.
 use Prim.Native.Nat.{ℕ}
 use mathlib.Core.Path.{_≡_}
-use mathlib.Core.Bool.{cond}
+use mathlib.Core.Bool.{Bool, true, false, cond}
 use mathlib.Core.List.{List, _++_}
 use lib.Dec.{ltb}
 use lib.ListN.{length, replicate}
@@ -9,13 +9,18 @@ use Rattle.buffer.specs.Write.{over}
 use Rattle.frame.specs.Series.{textsIn}
 use Rattle.table.specs.Inner.{mapOf}
 use Rattle.table.specs.declared.sorted.Table.{Table}
-use Rattle.report.specs.Report.{reportOf}
+use Rattle.report.specs.Report.{optionFrame, flagFrame, reportOf}
 use Rattle.report.specs.declared.answer.Reported.{Reported}
 use Rattle.report.specs.declared.answer.Reported.the-variants.{Report, NoRoom}
 
 -- the report of what is lent: words as frames one after the other, pairs as tables over the split words and the image
 abbrev pub reportHeld : List ℕ → List ℕ → List ℕ → Table → Table → List ℕ → List ℕ
 reportHeld words image path options flags rest = reportOf (textsIn path) (mapOf words image options) (mapOf words image flags) (textsIn rest)
+
+-- the frame of a pair: an option's, or a flag's, which has the key alone
+abbrev pub pairFrame : Bool → List ℕ × List ℕ → List ℕ
+pairFrame true = optionFrame
+pairFrame false = flagFrame
 
 -- what a fault tells of a word: the dashes `-` of its form, and a part of it
 unfoldable pub dashed : ℕ → List ℕ → List ℕ

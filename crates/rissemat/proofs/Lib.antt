@@ -1,4 +1,4 @@
--- The laws of the crate `abi` that belong to no one function.
+-- The laws of the crate `rissemat` that belong to no one function.
 pub mod Answering
-pub mod Packing
-pub mod Behind
+pub mod Unpacking
+pub mod Packings

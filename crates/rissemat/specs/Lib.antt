@@ -1,3 +1,4 @@
--- Definitions of the crate `abi`: an answer as one number, and what each call gives back.
+-- Definitions of the crate `rissemat`: an answer as one number, what each call gives back, and what only inner contracts cite.
 pub mod Packed
 pub mod Calls
+pub mod Inner

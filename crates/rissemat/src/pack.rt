@@ -11,11 +11,17 @@ fn at_most(n: usize, most: u64) -> u64
     if wide < most { wide } else { most }
 }
 
+// An answer: the refusal's number, the value, the kind of answer, the second value.
+pub struct Parts(pub u8, pub usize, pub u8, pub usize);
+
 // From bit 0 up: the value, the refusal's number, the kind of answer, the second value.
-pub fn packed(number: u8, value: usize, kind: u8, second: usize) -> u64
-    ensures { λ r. ⌜ r ≡ answered number value kind second ⌝ }
+pub fn packed(parts: Parts) -> u64
+    ensures { λ r. ⌜ r ≡ answered (parts .0) (parts .1) (parts .2) (parts .3) ⌝ }
 {
-    let low = at_most(value, 0xFFFF_FFFF);
-    let high = at_most(second, 0xFFFF);
-    high * 0x1_0000_0000_0000 + kind as u64 * 0x100_0000_0000 + number as u64 * 0x1_0000_0000 + low
+    let low = at_most(parts.1, 0xFFFF_FFFF);
+    let high = at_most(parts.3, 0xFFFF);
+    high * 0x1_0000_0000_0000
+        + parts.2 as u64 * 0x100_0000_0000
+        + parts.0 as u64 * 0x1_0000_0000
+        + low
 }

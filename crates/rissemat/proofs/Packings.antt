@@ -24,39 +24,39 @@ use Rattle.shell.specs.Answer.{runAnswer, Running}
 use Rattle.rissemat.specs.Packed.{plain}
 use Rattle.rissemat.specs.Calls.{WordsCall, QuoteCall, FreshCall, KeyCall, keyTold, AddCall, TreeCall, ParseCall, HelpCall, RunCall, runTold}
 
-pub words-behind : (line out : List ℕ) (p : ℕ) (left : List ℕ) → WordsCall line out p left → (r : Tokens) × Tokenized line out r left × (p ≡ plain (number r) (value r))
-words-behind line out p left h = (answerFor line (length out), record { answer = refl; bytes = h .bytes }, h .answer)
+pub words-packs : (line out : List ℕ) (p : ℕ) (left : List ℕ) → WordsCall line out p left → (r : Tokens) × Tokenized line out r left × (p ≡ plain (number r) (value r))
+words-packs line out p left h = (answerFor line (length out), record { answer = refl; bytes = h .bytes }, h .answer)
 
-pub quote-behind : (words out : List ℕ) (p : ℕ) (left : List ℕ) → QuoteCall words out p left → (r : Quoted) × Quotation words out r left × (p ≡ plain (quoteNumber r) (quoteValue r))
-quote-behind words out p left h = (quoteAnswer words (length out), record { answer = refl; bytes = h .bytes }, h .answer)
+pub quote-packs : (words out : List ℕ) (p : ℕ) (left : List ℕ) → QuoteCall words out p left → (r : Quoted) × Quotation words out r left × (p ≡ plain (quoteNumber r) (quoteValue r))
+quote-packs words out p left h = (quoteAnswer words (length out), record { answer = refl; bytes = h .bytes }, h .answer)
 
-pub fresh-behind : (state slots : List ℕ) (p : ℕ) (state′ slots′ : List ℕ) → FreshCall state slots p state′ slots′
+pub fresh-packs : (state slots : List ℕ) (p : ℕ) (state′ slots′ : List ℕ) → FreshCall state slots p state′ slots′
     → (r : Begun) × Beginning state slots r state′ slots′ × (p ≡ plain (beginNumber r) (beginValue r))
-fresh-behind state slots p state′ slots′ h = (beginAnswer (length state) (length slots), record { answer = refl; kept = h .kept; held = h .held }, h .answer)
+fresh-packs state slots p state′ slots′ h = (beginAnswer (length state) (length slots), record { answer = refl; kept = h .kept; held = h .held }, h .answer)
 
-pub key-behind : (state slots prompt : List ℕ) (byte : ℕ) (line screen : List ℕ) (p : ℕ) (state′ slots′ line′ screen′ : List ℕ)
+pub key-packs : (state slots prompt : List ℕ) (byte : ℕ) (line screen : List ℕ) (p : ℕ) (state′ slots′ line′ screen′ : List ℕ)
     → KeyCall state slots prompt byte line screen p state′ slots′ line′ screen′
     → (r : Pressed) × SavedKey state slots prompt byte line screen r state′ slots′ line′ screen′ × (p ≡ keyTold r)
-key-behind state slots prompt byte line screen p state′ slots′ line′ screen′ h = (
+key-packs state slots prompt byte line screen p state′ slots′ line′ screen′ h = (
   pressAnswer state slots prompt byte (length line) (length screen),
   record { answer = refl; kept = h .kept; held = h .held; given = h .given; shown = h .shown },
   h .answer,
 )
 
-pub add-behind : (state slots text : List ℕ) (p : ℕ) (state′ slots′ : List ℕ) → AddCall state slots text p state′ slots′
+pub add-packs : (state slots text : List ℕ) (p : ℕ) (state′ slots′ : List ℕ) → AddCall state slots text p state′ slots′
     → (r : Added) × SavedAdd state slots text r state′ slots′ × (p ≡ plain (addNumber r) (addValue r))
-add-behind state slots text p state′ slots′ h = (savedAnswer state slots text, record { answer = refl; kept = h .kept; held = h .held }, h .answer)
+add-packs state slots text p state′ slots′ h = (savedAnswer state slots text, record { answer = refl; kept = h .kept; held = h .held }, h .answer)
 
-pub tree-behind : (image : List ℕ) (p : ℕ) → TreeCall image p → (r : Checked) × (r ≡ checkTree image) × (p ≡ plain (treeNumber r) (treeValue r))
-tree-behind image p h = (checkTree image, refl, h .answer)
+pub tree-packs : (image : List ℕ) (p : ℕ) → TreeCall image p → (r : Checked) × (r ≡ checkTree image) × (p ≡ plain (treeNumber r) (treeValue r))
+tree-packs image p h = (checkTree image, refl, h .answer)
 
-pub parse-behind : (image line out : List ℕ) (p : ℕ) (left : List ℕ) → ParseCall image line out p left
+pub parse-packs : (image line out : List ℕ) (p : ℕ) (left : List ℕ) → ParseCall image line out p left
     → (r : Parsed) × Parsing image line out r left × (p ≡ plain (parseNumber r) (parseValue r))
-parse-behind image line out p left h = (parseAnswer image line (length out), record { answer = refl; bytes = h .bytes }, h .answer)
+parse-packs image line out p left h = (parseAnswer image line (length out), record { answer = refl; bytes = h .bytes }, h .answer)
 
-pub help-behind : (image line out : List ℕ) (p : ℕ) (left : List ℕ) → HelpCall image line out p left
+pub help-packs : (image line out : List ℕ) (p : ℕ) (left : List ℕ) → HelpCall image line out p left
     → (r : Helped) × Helping image line out r left × (p ≡ plain (helpNumber r) (helpValue r))
-help-behind image line out p left h = (helpAnswer image line (length out), record { answer = refl; bytes = h .bytes }, h .answer)
+help-packs image line out p left h = (helpAnswer image line (length out), record { answer = refl; bytes = h .bytes }, h .answer)
 
-pub run-behind : (image line out : List ℕ) (p : ℕ) (left : List ℕ) → RunCall image line out p left → (r : Ran) × Running image line out r left × (p ≡ runTold r)
-run-behind image line out p left h = (runAnswer image line (length out), record { answer = refl; bytes = h .bytes }, h .answer)
+pub run-packs : (image line out : List ℕ) (p : ℕ) (left : List ℕ) → RunCall image line out p left → (r : Ran) × Running image line out r left × (p ≡ runTold r)
+run-packs image line out p left h = (runAnswer image line (length out), record { answer = refl; bytes = h .bytes }, h .answer)
