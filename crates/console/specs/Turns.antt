@@ -29,13 +29,20 @@ starting = record { stream = fresh; at = 0; end = 0; over = false }
 abbrev pub stopped : Stream → Console
 stopped s = record { stream = s; at = 0; end = 0; over = true }
 
+-- room for a piece, and for what two keys may print
+abbrev pub pieceRoom : ℕ
+pieceRoom = 65536
+
+abbrev pub outRoom : ℕ
+outRoom = 262202
+
 -- a console that can take a turn
 pub record Ready (c : Console) (input line image slots out : List ℕ) : Type 0 where
   pub sound : Sound (c .stream) line image slots
   pub order : c .at ≤ c .end
   pub within : c .end ≤ length input
-  pub pieces : length input ≡ 65536
-  pub room : length out ≡ 262202
+  pub pieces : length input ≡ pieceRoom
+  pub room : length out ≡ outRoom
 
 -- the stream was read on: a new piece, or the end
 pub record ReadOn (s : Stream) (input out : List ℕ) (r : Console) (input′ out′ : List ℕ) : Type 0 where

@@ -4,6 +4,7 @@ use crate::channels::read_piece;
 use crate::channels::write_out;
 use buffer::part;
 use buffer::rest;
+use session::KEY_ROOM;
 use stream::Stream;
 use stream::blank_image;
 use stream::blank_line;
@@ -15,9 +16,11 @@ ghost use mathlib.Core.Bool.{true, false};
 ghost use mathlib.Core.List.{[]};
 ghost use Prim.Native.Nat.{_≤_};
 ghost use lib.ListN.{length};
+ghost use Rattle.tree.specs.Rules.{imageLimit};
 ghost use Rattle.history.specs.Journal.{noEntries, slotsOf};
+ghost use Rattle.session.specs.Sizes.{lastLine};
 ghost use Rattle.stream.specs.Bytes.{lineRoom};
-ghost use Rattle.console.specs.Turns.{starting, stopped, Ready, ReadOn, Turning};
+ghost use Rattle.console.specs.Turns.{pieceRoom, outRoom, starting, stopped, Ready, ReadOn, Turning};
 
 // The stream, where what is left of the piece that was read lies in its buffer, and whether the console is at its end.
 pub struct Console {
@@ -55,7 +58,7 @@ impl Console {
 
 // Reads the next piece. At the input's end a line that is not at its end is told; a read that failed is not the input's end.
 fn read_on(stream: Stream, input: &mut [u8], out: &mut [u8]) -> Console
-    requires { ⌜ (stream .session .lines ≤ 65535) × (7 ≤ length (now out)) ⌝ }
+    requires { ⌜ (stream .session .lines ≤ lastLine) × (7 ≤ length (now out)) ⌝ }
     ensures { λ r. ⌜ ReadOn stream (now (input .entry)) (now (out .entry)) r (now (input .exit)) (now (out .exit)) ⌝ }
 {
     match read_piece(input) {
@@ -119,7 +122,7 @@ fn turn(
 
 // Turns up to the end. A proved loop has to end and an input need not, so turns are counted down from a number that no run uses up.
 fn turns(input: &mut [u8], line: &mut [u8], image: &mut [u8], slots: &mut [u8], out: &mut [u8])
-    requires { ⌜ (length (now input) ≡ 65536) × (length (now line) ≡ lineRoom) × (length (now image) ≡ 32768) × (now slots ≡ slotsOf noEntries) × (length (now out) ≡ 262202) ⌝ }
+    requires { ⌜ (length (now input) ≡ pieceRoom) × (length (now line) ≡ lineRoom) × (length (now image) ≡ imageLimit) × (now slots ≡ slotsOf noEntries) × (length (now out) ≡ outRoom) ⌝ }
 {
     let mut console = Console::start();
     let mut left = u64::MAX;
@@ -133,10 +136,12 @@ fn turns(input: &mut [u8], line: &mut [u8], image: &mut [u8], slots: &mut [u8], 
 }
 
 // Room for what two keys may print.
-fn blank_out() -> [u8; 262202]
-    ensures { λ r. ⌜ length r ≡ 262202 ⌝ }
+const OUT_ROOM: usize = 2 * KEY_ROOM;
+
+fn blank_out() -> [u8; OUT_ROOM]
+    ensures { λ r. ⌜ length r ≡ outRoom ⌝ }
 {
-    [0; 262202]
+    [0; OUT_ROOM]
 }
 
 pub fn run() {

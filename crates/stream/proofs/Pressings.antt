@@ -25,7 +25,7 @@ use Rattle.session.proofs.running.Printing.{the-type}
 use Rattle.session.specs.Held.{Holds}
 use Rattle.session.proofs.Held.{key-held}
 use Rattle.stream.specs.Bytes.{lineRoom}
-use Rattle.stream.specs.Moves.{waits, closed, behindLine, Move, printing, size, pressSome}
+use Rattle.stream.specs.Moves.{waits, closed, afterLine, Move, printing, size, pressSome}
 use Rattle.stream.specs.Held.{waiting, settled, stopped, standingOf, keysOf, Ready}
 use Rattle.stream.specs.Inner.{KeyMade, Moved}
 use Rattle.stream.specs.declared.pressing.Keyed.{Keyed}
@@ -85,7 +85,7 @@ module _ (h : Session) (image slots : List ℕ) (byte : ℕ) (out : List ℕ) (a
 
 -- the definition, key by key
 module _ (room : ℕ) (at : Standing) where
-  press-none : pressSome room at [] ≡ record { prints = []; after = behindLine at }
+  press-none : pressSome room at [] ≡ record { prints = []; after = afterLine at }
   unfolding pressSome
   press-none = refl
 

@@ -20,7 +20,7 @@ use Rattle.session.specs.declared.standing.Session.{Session}
 use Rattle.session.specs.Held.{Holds}
 use Rattle.session.proofs.Held.{holds-state, holds-fresh}
 use Rattle.stream.specs.Bytes.{lineRoom}
-use Rattle.stream.specs.Moves.{reads, waits, closed, start, behindLine}
+use Rattle.stream.specs.Moves.{reads, waits, closed, start, afterLine}
 use Rattle.stream.specs.Held.{starting, waiting, settled, stopped, standingOf, keysOf, standOf, Ready, Sound}
 
 -- a session that is held stands where it says
@@ -52,8 +52,8 @@ module _ (h : Session) (line image slots : List ℕ) where
   unfolding standOf
   stands-stopped = refl
 
-  pub stands-settled : standOf (settled h) line image slots ≡ behindLine (standingOf h image slots)
-  unfolding standOf behindLine
+  pub stands-settled : standOf (settled h) line image slots ≡ afterLine (standingOf h image slots)
+  unfolding standOf afterLine
   stands-settled = by (leb 65535 (h .lines)) refl
     where
       by : (b : Bool) → leb 65535 (h .lines) ≡ b

@@ -23,7 +23,7 @@ use Rattle.session.proofs.taking.Taken.{the-type as taken-type}
 use Rattle.session.specs.Held.{Holds}
 use Rattle.session.proofs.Followed.{Brings, line-held}
 use Rattle.stream.specs.Bytes.{lineRoom}
-use Rattle.stream.specs.Moves.{behindLine, size, pressSome, moveBy, lineMove}
+use Rattle.stream.specs.Moves.{afterLine, size, pressSome, moveBy, lineMove}
 use Rattle.stream.specs.Held.{settled, stopped, standingOf, keysOf, standOf, Ready}
 use Rattle.stream.specs.Inner.{Moved, LineRead, Refuses}
 use Rattle.stream.specs.declared.standing.Stream.{Stream}
@@ -85,7 +85,7 @@ module _ (h : Session) (line image slots : List ℕ) (k : Ready h line image slo
           (record {
             makes =
                 record {
-                  after = stands-settled (r .session) line image′ slots ∙ ap behindLine (holds-standing after (r .session) image′ slots (b .1));
+                  after = stands-settled (r .session) line image′ slots ∙ ap afterLine (holds-standing after (r .session) image′ slots (b .1));
                   place = omega arith;
                   bytes = sym (overAt-nothing out at);
                 };

@@ -16,7 +16,7 @@ use Rattle.session.specs.Lines.{formBy, formless, Form, lineForm, Standing, beg
 use Rattle.session.specs.Sizes.{keyRoom}
 use Rattle.session.proofs.Printings.{lines-both}
 use Rattle.stream.specs.Bytes.{closes, cut, linesIn, console}
-use Rattle.stream.specs.Moves.{Stand, reads, waits, closed, start, onward, rest, behindLine, Move, printing, size, pressSome, moveBy, lineMove, Went, stays, printed, takeSome, resume, stepBy, last}
+use Rattle.stream.specs.Moves.{Stand, reads, waits, closed, start, onward, rest, afterLine, Move, printing, size, pressSome, moveBy, lineMove, Went, stays, printed, takeSome, resume, stepBy, last}
 use Rattle.stream.proofs.Reaches.{go-on, ended-snoc}
 
 -- where steps lead: a stream that reads is before its last line, and what it holds is not at its end
@@ -31,16 +31,16 @@ unfolding session
 late at [] e = refl
 late at (line ∷ lines) e = else-is _ _ _ e
 
-behind-rest : (at : Standing) (bytes : List ℕ) → rest (behindLine at) bytes ≡ session at (cut [] bytes)
-unfolding behindLine rest
+behind-rest : (at : Standing) (bytes : List ℕ) → rest (afterLine at) bytes ≡ session at (cut [] bytes)
+unfolding afterLine rest
 behind-rest at bytes = by (ltb (at .lines) 65535) refl
   where
     by : (b : Bool) → ltb (at .lines) 65535 ≡ b → rest (cond b (reads at []) closed) bytes ≡ session at (cut [] bytes)
     by true e = refl
     by false e = sym (late at (cut [] bytes) e)
 
-behind-fit : (at : Standing) → Fit (behindLine at)
-unfolding behindLine endsInLF
+behind-fit : (at : Standing) → Fit (afterLine at)
+unfolding afterLine endsInLF
 behind-fit at = by (ltb (at .lines) 65535) refl
   where
     by : (b : Bool) → ltb (at .lines) 65535 ≡ b → Fit (cond b (reads at []) closed)

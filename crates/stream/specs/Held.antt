@@ -7,7 +7,10 @@ use lib.Dec.{ltb, leb, eqb}
 use lib.ListN.{length, take, drop}
 use Rattle.buffer.specs.Write.{over}
 use Rattle.frame.specs.House.{endsInLF}
+use Rattle.tree.specs.Rules.{imageLimit}
+use Rattle.history.specs.Slots.{slotsSize}
 use Rattle.editor.specs.Answer.{stateOf}
+use Rattle.session.specs.Sizes.{lastLine}
 use Rattle.session.specs.Prints.{Printed, badLine, linesOf}
 use Rattle.session.specs.Lines.{Standing}
 use Rattle.session.specs.Calls.{fresh, imageOf}
@@ -26,7 +29,7 @@ abbrev pub waiting : Session → ℕ → ℕ → Stream
 waiting h next keys = record { session = h; held = 0; next = next; keys = keys; over = false }
 
 abbrev pub settled : Session → Stream
-settled h = record { session = h; held = 0; next = 0; keys = 0; over = leb 65535 (h .lines) }
+settled h = record { session = h; held = 0; next = 0; keys = 0; over = leb lastLine (h .lines) }
 
 abbrev pub stopped : Session → Stream
 stopped h = record { session = h; held = 0; next = 0; keys = 0; over = true }
@@ -56,15 +59,15 @@ standOf s line image slots =
 pub record Ready (h : Session) (line image slots : List ℕ) : Type 0 where
   pub holds : Holds (standingOf h image slots) h image slots
   pub whole : length line ≡ lineRoom
-  pub room : length image ≡ 32768
-  pub slot : length slots ≡ 25600
+  pub room : length image ≡ imageLimit
+  pub slot : length slots ≡ slotsSize
 
 -- a stream that the steps lead to: its numbers lie within the buffer for a line, and what is held of a line is not at its end
 pub record Sound (s : Stream) (line image slots : List ℕ) : Type 0 where
   pub ready : Ready (s .session) line image slots
   pub held : s .held < lineRoom
   pub keys : s .keys ≤ lineRoom
-  pub early : s .over ≡ false → ltb (s .next) (s .keys) ≡ false → s .session .lines < 65535
+  pub early : s .over ≡ false → ltb (s .next) (s .keys) ≡ false → s .session .lines < lastLine
   pub unended : endsInLF (take (s .held) line) ≡ false
 
 -- a step over a piece of the input, printed at the front

@@ -6,7 +6,7 @@ use lib.Dec.{ltb}
 use lib.ListN.{length}
 use Rattle.session.specs.Prints.{Printed, badLine, linesOf}
 use Rattle.session.specs.Lines.{Standing, beginning, Course, Taking, grown, pressing, refused, takeLine, pressKey, pressKeys, session}
-use Rattle.session.specs.Sizes.{keyRoom}
+use Rattle.session.specs.Sizes.{lastLine, keyRoom}
 use Rattle.stream.specs.Bytes.{closes, cut}
 
 -- some bytes of a line have come; keys of the last line are still to be pressed; the session is at its end
@@ -28,8 +28,8 @@ rest (waits at keys) bytes = onward (pressKeys at keys) (λ after. session after
 rest closed bytes = []
 
 -- after a line: nothing is read past line 65,535
-unfoldable pub behindLine : Standing → Stand
-behindLine at = cond (ltb (at .lines) 65535) (reads at []) closed
+unfoldable pub afterLine : Standing → Stand
+afterLine at = cond (ltb (at .lines) lastLine) (reads at []) closed
 
 -- a move: what it prints, and where the stream stands then
 pub record Move : Type 0 where
@@ -45,7 +45,7 @@ size prints = length (linesOf prints)
 
 -- keys are pressed one after the other, each with room for what a key may print
 unfoldable pub pressSome : ℕ → Standing → List ℕ → Move
-pressSome room at [] = record { prints = []; after = behindLine at }
+pressSome room at [] = record { prints = []; after = afterLine at }
 pressSome room at (byte ∷ keys) =
     cond (ltb room keyRoom) (record { prints = []; after = waits at (byte ∷ keys) })
     (cond (pressKey at byte .ends) (record { prints = pressKey at byte .prints; after = closed })
@@ -53,7 +53,7 @@ pressSome room at (byte ∷ keys) =
 
 -- a whole line: a frame of the tree, keys that are pressed, or a 2F and the end
 abbrev pub moveBy : ℕ → Taking → Move
-moveBy room (grown after) = record { prints = []; after = behindLine after }
+moveBy room (grown after) = record { prints = []; after = afterLine after }
 moveBy room (pressing keys after) = pressSome room after keys
 moveBy room (refused number) = record { prints = badLine number ∷ []; after = closed }
 

@@ -4,6 +4,7 @@ ghost use Prim.Native.Nat.{_<_};
 ghost use lib.ListN.{length};
 ghost use Rattle.stream.specs.Bytes.{lineRoom};
 ghost use Rattle.stream.specs.Inner.{Holding};
+use super::standing::Stream;
 
 // How many bytes of a line are held, and whether the last of them ends it.
 pub struct Held {
@@ -29,7 +30,7 @@ pub fn hold(line: &mut [u8], held: usize, bytes: &[u8]) -> Held
                 closed: true,
             };
         }
-        if 1026 <= count {
+        if Stream::LINE_ROOM <= count {
             return Held {
                 count,
                 closed: true,

@@ -27,6 +27,9 @@ pub struct Printout {
 }
 
 impl Stream {
+    // Room for a line: the longest house line has 1,024 digits and its LF, so with this many bytes it is none.
+    pub const LINE_ROOM: usize = 1026;
+
     // Nothing has come.
     pub fn start() -> Stream
         ensures { λ r. ⌜ r ≡ starting ⌝ }
@@ -75,7 +78,7 @@ impl Stream {
             held: 0,
             next: 0,
             keys: 0,
-            over: 65535 <= session.lines,
+            over: Session::LAST_LINE <= session.lines,
         }
     }
 

@@ -11,6 +11,7 @@ use session::refuse;
 ghost use mathlib.Core.Path.{_≡_};
 ghost use Prim.Native.Nat.{_≤_};
 ghost use lib.ListN.{length};
+ghost use Rattle.session.specs.Sizes.{lastLine};
 ghost use Rattle.stream.specs.Held.{Sound, Stepping, lastOf, Finished};
 ghost use Rattle.stream.specs.Inner.{Resumed, TakesPiece};
 
@@ -107,7 +108,7 @@ pub fn step(
 
 // The input's end: a line that is not at its end is a bad one, and what that prints stands at the front of out.
 pub fn finish(stream: Stream, out: &mut [u8]) -> usize
-    requires { ⌜ (stream .session .lines ≤ 65535) × (7 ≤ length (now out)) ⌝ }
+    requires { ⌜ (stream .session .lines ≤ lastLine) × (7 ≤ length (now out)) ⌝ }
     ensures { λ r. ⌜ Finished (lastOf stream) (now (out .entry)) r (now (out .exit)) ⌝ }
 {
     if stream.is_busy() {

@@ -17,15 +17,15 @@ ghost use mathlib.Core.Path.{_≡_};
 ghost use mathlib.Core.Bool.{false};
 ghost use Prim.Native.Nat.{_+_, _<_, _≤_};
 ghost use lib.ListN.{length, take};
-ghost use Rattle.session.specs.Sizes.{keyRoom};
+ghost use Rattle.session.specs.Sizes.{lastLine, frameRoom, keyRoom};
 ghost use Rattle.stream.specs.Held.{busyWith, Ready, Sound};
 ghost use Rattle.stream.specs.Inner.{PressedSome, LineRead, Refuses, LineMoved, TakesBytes};
 
 // Room for the frame of a line.
-fn blank_frame() -> [u8; 512]
-    ensures { λ r. ⌜ 512 ≡ length r ⌝ }
+fn blank_frame() -> [u8; Session::FRAME_ROOM]
+    ensures { λ r. ⌜ frameRoom ≡ length r ⌝ }
 {
-    [0; 512]
+    [0; Session::FRAME_ROOM]
 }
 
 // Prints the 2F of a line at a place: it is the last that is printed.
@@ -69,7 +69,7 @@ fn press_keys(
     at: usize,
 ) -> Printout
     requires { ⌜ Ready session (now line) (now image) (now slots) ⌝ }
-    requires { ⌜ (length (now keys) ≤ 512) × (at ≤ length (now out)) ⌝ }
+    requires { ⌜ (length (now keys) ≤ frameRoom) × (at ≤ length (now out)) ⌝ }
     ensures { λ r. ⌜ PressedSome session (now (keys .entry)) (now (image .entry)) (now (slots .entry)) (now (out .entry)) at r (now (line .exit)) (now (slots .exit)) (now (out .exit)) ⌝ }
 {
     let n = copy(keys, line);
@@ -87,7 +87,7 @@ fn take_whole(
     at: usize,
 ) -> Printout
     requires { ⌜ Ready session (now line) (now image) (now slots) ⌝ }
-    requires { ⌜ (session .lines < 65535) × (at + keyRoom ≤ length (now out)) ⌝ }
+    requires { ⌜ (session .lines < lastLine) × (at + keyRoom ≤ length (now out)) ⌝ }
     ensures { λ r. ⌜ LineMoved session (take held (now (line .entry))) (now (image .entry)) (now (slots .entry)) (now (out .entry)) at r (now (line .exit)) (now (image .exit)) (now (slots .exit)) (now (out .exit)) ⌝ }
 {
     let mut frame = blank_frame();
