@@ -117,36 +117,36 @@ unfolding missingRequired
 none-missing options = refl
 
 -- THE SEARCH: what is told, or else what is missing from the place reached, is what is missing from the beginning; nothing is told while definitions are ahead
-pub record Sought (node : List ℕ) (options : Map) (start : ℕ) (told : Required) (at : ℕ) : Type 0 where
+pub record Searched (node : List ℕ) (options : Map) (start : ℕ) (told : Required) (at : ℕ) : Type 0 where
   pub unsaid : at < length node → requiredBy node told ≡ none
   pub same : onMissing (requiredBy node told) some (missingRequired (definitionsAt node at) options) ≡ missingRequired (definitionsAt node start) options
 
 module _ (node : List ℕ) (options : Map) (start : ℕ) where
-  pub sought-from : Sought node options start Fine start
-  sought-from = record { unsaid = λ h. refl; same = refl }
+  pub searched-from : Searched node options start Fine start
+  searched-from = record { unsaid = λ h. refl; same = refl }
 
-  module _ (told : Required) (at : ℕ) (s : Sought node options start told at) where
+  module _ (told : Required) (at : ℕ) (s : Searched node options start told at) where
     -- one is missing here and is told: nothing may be ahead of the search any more
-    pub sought-told : (name : Span) (next : ℕ) → at < length node → missingRequired (definitionsAt node at) options ≡ requiredBy node (Missing name) → length node ≤ next
-        → Sought node options start (Missing name) next
-    sought-told name next h e end = record {
+    pub searched-told : (name : Span) (next : ℕ) → at < length node → missingRequired (definitionsAt node at) options ≡ requiredBy node (Missing name) → length node ≤ next
+        → Searched node options start (Missing name) next
+    searched-told name next h e end = record {
       unsaid = λ more. absurd (omega (arith, more, end));
       same = sym e ∙ sym (ap (λ (o : Option (List ℕ)). onMissing o some (missingRequired (definitionsAt node at) options)) (s .unsaid h)) ∙ s .same;
     }
 
     -- none is missing here
-    pub sought-on : (next : ℕ) → at < length node → missingRequired (definitionsAt node at) options ≡ missingRequired (definitionsAt node next) options → Sought node options start told next
-    sought-on next h e = record { unsaid = λ more. s .unsaid h; same = ap (onMissing (requiredBy node told) some) (sym e) ∙ s .same }
+    pub searched-on : (next : ℕ) → at < length node → missingRequired (definitionsAt node at) options ≡ missingRequired (definitionsAt node next) options → Searched node options start told next
+    searched-on next h e = record { unsaid = λ more. s .unsaid h; same = ap (onMissing (requiredBy node told) some) (sym e) ∙ s .same }
 
     -- no definition stands here: nothing is missing
-    pub sought-stop : at < length node → definitionsAt node at ≡ [] → none ≡ missingRequired (definitionsAt node start) options
-    sought-stop h e =
+    pub searched-stop : at < length node → definitionsAt node at ≡ [] → none ≡ missingRequired (definitionsAt node start) options
+    searched-stop h e =
         sym (none-missing options) ∙ ap (λ (l : List Frame). missingRequired l options) (sym e)
         ∙ sym (ap (λ (o : Option (List ℕ)). onMissing o some (missingRequired (definitionsAt node at) options)) (s .unsaid h)) ∙ s .same
 
-    pub sought-end : length node ≤ at → requiredBy node told ≡ missingRequired (definitionsAt node start) options
+    pub searched-end : length node ≤ at → requiredBy node told ≡ missingRequired (definitionsAt node start) options
     unfolding missingRequired
-    sought-end h =
+    searched-end h =
         told-alone told
         ∙ ap (λ (l : List Frame). onMissing (requiredBy node told) some (missingRequired l options)) (sym (definitions-end node at h)) ∙ s .same
       where

@@ -5,18 +5,18 @@ use native.Mathlib.Omega.{arith}
 use borrow.Author.Needs.{needs}
 use lib.ListN.{length}
 use Rattle.table.specs.Inner.{mapOf}
-use Rattle.parse.proofs.Definitions.{option-step, flag-step, option-missing, option-there, flag-passed, definitions-stop, Sought, sought-from, sought-told, sought-on, sought-stop, sought-end}
+use Rattle.parse.proofs.Definitions.{option-step, flag-step, option-missing, option-there, flag-passed, definitions-stop, Searched, searched-from, searched-told, searched-on, searched-stop, searched-end}
 use Rattle.parse.proofs.required.validate_required_options.Statement.{statement}
 use Rattle.parse.proofs.required.validate_required_options.Tie as tie
 
 abbrev Inv-loop : tie.InvT-loop
-Inv-loop words node from options missing₀ at₀ missing at = Sought node (mapOf words node options) «from» missing at
+Inv-loop words node from options missing₀ at₀ missing at = Searched node (mapOf words node options) «from» missing at
 
 abbrev μ-loop : tie.MeasureT-loop
 μ-loop words node from options missing₀ at₀ missing at = length node - at
 
 loop-holds : tie.Need-loop-holds Inv-loop μ-loop
-loop-holds c = let a = c .before .before .args in sought-from (a .node .now) (mapOf (a .words .now) (a .node .now) (a .options)) (a .from)
+loop-holds c = let a = c .before .before .args in searched-from (a .node .now) (mapOf (a .words .now) (a .node .now) (a .options)) (a .from)
 
 head-at-requires : tie.Need-head-at-requires Inv-loop μ-loop
 head-at-requires c κs = search needs
@@ -57,7 +57,7 @@ loop-again c =
     let a = c .before .before .before .before .before .before .before .before .before .before .before .before .args in
     let m = mapOf (a .words .now) (a .node .now) (a .options) in
     let e = option-missing (a .node .now) (c .before .before .before .before .before .before .before .before .before .loop .at) m _ _ _ _ _ (sym (c .before .before .before .before .before .before .before .head-at .ensures) ∙ c .before .before .before .before .before .required .given .1) (c .before .before .before .part .ensures) (c .before .is-missing .ensures) (c .if1 .taken) in
-    sought-told (a .node .now) m (a .from) _ (c .before .before .before .before .before .before .before .before .before .loop .at) (c .before .before .before .before .before .before .before .before .before .loop .inv) _ _ (c .before .before .before .before .before .before .before .before .loop-test .taken) e (omega arith)
+    searched-told (a .node .now) m (a .from) _ (c .before .before .before .before .before .before .before .before .before .loop .at) (c .before .before .before .before .before .before .before .before .before .loop .inv) _ _ (c .before .before .before .before .before .before .before .before .loop-test .taken) e (omega arith)
 
 loop-less-2 : tie.Need-loop-less-2 Inv-loop μ-loop
 loop-less-2 c =
@@ -72,7 +72,7 @@ loop-again-2 c =
     let a = c .before .before .before .before .before .before .before .before .before .before .before .before .args in
     let m = mapOf (a .words .now) (a .node .now) (a .options) in
     let e = option-there (a .node .now) (c .before .before .before .before .before .before .before .before .before .loop .at) m _ _ _ _ _ (sym (c .before .before .before .before .before .before .before .head-at .ensures) ∙ c .before .before .before .before .before .required .given .1) (c .before .before .before .part .ensures) (c .before .is-missing .ensures) (c .if1 .left) in
-    sought-on (a .node .now) m (a .from) _ (c .before .before .before .before .before .before .before .before .before .loop .at) (c .before .before .before .before .before .before .before .before .before .loop .inv) _ (c .before .before .before .before .before .before .before .before .loop-test .taken) e
+    searched-on (a .node .now) m (a .from) _ (c .before .before .before .before .before .before .before .before .before .loop .at) (c .before .before .before .before .before .before .before .before .before .loop .inv) _ (c .before .before .before .before .before .before .before .before .loop-test .taken) e
 
 enum-known-texts : tie.Need-enum-known-texts Inv-loop μ-loop
 enum-known-texts c = search needs
@@ -96,19 +96,19 @@ loop-again-3 : tie.Need-loop-again-3 Inv-loop μ-loop
 loop-again-3 c =
     let a = c .before .before .before .before .before .before .before .before .before .args in
     let m = mapOf (a .words .now) (a .node .now) (a .options) in
-    sought-on (a .node .now) m (a .from) _ (c .before .before .before .before .before .before .loop .at) (c .before .before .before .before .before .before .loop .inv) _ (c .before .before .before .before .before .loop-test .taken) (flag-passed (a .node .now) (c .before .before .before .before .before .before .loop .at) m _ _ (sym (c .before .before .before .before .head-at .ensures) ∙ c .before .before .texts .given .1))
+    searched-on (a .node .now) m (a .from) _ (c .before .before .before .before .before .before .loop .at) (c .before .before .before .before .before .before .loop .inv) _ (c .before .before .before .before .before .loop-test .taken) (flag-passed (a .node .now) (c .before .before .before .before .before .before .loop .at) m _ _ (sym (c .before .before .before .before .head-at .ensures) ∙ c .before .before .texts .given .1))
 
 returns : tie.Need-returns Inv-loop μ-loop
 returns c =
     let a = c .before .before .before .before .before .before .args in
     let m = mapOf (a .words .now) (a .node .now) (a .options) in
-    sought-stop (a .node .now) m (a .from) _ (c .before .before .before .loop .at) (c .before .before .before .loop .inv) (c .before .before .loop-test .taken) (definitions-stop (a .node .now) (c .before .before .before .loop .at) _ (sym (c .before .head-at .ensures)) (c .match .keys3))
+    searched-stop (a .node .now) m (a .from) _ (c .before .before .before .loop .at) (c .before .before .before .loop .inv) (c .before .before .loop-test .taken) (definitions-stop (a .node .now) (c .before .before .before .loop .at) _ (sym (c .before .head-at .ensures)) (c .match .keys3))
 
 returns-2 : tie.Need-returns-2 Inv-loop μ-loop
 returns-2 c =
     let a = c .before .before .before .before .args in
     let m = mapOf (a .words .now) (a .node .now) (a .options) in
-    sought-end (a .node .now) m (a .from) _ (c .before .loop .at) (c .before .loop .inv) (c .loop-test .left)
+    searched-end (a .node .now) m (a .from) _ (c .before .loop .at) (c .before .loop .inv) (c .loop-test .left)
 
 pub validate-required-options-spec : {M : Type 1} → statement M
 validate-required-options-spec =
