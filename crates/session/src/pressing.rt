@@ -18,7 +18,6 @@ ghost use Rattle.buffer.specs.Write.{Pushed};
 ghost use Rattle.tree.specs.Images.{framesOf};
 ghost use Rattle.tree.specs.Rules.{checkTree};
 ghost use Rattle.tree.specs.declared.check.Checked.the-variants.{Good};
-ghost use Rattle.editor.specs.Line.{limit};
 ghost use Rattle.session.specs.Prints.{linesOf, shown};
 ghost use Rattle.session.specs.Inner.{Within, Enters, Tells};
 ghost use Rattle.session.specs.Calls.{withKey, imageOf, treeBefore, PressingKey, RefusingLine};
@@ -110,7 +109,7 @@ fn press_with(
     screen: &mut [u8],
     out: &mut [u8],
 ) -> Pressing
-    requires { ⌜ (treeBefore byte (imageOf session (now image)) ≡ Good) × (length (now line) ≡ limit) × (length (now screen) ≡ screenRoom) × (keyRoom ≤ length (now out)) ⌝ }
+    requires { ⌜ (treeBefore byte (imageOf session (now image)) ≡ Good) × (length (now line) ≡ 255) × (length (now screen) ≡ screenRoom) × (keyRoom ≤ length (now out)) ⌝ }
     ensures { λ r. ⌜ PressingKey session (now (image .entry)) (now (slots .entry)) byte (now (out .entry)) r (now (slots .exit)) (now (out .exit)) ⌝ }
 {
     screen[0] = 0x22;

@@ -33,7 +33,9 @@ loop-holds : tie.Need-loop-holds Inv-loop μ-loop
 loop-holds c = (sets-out _ _ (c .before .start .ensures), follows-start (c .before .before .before .before .before .args .words .now) (c .before .before .before .before .before .args .image .now) _ _ (c .before .start .ensures) (c .start2 .ensures), rw (c .start2 .ensures) refl)
 
 step-at-requires : tie.Need-step-at-requires Inv-loop μ-loop
-step-at-requires c κs = (c .before .before .loop .inv .0 .sound, c .before .before .before .before .before .if1 .left, c .before .before .loop .inv .0 .within)
+step-at-requires c κs =
+    let room = c .before .before .before .before .before .if1 .left in
+    (c .before .before .loop .inv .0 .sound, omega (arith, room), c .before .before .loop .inv .0 .within)
 
 bad-requires-2 : tie.Need-bad-requires-2 Inv-loop μ-loop
 bad-requires-2 c κs = search needs
