@@ -23,24 +23,26 @@ noneFound = record { options = []; flags = []; positionals = [] }
 abbrev pub Insert : Type 0
 Insert = List ℕ → List ℕ → Map → Map
 
--- a long form is stored under the key as typed, a short one under the name; a later value replaces an earlier one
+-- a long form is stored under the key as typed, a short one under the name; a later value replaces an earlier one (7.11)
 unfoldable pub withOption : Insert → Found → List ℕ → List ℕ → Found
 withOption insert f key value = record { options = insert key value (f .options); flags = f .flags; positionals = f .positionals }
 
+-- (7.11)
 unfoldable pub withFlag : Insert → Found → List ℕ → Found
 withFlag insert f key = record { options = f .options; flags = insert key [] (f .flags); positionals = f .positionals }
 
+-- (7.9)
 unfoldable pub withPositional : Found → List ℕ → Found
 withPositional f w = record { options = f .options; flags = f .flags; positionals = f .positionals ++ (w ∷ []) }
 
--- where a line stands: going on, waiting for the value of a key, or at a fault, with the text that it tells
+-- where a line stands: going on, waiting for the value of a key, or at a fault, with the text that it tells (7.5, 7.7)
 pub data Stand : Type 0 where
   go : Found → Stand
   wait : Found → (key told : List ℕ) → Stand
   unknownOption : (told : List ℕ) → Stand
   missingValue : (told : List ℕ) → Stand
 
--- one character of a word of shorts. A short option must be the last: a character while it waits is the fault.
+-- one character of a word of shorts. A short option must be the last: a character while it waits is the fault (7.8, 7.11).
 abbrev pub shortStep : Insert → List Frame → Stand → ℕ → Stand
 shortStep insert defs (go f) c =
     onMeans (meaning (hasShort c) defs)
@@ -51,11 +53,12 @@ shortStep insert defs (wait f key told) c = missingValue told
 shortStep insert defs (unknownOption told) c = unknownOption told
 shortStep insert defs (missingValue told) c = missingValue told
 
+-- (7.8)
 unfoldable pub shortSteps : Insert → List Frame → Stand → List ℕ → Stand
 shortSteps insert defs a [] = a
 shortSteps insert defs a (c ∷ codes) = shortSteps insert defs (shortStep insert defs a c) codes
 
--- one word that is no value, by its form. `--k=v` asks for an option; `--k` for a flag first.
+-- one word that is no value, by its form. `--k=v` asks for an option; `--k` for a flag first (7.6, 7.7, 7.11, 12.8).
 abbrev pub formStep : Insert → List Frame → Found → List ℕ → Form → Stand
 formStep insert defs f w (valued key value) =
     cond (isOption key defs) (go (withOption insert f key value)) (unknownOption (dash ∷ dash ∷ key))
@@ -67,13 +70,14 @@ formStep insert defs f w (long key) =
 formStep insert defs f w (shorts letters) = shortSteps insert defs (go f) (codesIn letters)
 formStep insert defs f w positional = go (withPositional f w)
 
--- one word: a value where one is waited for, whatever it begins with
+-- one word: a value where one is waited for, whatever it begins with (7.5, 7.7)
 abbrev pub wordStep : Insert → List Frame → Stand → List ℕ → Stand
 wordStep insert defs (go f) w = formStep insert defs f w (formOf w)
 wordStep insert defs (wait f key told) w = go (withOption insert f key w)
 wordStep insert defs (unknownOption told) w = unknownOption told
 wordStep insert defs (missingValue told) w = missingValue told
 
+-- (7.5)
 unfoldable pub args : Insert → List Frame → Stand → List (List ℕ) → Stand
 args insert defs a [] = a
 args insert defs a (w ∷ words) = args insert defs (wordStep insert defs a w) words

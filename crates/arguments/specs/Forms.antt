@@ -11,22 +11,24 @@ dash = 0x2D
 abbrev pub equals : ℕ
 equals = 0x3D
 
+-- (7.5, 7.8)
 pub data Form : Type 0 where
   valued : (key value : List ℕ) → Form
   long : (key : List ℕ) → Form
   shorts : (letters : List ℕ) → Form
   positional : Form
 
--- how many bytes stand before the first `=`
+-- how many bytes stand before the first `=` (7.6)
 unfoldable pub beforeEquals : List ℕ → ℕ
 beforeEquals [] = 0
 beforeEquals (b ∷ s) = cond (eqb b equals) 0 (suc (beforeEquals s))
 
--- what stands after `--`: with a `=`, a key and a value; else a key
+-- what stands after `--`: with a `=`, a key and a value; else a key (7.6)
 unfoldable pub longForm : List ℕ → Form
 longForm k =
     cond (ltb (beforeEquals k) (length k)) (valued (take (beforeEquals k) k) (drop (suc (beforeEquals k)) k)) (long k)
 
+-- (7.5, 7.8, 7.9)
 unfoldable pub formOf : List ℕ → Form
 formOf w =
     cond (ltb (length w) 2) positional

@@ -8,7 +8,7 @@ use Rattle.tree.specs.Subtrees.{upTo}
 use Rattle.lookup.specs.Searches.{isNode}
 use Rattle.lookup.specs.Definitions.{hasKey, flagWith, optionWith}
 
--- the definitions of a node, given its subtree: the frames after it up to the next node of any depth
+-- the definitions of a node, given its subtree: the frames after it up to the next node of any depth (6.11, 7.4, 12.8)
 unfoldable pub definitionsOf : List Frame → List Frame
 definitionsOf [] = []
 definitionsOf (node depth handler name description usage ∷ l) = upTo isNode l
@@ -20,7 +20,7 @@ nameOf (node depth handler name description usage) = name
 nameOf (option required short name long description) = name
 nameOf (flag short name long description) = name
 
--- the name of the first definition that passes a test
+-- the name of the first definition that passes a test (7.10)
 unfoldable pub firstName : (Frame → Bool) → List Frame → Option (List ℕ)
 firstName test [] = none
 firstName test (f ∷ l) = cond (test f) (some (nameOf f)) (firstName test l)
@@ -36,6 +36,7 @@ flagElse (some name) o = aFlag name
 flagElse none (some name) = anOption name
 flagElse none none = nothing
 
+-- (7.7, 7.10)
 unfoldable pub meaning : (Frame → Bool) → List Frame → Means
 meaning has defs = flagElse (firstName (flagWith has) defs) (firstName (optionWith has) defs)
 
@@ -48,6 +49,6 @@ abbrev pub isSome : Option (List ℕ) → Bool
 isSome (some name) = true
 isSome none = false
 
--- whether a key is the name or the long of an option
+-- whether a key is the name or the long of an option (7.6)
 unfoldable pub isOption : List ℕ → List Frame → Bool
 isOption key defs = isSome (firstName (optionWith (hasKey key)) defs)

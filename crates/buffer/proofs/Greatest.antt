@@ -44,7 +44,7 @@ greatest-covered s i j h =
     ap greatest (sym (take-append-drop i s)) ∙ greatest-append (take i s) (drop i s)
     in
     let sum : j + (i - j) ≡ i = omega arith in
-    let behind : greatest (drop (i - j) (drop j s)) ≡ greatest (drop i s) =
+    let beyond : greatest (drop (i - j) (drop j s)) ≡ greatest (drop i s) =
     ap greatest (drop-drop (i - j) j s ∙ ap (λ (n : ℕ). drop n s) sum)
     in
     let k = greatest-drop (drop j s) (i - j) in

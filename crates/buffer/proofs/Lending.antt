@@ -94,13 +94,13 @@ overAt-before x y d o h =
     let front : take o (take p d ++ rest) ≡ take o d =
     take-append-le o (take p d) rest (omega arith) ∙ take-take o p d (omega arith)
     in
-    let behind : drop (length x) (drop o (take p d ++ rest)) ≡ rest = drop-drop (length x) o (take p d ++ rest) ∙ drop-at (take p d) rest p head in
+    let beyond : drop (length x) (drop o (take p d ++ rest)) ≡ rest = drop-drop (length x) o (take p d ++ rest) ∙ drop-at (take p d) rest p head in
     let tail : drop (length y) (drop p d) ≡ drop (length (x ++ y)) (drop o d) =
     ap (drop (length y)) (sym (drop-drop (length x) o d))
     ∙ drop-drop (length y) (length x) (drop o d)
     ∙ ap (λ (n : ℕ). drop n (drop o d)) (sym (length-append x y))
     in
     ap (λ (l : List ℕ). l ++ (x ++ drop (length x) (drop o (take p d ++ rest)))) front
-    ∙ ap (λ (l : List ℕ). take o d ++ (x ++ l)) behind
+    ∙ ap (λ (l : List ℕ). take o d ++ (x ++ l)) beyond
     ∙ ap (λ (l : List ℕ). take o d ++ l) (sym (append-assoc x y (drop (length y) (drop p d))))
     ∙ ap (λ (l : List ℕ). take o d ++ ((x ++ y) ++ l)) tail

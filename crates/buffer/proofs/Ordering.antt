@@ -104,8 +104,8 @@ same-append (u ∷ x) (v ∷ y) a b h = by (eqb u v) (same-append x y a b (omega
     by true k = k
     by false k = refl
 
-pub same-behind : (x a b : List ℕ) → sameBytes (x ++ a) (x ++ b) ≡ sameBytes a b
-same-behind x a b = same-append x x a b refl ∙ then-is _ _ _ (same-self x)
+pub same-after : (x a b : List ℕ) → sameBytes (x ++ a) (x ++ b) ≡ sameBytes a b
+same-after x a b = same-append x x a b refl ∙ then-is _ _ _ (same-self x)
 
 -- two pairs that are equal together
 pub same-as : (x y a b : List ℕ) → (x ≡ y → a ≡ b) → (a ≡ b → x ≡ y) → sameBytes x y ≡ sameBytes a b

@@ -1,4 +1,4 @@
--- Texts in ASCII, as the Rust has them.
+-- Texts in ASCII, as the Rust has them (STANDARD 9.4 to 9.10).
 use Prim.Native.Nat.{ℕ}
 use Prim.Native.Char.{code}
 use Prim.Native.String.{String, [] as none, _∷_ as _then_}

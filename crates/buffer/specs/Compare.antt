@@ -1,4 +1,4 @@
--- Byte strings compared.
+-- Byte strings compared (STANDARD 1.3, 6.13).
 use Prim.Native.Nat.{ℕ}
 use mathlib.Core.Bool.{Bool, true, false, cond}
 use mathlib.Core.List.{List, [], _∷_}
@@ -6,14 +6,14 @@ use lib.Dec.{ltb, eqb}
 use Rattle.buffer.specs.declared.order.Order.{Order}
 use Rattle.buffer.specs.declared.order.Order.the-variants.{Less, Equal, Greater}
 
--- the order by bytes: the first byte that differs decides, and a prefix comes first
+-- the order by bytes: the first byte that differs decides, and a prefix comes first (1.3, 6.13)
 unfoldable pub order : List ℕ → List ℕ → Order
 order [] [] = Equal
 order [] (y ∷ b) = Less
 order (x ∷ a) [] = Greater
 order (x ∷ a) (y ∷ b) = cond (ltb x y) Less (cond (ltb y x) Greater (order a b))
 
--- byte for byte the same
+-- byte for byte the same (1.3)
 unfoldable pub sameBytes : List ℕ → List ℕ → Bool
 sameBytes [] [] = true
 sameBytes [] (y ∷ b) = false

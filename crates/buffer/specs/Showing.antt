@@ -1,4 +1,4 @@
--- What showing a text answers and leaves: the text at the front, or the length needed and nothing written.
+-- What showing a text answers and leaves: the text at the front, or the length needed and nothing written (STANDARD 9 of 10.1, for a text).
 use Prim.Native.Nat.{ℕ}
 use mathlib.Core.Path.{_≡_}
 use mathlib.Core.Bool.{cond}

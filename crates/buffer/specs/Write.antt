@@ -1,4 +1,4 @@
--- What a write leaves in a lent buffer.
+-- What a write leaves in a lent buffer (STANDARD 6.3, 10.5).
 use Prim.Native.Nat.{ℕ, _+_}
 use mathlib.Core.Path.{_≡_}
 use mathlib.Core.Bool.{cond}
@@ -6,15 +6,15 @@ use mathlib.Core.List.{List, _++_}
 use lib.Dec.{ltb}
 use lib.ListN.{length, take, drop}
 
--- a buffer after `text` was written at its front: the bytes after the text stay
+-- a buffer after `text` was written at its front: the bytes after the text stay (10.5)
 unfoldable pub over : List ℕ → List ℕ → List ℕ
 over text out = text ++ drop (length text) out
 
--- the same where there may be no room: a buffer that is too short for the text stays as it is
+-- the same where there may be no room: a buffer that is too short for the text stays as it is (6.3, 10.5)
 unfoldable pub overIfFits : List ℕ → List ℕ → List ℕ
 overIfFits text out = cond (ltb (length out) (length text)) out (over text out)
 
--- a buffer after `text` was written at the place `at`: the bytes before and after it stay
+-- a buffer after `text` was written at the place `at`: the bytes before and after it stay (10.5)
 unfoldable pub overAt : List ℕ → List ℕ → ℕ → List ℕ
 overAt text out at = take at out ++ over text (drop at out)
 

@@ -1,4 +1,4 @@
--- A turn of the console: a step over what is left of the piece that was read, and then, where nothing is left, the next piece.
+-- A turn of the console: a step over what is left of the piece that was read, and then, where nothing is left, the next piece (STANDARD 11.1, 11.13).
 use Prim.Native.Nat.{ℕ, _≤_}
 use mathlib.Core.Path.{_≡_}
 use mathlib.Core.Bool.{true, false}

@@ -12,7 +12,7 @@ use borrow.Author.Tests.{leb-true, le-leb, lt-leb}
 use Rattle.buffer.proofs.Choices.{then-is, else-is}
 use Rattle.buffer.proofs.Lending.{copy-step, copy-end}
 use Rattle.buffer.proofs.Lists.{drop-step}
-use Rattle.buffer.proofs.Ordering.{same-is, same-behind}
+use Rattle.buffer.proofs.Ordering.{same-is, same-after}
 use Rattle.buffer.specs.Compare.{sameBytes}
 use Rattle.buffer.specs.Greatest.{greatest}
 use Rattle.buffer.specs.Write.{over}
@@ -104,10 +104,10 @@ unfolding goodLine limit
 past-end e h k = then-is _ _ _ (le-leb _ _ h) ∙ else-is _ _ _ (lt-leb _ _ k)
 
 -- zeros after the line are all that is left to test
-pub zeros-behind : (e : Editor) (n : ℕ) → length (e .line) ≡ 255 → e .length ≤ 255 → e .cursor ≤ e .length → n ≡ greatest (take (255 - e .length) (drop (e .length) (e .line)))
+pub zeros-after : (e : Editor) (n : ℕ) → length (e .line) ≡ 255 → e .length ≤ 255 → e .cursor ≤ e .length → n ≡ greatest (take (255 - e .length) (drop (e .length) (e .line)))
     → eqb n 0 ≡ goodLine e
 unfolding goodLine limit
-zeros-behind e n l h k g =
+zeros-after e n l h k g =
     ap (λ (m : ℕ). eqb m 0) (g ∙ ap greatest (take-all (255 - e .length) (drop (e .length) (e .line)) (let d = length-drop (e .length) (e .line) in omega arith)))
     ∙ sym (zero-bytes (drop (e .length) (e .line)))
     ∙ rest
@@ -122,7 +122,7 @@ zeros-behind e n l h k g =
     rest : sameBytes (zeros (length (drop (e .length) (e .line)))) (drop (e .length) (e .line)) ≡ sameBytes (padded (lineOf e)) (e .line)
     rest =
         ap (λ (m : ℕ). sameBytes (zeros m) (drop (e .length) (e .line))) gap
-        ∙ sym (same-behind (lineOf e) (zeros (255 - length (lineOf e))) (drop (e .length) (e .line)))
+        ∙ sym (same-after (lineOf e) (zeros (255 - length (lineOf e))) (drop (e .length) (e .line)))
         ∙ ap (λ (x : List ℕ). sameBytes x (lineOf e ++ drop (e .length) (e .line))) (sym (padded-is (lineOf e)))
         ∙ ap (sameBytes (padded (lineOf e))) (line-split e)
 

@@ -23,33 +23,36 @@ stateOf e h slots = record { line = lineOf e; cursor = e .cursor; mode = e .mode
 unfoldable pub editorOf : State → Editor
 editorOf s = holding (s .line) (s .cursor) (s .mode)
 
+-- (3.12)
 abbrev pub historyOf : State → History
 historyOf s = recordOf (s .history)
 
+-- (3.12, 4.5)
 abbrev pub slotsOf : State → List ℕ
 slotsOf s = journalSlots (s .history)
 
--- a state is good if its line is and its history is
+-- a state is good if its line is and its history is (3.13)
 unfoldable pub goodState : Editor → History → List ℕ → Bool
 goodState e h slots = cond (goodLine e) (good h slots) false
 
--- the prompt is 0 to 128 bytes of UTF-8
+-- the prompt is 0 to 128 bytes of UTF-8 (2.5)
 unfoldable pub goodPrompt : List ℕ → Bool
 goodPrompt prompt = cond (leb (length prompt) 128) (wellFormed prompt) false
 
--- what a key that is taken answers
+-- what a key that is taken answers (10.14)
 abbrev pub taken : Turn → Kind → Pressed
 taken t shows = Shown (length (t .screen))
 taken t enters = Entered (length (t .submitted))
 taken t drops = Dropped
 
--- the answer for a turn, and buffers of so many bytes for the line and for the screen
+-- the answer for a turn, and buffers of so many bytes for the line and for the screen (10.14)
 unfoldable pub turnAnswer : Turn → ℕ → ℕ → Pressed
 turnAnswer t line screen =
     cond (ltb line limit) (NoRoom limit)
     (cond (ltb screen (length (t .screen))) (NoRoom (length (t .screen)))
     (taken t (t .kind)))
 
+-- (10.14)
 unfoldable pub keyAnswer : Bool → List ℕ → Turn → ℕ → ℕ → Pressed
 keyAnswer is prompt t line screen =
     cond is
@@ -57,7 +60,7 @@ keyAnswer is prompt t line screen =
     (BadPrompt (length prompt)))
     BadState
 
--- a refusal keeps the state and every byte
+-- a refusal keeps the state and every byte (2.4)
 abbrev pub refused : Pressed → Bool
 refused (Shown n) = false
 refused (Entered n) = false
@@ -66,6 +69,7 @@ refused BadState = true
 refused (BadPrompt n) = true
 refused (NoRoom n) = true
 
+-- (2.4, 2.8)
 pub record Pressing (e : Editor) (h : History) (slots prompt : List ℕ) (byte : ℕ) (line screen : List ℕ)
     (k : KeyAnswer) (slots′ line′ screen′ : List ℕ) : Type 0 where
   pub answer : k .answer ≡ keyAnswer (goodState e h slots) prompt (turnOf prompt (stateOf e h slots) byte) (length line) (length screen)
@@ -84,7 +88,7 @@ number BadState = 12
 number (BadPrompt n) = 11
 number (NoRoom n) = 9
 
--- at Enter one byte is shown
+-- at Enter one byte is shown (10.14)
 abbrev pub value : Pressed → ℕ
 value (Shown n) = n
 value (Entered n) = 1
@@ -94,11 +98,13 @@ value (BadPrompt n) = n
 value (NoRoom n) = n
 
 -- a key that is taken has one of three kinds, by number: it shows bytes 0, enters 1, drops its byte 2. The kind of an answer; a refusal has none, 0
+-- (10.14)
 abbrev pub kindNumber : Kind → ℕ
 kindNumber shows = 0
 kindNumber enters = 1
 kindNumber drops = 2
 
+-- (10.14)
 abbrev pub kind : Pressed → ℕ
 kind (Shown n) = 0
 kind (Entered n) = 1
@@ -107,7 +113,7 @@ kind BadState = 0
 kind (BadPrompt n) = 0
 kind (NoRoom n) = 0
 
--- the second value: the length of the line that is submitted
+-- the second value: the length of the line that is submitted (10.14)
 abbrev pub beside : Pressed → ℕ
 beside (Shown n) = 0
 beside (Entered n) = n

@@ -11,35 +11,38 @@ use Rattle.keys.specs.declared.meaning.Mode.{Mode}
 use Rattle.keys.specs.declared.meaning.Mode.the-variants.{Typing}
 use Rattle.editor.specs.declared.line.Editor.{Editor}
 
--- how many bytes a line holds at most: `Editor::LIMIT`
+-- how many bytes a line holds at most: `Editor::LIMIT` (2.1, 2.3)
 unfoldable pub limit : ℕ
 limit = 255
 
--- the editor that holds a line, and the line that an editor holds
+-- the editor that holds a line, and the line that an editor holds (2.2)
 unfoldable pub padded : List ℕ → List ℕ
 padded line = line ++ zeros (limit - length line)
 
+-- (2.2)
 unfoldable pub holding : List ℕ → ℕ → Mode → Editor
 holding line cursor mode = record { line = padded line; length = length line; cursor = cursor; mode = mode }
 
+-- (2.1)
 unfoldable pub lineOf : Editor → List ℕ
 lineOf e = take (e .length) (e .line)
 
--- no line: `Editor::fresh`
+-- no line: `Editor::fresh` (2.3, 4.3)
 abbrev pub freshEditor : Editor
 freshEditor = record { line = padded []; length = 0; cursor = 0; mode = Typing }
 
--- the rules of a line
+-- the rules of a line (2.1, 2.2, 3.13)
 unfoldable pub goodLine : Editor → Bool
 goodLine e = cond (leb (e .length) limit) (cond (leb (e .cursor) (e .length)) (sameBytes (padded (lineOf e)) (e .line)) false) false
 
--- a byte more at a place, and a byte less before it
+-- a byte more at a place, and a byte less before it (2.11)
 unfoldable pub inserted : List ℕ → ℕ → ℕ → List ℕ
 inserted line cursor byte = take cursor line ++ (byte ∷ drop cursor line)
 
+-- (2.10)
 unfoldable pub erased : List ℕ → ℕ → List ℕ
 erased line cursor = take (cursor - 1) line ++ drop cursor line
 
--- what is shown of a line, and offered to history: nothing if it is ill-formed
+-- what is shown of a line, and offered to history: nothing if it is ill-formed (2.8, 2.18)
 unfoldable pub content : List ℕ → List ℕ
 content line = cond (wellFormed line) line []

@@ -1,5 +1,5 @@
 -- An editor's part of a saved state: 258 bytes, the mode, the line's length, the cursor, then the 255 bytes of the line. What they hold counts
--- where it is good.
+-- where it is good (STANDARD 4.2, 4.4).
 use Prim.Native.Nat.{ℕ, _≤_}
 use mathlib.Core.Bool.{Bool, true, false, cond}
 use mathlib.Core.List.{List, _∷_}
@@ -14,10 +14,11 @@ use Rattle.editor.specs.Line.{freshEditor, goodLine}
 unfoldable pub savedSize : ℕ
 savedSize = 258
 
+-- (4.2)
 unfoldable pub savedOf : Editor → List ℕ
 savedOf e = modeNumber (e .mode) ∷ e .length ∷ e .cursor ∷ e .line
 
--- the editor that bytes hold
+-- the editor that bytes hold (4.2)
 unfoldable pub savedIn : List ℕ → Editor
 savedIn bytes = record { line = drop 3 bytes; length = getD bytes 1 0; cursor = getD bytes 2 0; mode = modeOf (getD bytes 0 0) }
 
@@ -25,6 +26,7 @@ savedIn bytes = record { line = drop 3 bytes; length = getD bytes 1 0; cursor = 
 unfoldable pub hasMode : List ℕ → Bool
 hasMode bytes = cond (eqb (length bytes) savedSize) (leb (getD bytes 0 0) 2) false
 
+-- (4.4)
 unfoldable pub isSaved : List ℕ → Bool
 isSaved bytes = cond (hasMode bytes) (goodLine (savedIn bytes)) false
 
@@ -32,6 +34,7 @@ isSaved bytes = cond (hasMode bytes) (goodLine (savedIn bytes)) false
 abbrev pub nothing : Restored
 nothing = record { valid = false; editor = freshEditor }
 
+-- (4.2)
 unfoldable pub restored : List ℕ → Restored
 restored bytes = cond (isSaved bytes) (record { valid = true; editor = savedIn bytes }) nothing
 

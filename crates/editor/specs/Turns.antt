@@ -14,7 +14,7 @@ use Rattle.keys.specs.declared.meaning.Meaning.{Meaning}
 use Rattle.editor.specs.Line.{limit, freshEditor, inserted, erased, content}
 use Rattle.keys.specs.Keys.{meaning}
 
--- a state: the line, the cursor and what the keys before this one began; and the history
+-- a state: the line, the cursor and what the keys before this one began; and the history (2.1, 3.2)
 pub record State : Type 0 where
   pub line : List ℕ
   pub cursor : ℕ
@@ -41,47 +41,53 @@ showing s bytes = record { kind = shows; after = s; screen = bytes; submitted = 
 abbrev pub withLine : State → List ℕ → ℕ → State
 withLine s line cursor = record { line = line; cursor = cursor; mode = s .mode; history = s .history }
 
+-- (2.13)
 abbrev pub inMode : State → Mode → State
 inMode s mode = record { line = s .line; cursor = s .cursor; mode = mode; history = s .history }
 
--- the line drawn anew after the prompt
+-- the line drawn anew after the prompt (2.19)
 unfoldable pub redrawn : List ℕ → State → List ℕ
 redrawn prompt s = redraw prompt (content (s .line)) (s .cursor)
 
+-- (3.7)
 abbrev pub redrawing : List ℕ → State → Turn
 redrawing prompt s = showing s (redrawn prompt s)
 
--- the line, the cursor and the mode of the fresh editor, beside a history
+-- the line, the cursor and the mode of the fresh editor, beside a history (3.9)
 abbrev pub cleared : Journal → State
 cleared history = record { line = take (freshEditor .length) (freshEditor .line); cursor = freshEditor .cursor; mode = freshEditor .mode; history = history }
 
 -- Enter: LF. A non-empty line is offered to history (as the empty text if ill-formed) and submitted, and line and cursor are cleared.
+-- (2.8, 3.5, 3.6)
 abbrev pub afterEnter : State → State
 afterEnter s = cleared (offered (content (s .line)) (s .history))
 
+-- (2.8)
 abbrev pub lineFeed : List ℕ
 lineFeed = 0x0A ∷ []
 
 abbrev pub entering : State → List ℕ → Turn
 entering s line = record { kind = enters; after = s; screen = lineFeed; submitted = line }
 
+-- (2.8)
 unfoldable pub enter : State → Turn
 enter s = cond (eqb (length (s .line)) 0) (entering s []) (entering (afterEnter s) (s .line))
 
--- with the cursor above 0, the byte before it is removed
+-- with the cursor above 0, the byte before it is removed (2.10)
 unfoldable pub erase : List ℕ → State → Turn
 erase prompt s =
     cond (eqb (s .cursor) 0) (showing s []) (redrawing prompt (withLine s (erased (s .line) (s .cursor)) (s .cursor - 1)))
 
--- a byte that is typed; at length 255 it is dropped
+-- a byte that is typed; at length 255 it is dropped (2.11)
 abbrev pub dropping : State → Turn
 dropping s = record { kind = drops; after = s; screen = []; submitted = [] }
 
+-- (2.11)
 unfoldable pub insert : List ℕ → State → ℕ → Turn
 insert prompt s byte =
     cond (ltb (length (s .line)) limit) (redrawing prompt (withLine s (inserted (s .line) (s .cursor) byte) (s .cursor + 1))) (dropping s)
 
--- an entry is recalled: it becomes the line, with the cursor at its end
+-- an entry is recalled: it becomes the line, with the cursor at its end (3.7, 3.8)
 abbrev pub recalled : State → ℕ → State
 recalled s place =
     record {
@@ -91,30 +97,34 @@ recalled s place =
       history = atPlace (s .history) place;
     }
 
--- Up at place 0 does nothing; otherwise it steps back and recalls
+-- Up at place 0 does nothing; otherwise it steps back and recalls (3.8)
 unfoldable pub up : List ℕ → State → Turn
 up prompt s = cond (eqb (s .history .place) 0) (showing s []) (redrawing prompt (recalled s (s .history .place - 1)))
 
--- Down below the count steps on and recalls; arriving at the count, or there already, it clears the line
+-- Down below the count steps on and recalls; arriving at the count, or there already, it clears the line (3.9)
 unfoldable pub onPlace : Journal → ℕ
 onPlace j = cond (ltb (j .place) (count j)) (j .place + 1) (j .place)
 
+-- (3.9)
 unfoldable pub down : List ℕ → State → Turn
 down prompt s =
     cond (ltb (onPlace (s .history)) (count (s .history)))
     (redrawing prompt (recalled s (onPlace (s .history))))
     (redrawing prompt (cleared (atPlace (s .history) (onPlace (s .history)))))
 
--- ESC `[C` and ESC `[D` are shown only if the cursor moved
+-- ESC `[C` and ESC `[D` are shown only if the cursor moved (2.16)
 abbrev pub arrow : ℕ → List ℕ
 arrow final = 0x1B ∷ 0x5B ∷ final ∷ []
 
+-- (2.16)
 unfoldable pub right : State → Turn
 right s = cond (ltb (s .cursor) (length (s .line))) (showing (withLine s (s .line) (s .cursor + 1)) (arrow 0x43)) (showing s [])
 
+-- (2.16)
 unfoldable pub left : State → Turn
 left s = cond (eqb (s .cursor) 0) (showing s []) (showing (withLine s (s .line) (s .cursor - 1)) (arrow 0x44))
 
+-- (2.4, 2.12)
 abbrev pub turnBy : List ℕ → State → Action → Turn
 turnBy prompt s Nothing = showing s []
 turnBy prompt s Enter = enter s
@@ -125,11 +135,11 @@ turnBy prompt s Down = down prompt s
 turnBy prompt s Right = right s
 turnBy prompt s Left = left s
 
--- one key: what it means, then what that does
+-- one key: what it means, then what that does (2.4, 2.13, 2.17)
 unfoldable pub turnOf : List ℕ → State → ℕ → Turn
 turnOf prompt s byte = let m : Meaning = meaning (s .mode) byte in turnBy prompt (inMode s (m .mode)) (m .action)
 
--- the fresh state, and the state after keys: a session is the fold of its keys
+-- the fresh state, and the state after keys: a session is the fold of its keys (3.3)
 abbrev pub freshState : State
 freshState = cleared noEntries
 

@@ -58,8 +58,8 @@ abbrev pub AllShort : List (List ℕ) → Type 0
 AllShort [] = Unit
 AllShort (t ∷ l) = (length t < 256 ^ 2) × AllShort l
 
-behind-written : (kind : ℕ) (t rest : List ℕ) → drop (3 + length t) (frameOf kind t ++ rest) ≡ rest
-behind-written kind t rest =
+after-written : (kind : ℕ) (t rest : List ℕ) → drop (3 + length t) (frameOf kind t ++ rest) ≡ rest
+after-written kind t rest =
     ap (λ (n : ℕ). drop n (frameOf kind t ++ rest)) (sym (length-frameOf kind t)) ∙ drop-append-seam (frameOf kind t) rest
 
 -- the texts after a frame that was written
@@ -67,7 +67,7 @@ pub texts-written : (kind : ℕ) (t rest : List ℕ) → length t < 256 ^ 2 → 
 texts-written kind t rest h =
     texts-more (frameOf kind t ++ rest) kind (length t) (frame-read kind t rest h)
     ∙ ap (λ (x : List ℕ). x ∷ textsIn (drop (3 + length t) (frameOf kind t ++ rest))) (frame-found kind t rest)
-    ∙ ap (λ (x : List ℕ). t ∷ textsIn x) (behind-written kind t rest)
+    ∙ ap (λ (x : List ℕ). t ∷ textsIn x) (after-written kind t rest)
 
 -- WHAT IS WRITTEN IS READ, whatever the kind
 pub texts-runs : (kind : ℕ) (l : List (List ℕ)) → AllShort l → textsIn (runs (frameOf kind) l) ≡ l
@@ -212,7 +212,7 @@ module _ (words : List ℕ) (at : ℕ) where
       let l = length-drop at words in
       omega arith
 
-  -- and behind a frame are frames
+  -- and beyond a frame are frames
   pub all-next : (kind n : ℕ) → frameFirst (drop at words) ≡ Frame kind n → AllFrames (drop at words) → AllFrames (drop (at + (3 + n)) words)
   unfolding AllFrames
   all-next kind n e a k =

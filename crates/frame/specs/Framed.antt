@@ -1,4 +1,4 @@
--- A frame of one text: a byte for its kind, then the text after a length of two bytes.
+-- A frame of one text: a byte for its kind, then the text after a length of two bytes (STANDARD 5.5, 8.1, 8.2).
 use Prim.Native.Nat.{ℕ}
 use mathlib.Core.List.{List, [], _∷_}
 use Rattle.frame.specs.Text.{textOf, readText}
@@ -7,6 +7,7 @@ use Rattle.frame.specs.declared.prefixed.Text.the-variants.{Sized, Broke
 use Rattle.frame.specs.declared.framed.Framed.{Framed}
 use Rattle.frame.specs.declared.framed.Framed.the-variants.{Frame, Broken, End}
 
+-- (5.5, 8.1, 8.2)
 unfoldable pub frameOf : ℕ → List ℕ → List ℕ
 frameOf kind t = kind ∷ textOf 2 t
 

@@ -1,11 +1,11 @@
--- The limits of the standard that several crates cite.
+-- The limits of the standard that several crates cite (STANDARD 5.5; 2 of 10.1).
 use Prim.Native.Nat.{ℕ, _*_}
 
 -- the bytes of a line
 abbrev pub lineLimit : ℕ
 lineLimit = 1024
 
--- the bytes of the frames of a line's words: at most four for each of the line's
+-- the bytes of the frames of a line's words: at most four for each of the line's (5.5)
 abbrev pub framesLimit : ℕ
 framesLimit = 4 * lineLimit
 

@@ -1,4 +1,4 @@
--- Frames of one text, one after the other: the texts that they hold, and the bytes of many put together.
+-- Frames of one text, one after the other: the texts that they hold, and the bytes of many put together (STANDARD 5.5).
 use Prim.Native.Nat.{ℕ, zero, suc, _+_}
 use mathlib.Core.Path.{_≡_}
 use mathlib.Core.List.{List, [], _∷_, _++_}
@@ -18,6 +18,7 @@ textsFrom [] skip = []
 textsFrom (a ∷ s) (suc skip) = textsFrom s skip
 textsFrom (a ∷ s) zero = onFrame (frameFirst (a ∷ s)) (λ kind n. take n (drop 3 (a ∷ s)) ∷ textsFrom s (2 + n)) []
 
+-- (5.5)
 unfoldable pub textsIn : List ℕ → List (List ℕ)
 textsIn s = textsFrom s 0
 

@@ -31,19 +31,19 @@ next-within s start end e = by (runOf false (afterRun true (piecesOf s))) refl e
     before : List ℕ
     before = bytesAll (runOf true (piecesOf s))
 
-    behind : List ℕ
-    behind = bytesAll (afterRun false (afterRun true (piecesOf s)))
+    beyond : List ℕ
+    beyond = bytesAll (afterRun false (afterRun true (piecesOf s)))
 
     by : (word : List Piece) → runOf false (afterRun true (piecesOf s)) ≡ word → wordAt (0 + length before) word ≡ At start end → (start < end) × (end ≤ length s)
     by [] q k = absurd (let z : _≡_ {A = ℕ} 0 1 = cc in omega arith)
     by (p ∷ word) q k =
         let a : 0 + length before ≡ start = cc in
         let b : 0 + length before + length (bytesAll (p ∷ word)) ≡ end = cc in
-        let whole : s ≡ before ++ (bytesAll (p ∷ word) ++ behind) =
-        sym (pieces-bytes s) ∙ run-splits true (piecesOf s) ∙ ap (λ (l : List ℕ). before ++ l) (run-splits false (afterRun true (piecesOf s)) ∙ ap (λ (w : List Piece). bytesAll w ++ behind) q)
+        let whole : s ≡ before ++ (bytesAll (p ∷ word) ++ beyond) =
+        sym (pieces-bytes s) ∙ run-splits true (piecesOf s) ∙ ap (λ (l : List ℕ). before ++ l) (run-splits false (afterRun true (piecesOf s)) ∙ ap (λ (w : List Piece). bytesAll w ++ beyond) q)
         in
-        let l = ap length whole ∙ length-append before (bytesAll (p ∷ word) ++ behind) in
-        let m = length-append (bytesAll (p ∷ word)) behind in
+        let l = ap length whole ∙ length-append before (bytesAll (p ∷ word) ++ beyond) in
+        let m = length-append (bytesAll (p ∷ word)) beyond in
         let n = length-append (bytesOf p) (bytesAll word) in
         let o = piece-some p in
         (omega arith, omega arith)
@@ -134,9 +134,9 @@ module _ (line out₀ : List ℕ) (at : ℕ) where
             let i = inked-both (ascii " ") word out end p mid r left a b in
             let m = a .place in
             let n = b .place in
-            let behind : drop stop s ≡ drop (place + stop) line = ap (drop stop) lent ∙ drop-drop stop place line in
+            let beyond : drop stop s ≡ drop (place + stop) line = ap (drop stop) lent ∙ drop-drop stop place line in
             let words : wordsBetween (drop place line) ≡ word ∷ wordsBetween (drop (place + stop) line) =
-            ap wordsBetween (sym lent) ∙ told .words ∙ ap (λ (x : List ℕ). x ∷ wordsBetween (drop stop s)) (sym q) ∙ ap (λ (x : List ℕ). word ∷ wordsBetween x) behind
+            ap wordsBetween (sym lent) ∙ told .words ∙ ap (λ (x : List ℕ). x ∷ wordsBetween (drop stop s)) (sym q) ∙ ap (λ (x : List ℕ). word ∷ wordsBetween x) beyond
             in
             record {
               within = t .fits;

@@ -27,14 +27,16 @@ pub data Reply : Type 0 where
   unknown : List ℕ → Reply
   wordless : Reply
 
+-- (9.12)
 abbrev pub replyBy : List (List ℕ) → Led → Reply
 replyBy words (found frames) = said (helpText words frames)
 replyBy words (lost word) = unknown word
 
--- a reply depends on the subtree of the first word only
+-- a reply depends on the subtree of the first word only (9.12, 12.4)
 unfoldable pub helpIn : List Frame → List ℕ → List (List ℕ) → Reply
 helpIn below word words = replyBy (word ∷ words) (onSubtree word below (λ frames. followed 1 frames words))
 
+-- (9.12)
 unfoldable pub helpOf : List Frame → List (List ℕ) → Reply
 helpOf frames [] = wordless
 helpOf frames (word ∷ words) = helpIn (subtree 0 word frames) word words
@@ -42,7 +44,7 @@ helpOf frames (word ∷ words) = helpIn (subtree 0 word frames) word words
 unfoldable pub helpLine : List ℕ → List ℕ → Reply
 helpLine image line = helpOf (framesOf image) (wordsBetween line)
 
--- the bytes that a reply is: the text, or a frame 1E with the unknown word
+-- the bytes that a reply is: the text, or a frame 1E with the unknown word (10.12)
 abbrev pub bytesOf : Reply → List ℕ
 bytesOf (said text) = text
 bytesOf (unknown word) = frameOf 0x1e word
@@ -68,7 +70,7 @@ abbrev pub onChecked : Checked → Helped → Helped
 onChecked Good answer = answer
 onChecked (BadFrame n) answer = BadTree n
 
--- the answer for any image and line and a buffer of `room` bytes
+-- the answer for any image and line and a buffer of `room` bytes (10.12)
 unfoldable pub answerFor : List ℕ → List ℕ → ℕ → Helped
 answerFor image line room = onChecked (checkTree image) (answerIn image line room)
 

@@ -10,7 +10,7 @@ use Rattle.tree.specs.Subtrees.{subtree}
 use Rattle.help.specs.declared.path.Followed.{Followed}
 use Rattle.help.specs.declared.path.Followed.the-variants.{Found, Lost}
 
--- to the subtree of the last word's node, or to nothing, with the first word that names none
+-- to the subtree of the last word's node, or to nothing, with the first word that names none (9.12)
 pub data Led : Type 0 where
   found : List Frame → Led
   lost : List ℕ → Led
@@ -20,7 +20,7 @@ abbrev pub onSubtree : List ℕ → List Frame → (List Frame → Led) → Led
 onSubtree word [] more = lost word
 onSubtree word (f ∷ l) more = more (f ∷ l)
 
--- where words lead from the frames of a subtree whose children have depth d
+-- where words lead from the frames of a subtree whose children have depth d (9.12)
 unfoldable pub followed : ℕ → List Frame → List (List ℕ) → Led
 followed d frames [] = found frames
 followed d frames (word ∷ words) = onSubtree word (subtree d word frames) (λ below. followed (suc d) below words)

@@ -13,7 +13,7 @@ use Rattle.buffer.proofs.Lists.{drop-step}
 use Rattle.buffer.proofs.Zeros.{zero-bytes}
 use Rattle.buffer.proofs.Lending.{rest-lent}
 use Rattle.buffer.proofs.Greatest.{greatest-append}
-use Rattle.buffer.proofs.Ordering.{same-append, same-behind, same-as, same-is, is-same}
+use Rattle.buffer.proofs.Ordering.{same-append, same-after, same-as, same-is, is-same}
 use Rattle.buffer.specs.Compare.{sameBytes}
 use Rattle.buffer.specs.Greatest.{greatest}
 use Rattle.text.proofs.Pieces.{pieces-none}
@@ -69,7 +69,7 @@ module _ (bs : List ℕ) (fits : 256 ≤ length bs) (byte : getD bs 0 0 ≤ 255)
   slot-laid =
       ap (λ (l : List ℕ). sameBytes l (take 256 bs)) slot-of-entry
       ∙ ap (λ (l : List ℕ). sameBytes (n ∷ (entry bs ++ zeros (length (unused bs)))) l) slot-splits
-      ∙ same-behind (n ∷ entry bs) (zeros (length (unused bs))) (unused bs)
+      ∙ same-after (n ∷ entry bs) (zeros (length (unused bs))) (unused bs)
       ∙ zero-bytes (unused bs)
 
   short-entry : length (entry bs) ≤ 255

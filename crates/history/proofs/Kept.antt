@@ -94,10 +94,10 @@ unfolding latest
 differs [] t u n = usable-some t u
 differs (e ∷ es) t u n = sym (newest-latest t e es) ∙ n
 
-behind-oldest : (e : List ℕ) (es : List (List ℕ)) (t : List ℕ) → usable t ≡ true → newestIs t (e ∷ es) ≡ false → newestIs t es ≡ false
+after-oldest : (e : List ℕ) (es : List (List ℕ)) (t : List ℕ) → usable t ≡ true → newestIs t (e ∷ es) ≡ false → newestIs t es ≡ false
 unfolding newestIs
-behind-oldest e [] t u n = refl
-behind-oldest e (d ∷ es) t u n = n
+after-oldest e [] t u n = refl
+after-oldest e (d ∷ es) t u n = n
 
 with-room : (es : List (List ℕ)) (t : List ℕ) (full : Bool) → ltb (length es) 100 ≡ full → Entries es → length t ≤ 255 → usable t ≡ true → newestIs t es ≡ false
     → Entries (cond full es (drop 1 es) ++ (t ∷ []))
@@ -105,7 +105,7 @@ with-room es t true q g l u n = one-more es t (g .short) (ltb-true _ _ q) (g .is
 with-room [] t false q g l u n = absurd (let z = ltb-false 0 100 q in omega arith)
 with-room (e ∷ es) t false q g l u n =
     let few = g .few in
-    one-more es t (short-drop (e ∷ es) (g .short)) (omega arith) (sound-drop e es (g .is-sound)) l u (differs es t u (behind-oldest e es t u n))
+    one-more es t (short-drop (e ∷ es) (g .short)) (omega arith) (sound-drop e es (g .is-sound)) l u (differs es t u (after-oldest e es t u n))
 
 usable-of : (t : List ℕ) → blank t ≡ false → wellFormed t ≡ true → usable t ≡ true
 unfolding usable

@@ -119,14 +119,14 @@ no-room : (es : List (List ℕ)) → length es ≡ 100 → layout es ≡ run es
 unfolding layout zeros
 no-room es e = ap (λ (n : ℕ). run es ++ replicate (25600 - 256 * n) 0) e ∙ append-nil (run es)
 
-behind-first : (e : List ℕ) (es : List (List ℕ)) → length e ≤ 255 → length es ≡ 99 → drop 256 (layout (e ∷ es)) ≡ run es
+after-first : (e : List ℕ) (es : List (List ℕ)) → length e ≤ 255 → length es ≡ 99 → drop 256 (layout (e ∷ es)) ≡ run es
 unfolding run
-behind-first e es h k = ap (drop 256) (no-room (e ∷ es) (omega arith)) ∙ drop-at (slot e) (run es) 256 (length-slot e h)
+after-first e es h k = ap (drop 256) (no-room (e ∷ es) (omega arith)) ∙ drop-at (slot e) (run es) 256 (length-slot e h)
 
 -- a write right after a write at the front, up to the buffer's end, is all that is left
-overAt-behind : (y x d : List ℕ) (o : ℕ) → length x ≡ o → length d ≡ o + length y → overAt y (over x d) o ≡ x ++ y
+overAt-after : (y x d : List ℕ) (o : ℕ) → length x ≡ o → length d ≡ o + length y → overAt y (over x d) o ≡ x ++ y
 unfolding overAt over
-overAt-behind y x d o e f =
+overAt-after y x d o e f =
     let rest : List ℕ = drop (length x) d in
     let none : drop (length y) rest ≡ [] = drop-end rest (length y) (let l = length-drop (length x) d in omega arith) in
     ap (λ (l : List ℕ). l ++ (y ++ drop (length y) (drop o (x ++ rest)))) (take-at x rest o e)
@@ -155,8 +155,8 @@ layout-more es t h k l =
 pub layout-full : (e : List ℕ) (es : List (List ℕ)) (t : List ℕ) → Short (e ∷ es) → length es ≡ 99 → length t ≤ 255
     → overAt (slot t) (over (drop 256 (layout (e ∷ es))) (layout (e ∷ es))) 25344 ≡ layout (es ++ (t ∷ []))
 layout-full e es t (more h hs) k l =
-    ap (λ (x : List ℕ). overAt (slot t) (over x (layout (e ∷ es))) 25344) (behind-first e es h k)
-    ∙ overAt-behind (slot t) (run es) (layout (e ∷ es)) 25344 (let r = length-run es hs in omega arith) (rw (length-layout (e ∷ es) (more h hs) (omega arith), length-slot t l) refl)
+    ap (λ (x : List ℕ). overAt (slot t) (over x (layout (e ∷ es))) 25344) (after-first e es h k)
+    ∙ overAt-after (slot t) (run es) (layout (e ∷ es)) 25344 (let r = length-run es hs in omega arith) (rw (length-layout (e ∷ es) (more h hs) (omega arith), length-slot t l) refl)
     ∙ ap (λ (x : List ℕ). run es ++ x) (sym (run-one t))
     ∙ sym (run-append es (t ∷ []))
     ∙ sym (no-room (es ++ (t ∷ [])) (let b = length-append es (t ∷ []) in omega arith))

@@ -16,15 +16,15 @@ pub record Holds (j : Journal) (r : History) (left : List ℕ) : Type 0 where
   pub state : r ≡ recordOf j
   pub bytes : left ≡ slotsOf j
 
--- a fresh history, with slots that hold no entry
+-- a fresh history, with slots that hold no entry (3.3)
 abbrev pub Emptied : History → List ℕ → Type 0
 Emptied r left = Holds noEntries r left
 
--- a text that a good state takes
+-- a text that a good state takes (3.6)
 abbrev pub Offered : History → List ℕ → List ℕ → History → List ℕ → Type 0
 Offered h slots text r left = Holds (offered text (journalOf h slots)) r left
 
--- the answer for a text, given whether the state is good
+-- the answer for a text, given whether the state is good (10.15)
 unfoldable pub addAnswer : Bool → List ℕ → Added
 addAnswer is text =
     cond is
@@ -33,19 +33,21 @@ addAnswer is text =
     (IllFormed (wellFormedLength text))))
     BadState
 
--- a refusal keeps the state and every byte
+-- a refusal keeps the state and every byte (3.5)
 abbrev pub recordBy : Added → History → Journal → History
 recordBy Done h j = recordOf j
 recordBy BadState h j = h
 recordBy (TooLong n) h j = h
 recordBy (IllFormed n) h j = h
 
+-- (4.5)
 abbrev pub slotsBy : Added → List ℕ → Journal → List ℕ
 slotsBy Done slots j = slotsOf j
 slotsBy BadState slots j = slots
 slotsBy (TooLong n) slots j = slots
 slotsBy (IllFormed n) slots j = slots
 
+-- (3.6)
 pub record Addition (h : History) (slots text : List ℕ) (r : History) (told : Added) (left : List ℕ) : Type 0 where
   pub answer : told ≡ addAnswer (good h slots) text
   pub state : r ≡ recordBy (addAnswer (good h slots) text) h (offered text (journalOf h slots))

@@ -10,11 +10,12 @@ use Rattle.history.specs.Entries.{mostEntries, added, sound}
 use Rattle.history.specs.Slots.{slotsSize, layout, entriesOf}
 use Rattle.history.specs.declared.stepping.History.{History}
 
+-- (3.2)
 pub record Journal : Type 0 where
   pub entries : List (List ℕ)
   pub place : ℕ
 
--- no entry
+-- no entry (3.3, 4.3)
 abbrev pub noEntries : Journal
 noEntries = record { entries = []; place = 0 }
 
@@ -22,29 +23,32 @@ noEntries = record { entries = []; place = 0 }
 abbrev pub count : Journal → ℕ
 count j = length (j .entries)
 
+-- (3.2, 3.7)
 abbrev pub entryOf : Journal → ℕ → List ℕ
 entryOf j number = getD (j .entries) number []
 
--- a text is offered; every add sets the place to the count
+-- a text is offered; every add sets the place to the count (3.4, 3.5)
 abbrev pub offered : List ℕ → Journal → Journal
 offered text j = record { entries = added text (j .entries); place = length (added text (j .entries)) }
 
--- the same entries, at another place
+-- the same entries, at another place (3.8, 3.9)
 abbrev pub atPlace : Journal → ℕ → Journal
 atPlace j place = record { entries = j .entries; place = place }
 
--- the record and the slots that hold a history, and the history that they hold
+-- the record and the slots that hold a history, and the history that they hold (3.12, 4.3)
 unfoldable pub recordOf : Journal → History
 recordOf j = record { count = length (j .entries); place = j .place }
 
+-- (3.10, 3.12, 4.3)
 unfoldable pub slotsOf : Journal → List ℕ
 slotsOf j = layout (j .entries)
 
+-- (3.10, 3.12)
 unfoldable pub journalOf : History → List ℕ → Journal
 journalOf h slots = record { entries = entriesOf (h .count) slots; place = h .place }
 
 -- A state is bad exactly if the buffer has another length, the count exceeds 100, the place exceeds the count, a used slot has length 0 or is
--- blank or ill-formed, two neighbours are equal, or an unused byte is not zero.
+-- blank or ill-formed, two neighbours are equal, or an unused byte is not zero (3.2, 3.13).
 unfoldable pub good : History → List ℕ → Bool
 good h slots =
     cond (eqb (length slots) slotsSize)

@@ -11,16 +11,17 @@ use Rattle.history.specs.declared.stepping.Step.{Step}
 abbrev pub placedAt : History → ℕ → History
 placedAt h place = record { count = h .count; place = place }
 
--- Up: at place 0 nothing; otherwise the place steps back, and the entry there is recalled
+-- Up: at place 0 nothing; otherwise the place steps back, and the entry there is recalled (3.8)
 unfoldable pub back : History → Step
 back h =
     cond (eqb (h .place) 0) (record { history = h; recalled = Nothing })
     (record { history = placedAt h (h .place - 1); recalled = Entry (h .place - 1) })
 
--- Down: below the count the place steps on, and the entry there is recalled unless it has arrived at the count
+-- Down: below the count the place steps on, and the entry there is recalled unless it has arrived at the count (3.9)
 unfoldable pub recalledAt : ℕ → ℕ → Recalled
 recalledAt count place = cond (ltb place count) (Entry place) Nothing
 
+-- (3.9)
 unfoldable pub onward : History → Step
 onward h =
     cond (ltb (h .place) (h .count))

@@ -36,10 +36,10 @@ module _ (s : List ℕ) (p r n q : ℕ) (hr : r ≡ p + 1) (hn : n ≡ getD s p 
       let room : n ≤ length (drop r s) = rw (length-drop r s) (omega arith) in
       let size : length (take n (drop r s)) ≡ n = length-take-le n (drop r s) room in
       let end : r + n ≡ q = omega arith in
-      let behind : drop n (drop r s) ≡ drop q s = drop-drop n r s ∙ ap (λ (k : ℕ). drop k s) end in
+      let beyond : drop n (drop r s) ≡ drop q s = drop-drop n r s ∙ ap (λ (k : ℕ). drop k s) end in
       let front : drop p s ≡ n ∷ drop r s = drop-step s p 0 inside ∙ rw (← hn, ← hr) in
       front
-      ∙ ap (λ (l : List ℕ). n ∷ l) (sym (take-append-drop n (drop r s)) ∙ ap (λ (l : List ℕ). take n (drop r s) ++ l) behind)
+      ∙ ap (λ (l : List ℕ). n ∷ l) (sym (take-append-drop n (drop r s)) ∙ ap (λ (l : List ℕ). take n (drop r s) ++ l) beyond)
       ∙ sym (rw (text-is (take n (drop r s)), size))
 
   pub perhaps-split : q ≡ p + 1 + span n → q ≤ length s → drop p s ≡ perhaps (perhapsIn n (drop r s)) ++ drop q s
@@ -145,7 +145,7 @@ module _ (s : List ℕ) (b : Bytes s) where
 pub record TextRead (s : List ℕ) (p : ℕ) (t rest : List ℕ) : Type 0 where
   pub byte : length t ≡ getD s p 0
   pub found : (r : ℕ) → r ≡ p + 1 → take (length t) (drop r s) ≡ t
-  pub behind : (q : ℕ) → q ≡ p + 1 + length t → drop q s ≡ rest
+  pub beyond : (q : ℕ) → q ≡ p + 1 + length t → drop q s ≡ rest
 
 byte-at : (s : List ℕ) (p b : ℕ) (l : List ℕ) → drop p s ≡ b ∷ l → b ≡ getD s p 0
 byte-at s p b l e = let z : p + 0 ≡ p = omega arith in sym (ap (λ (x : List ℕ). getD x 0 0) e) ∙ getD-drop p s 0 0 ∙ ap (λ (k : ℕ). getD s k 0) z
@@ -160,7 +160,7 @@ text-read s p t rest e =
     record {
       byte = byte-at s p _ _ front;
       found = λ r k. rw (k, next) (take-at t rest (length t) refl);
-      behind = λ q k. rw k (sym (drop-drop (length t) (p + 1) s) ∙ ap (drop (length t)) next ∙ drop-at t rest (length t) refl);
+      beyond = λ q k. rw k (sym (drop-drop (length t) (p + 1) s) ∙ ap (drop (length t)) next ∙ drop-at t rest (length t) refl);
     }
 
 -- the length byte of a text that may be missing, which FF must not be if it is there
@@ -175,7 +175,7 @@ Marked (present t) = length t < 0xff
 pub record PerhapsRead (s : List ℕ) (p : ℕ) (u : Perhaps) (rest : List ℕ) : Type 0 where
   pub byte : mark u ≡ getD s p 0
   pub found : (r : ℕ) → r ≡ p + 1 → perhapsIn (mark u) (drop r s) ≡ u
-  pub behind : (q : ℕ) → q ≡ p + 1 + span (mark u) → drop q s ≡ rest
+  pub beyond : (q : ℕ) → q ≡ p + 1 + span (mark u) → drop q s ≡ rest
 
 pub perhaps-read : (s : List ℕ) (p : ℕ) (u : Perhaps) (rest : List ℕ) → Marked u → drop p s ≡ perhaps u ++ rest → PerhapsRead s p u rest
 unfolding perhaps perhapsIn
@@ -184,7 +184,7 @@ perhaps-read s p absent rest m e =
     record {
       byte = byte-at s p _ _ e;
       found = λ r k. refl;
-      behind = λ q k. let y : q ≡ p + 1 = omega arith in rw y (past-byte s p _ _ e);
+      beyond = λ q k. let y : q ≡ p + 1 = omega arith in rw y (past-byte s p _ _ e);
     }
 perhaps-read s p (present t) rest m e =
     let v = text-read s p t rest e in
@@ -193,7 +193,7 @@ perhaps-read s p (present t) rest m e =
     record {
       byte = v .byte;
       found = λ r k. rw (ne-eqb (length t) 0xff some) (ap present (v .found r k));
-      behind = λ q k. v .behind q (omega arith);
+      beyond = λ q k. v .beyond q (omega arith);
     }
 
 pub length-perhaps : (u : Perhaps) → Marked u → length (perhaps u) ≡ 1 + span (mark u)
@@ -239,8 +239,8 @@ module _ (s rest : List ℕ) where
   node-read d h n ds u m e =
       let four : drop 4 s ≡ text n ++ (text ds ++ (perhaps u ++ rest)) = ap (drop 4) e ∙ simp append-assoc in
       let one = text-read s 4 n _ four in
-      let two = text-read s (5 + length n) ds _ (one .behind (5 + length n) (omega arith)) in
-      let last = perhaps-read s (6 + length n + length ds) u rest m (two .behind (6 + length n + length ds) (omega arith)) in
+      let two = text-read s (5 + length n) ds _ (one .beyond (5 + length n) (omega arith)) in
+      let last = perhaps-read s (6 + length n + length ds) u rest m (two .beyond (6 + length n + length ds) (omega arith)) in
       let size : length (encodeFrame (node d h n ds u)) ≡ 7 + length n + length ds + span (mark u) =
       simp (length-append, length-text, length-perhaps u m) (omega arith)
       in
@@ -259,8 +259,8 @@ module _ (s rest : List ℕ) where
   definition-read : (p : ℕ) (n : List ℕ) (l : Perhaps) (ds : List ℕ) → Marked l → drop p s ≡ text n ++ perhaps l ++ text ds ++ rest → DefinitionRead s p n l ds
   definition-read p n l ds m e =
       let one = text-read s p n (perhaps l ++ (text ds ++ rest)) (e ∙ simp append-assoc) in
-      let two = perhaps-read s (p + 1 + length n) l (text ds ++ rest) m (one .behind (p + 1 + length n) refl) in
-      let last = text-read s (p + 2 + length n + span (mark l)) ds rest (two .behind (p + 2 + length n + span (mark l)) (omega arith)) in
+      let two = perhaps-read s (p + 1 + length n) l (text ds ++ rest) m (one .beyond (p + 1 + length n) refl) in
+      let last = text-read s (p + 2 + length n + span (mark l)) ds rest (two .beyond (p + 2 + length n + span (mark l)) (omega arith)) in
       record {
         lengths = definition-lengths-are p s (length n) (length ds) (mark l) (span (mark l)) (one .byte) (two .byte) refl (last .byte);
         name = one .found (p + 1) refl;

@@ -1,4 +1,4 @@
--- How the first frame of bytes is read: its numbers and the lengths of its texts, a byte past the end being 0.
+-- How the first frame of bytes is read: its numbers and the lengths of its texts, a byte past the end being 0 (STANDARD 6.6 to 6.8).
 use Prim.Native.Nat.{ℕ, _+_, _*_, _<_}
 use mathlib.Core.Bool.{cond}
 use mathlib.Core.List.{List}
@@ -14,7 +14,7 @@ use Rattle.image.specs.declared.head.Head.the-variants.{Node, Option, Fl
 unfoldable pub span : ℕ → ℕ
 span n = cond (eqb n 0xff) 0 n
 
--- three texts one after the other from a place on: name, description, usage
+-- three texts one after the other from a place on: name, description, usage (6.6)
 unfoldable pub nodeLengths : List ℕ → Lengths
 nodeLengths s =
     let name : ℕ = getD s 4 0 in
@@ -22,7 +22,7 @@ nodeLengths s =
     let usage : ℕ = getD s (6 + name + description) 0 in
     record { name = name; description = description; other = usage; size = 7 + name + description + span usage }
 
--- the same for name, long, description
+-- the same for name, long, description (6.7, 6.8)
 unfoldable pub definitionLengths : ℕ → List ℕ → Lengths
 definitionLengths p s =
     let name : ℕ = getD s p 0 in
@@ -53,6 +53,7 @@ headFirst s =
 unfoldable pub perhapsIn : ℕ → List ℕ → Perhaps
 perhapsIn n s = cond (eqb n 0xff) absent (present (take n s))
 
+-- (6.6)
 unfoldable pub nodeIn : List ℕ → ℕ → ℕ → Lengths → Frame
 nodeIn s depth handler texts =
     node depth handler (take (texts .name) (drop 5 s)) (take (texts .description) (drop (6 + texts .name) s))
@@ -68,9 +69,11 @@ longIn s p texts = perhapsIn (texts .other) (drop (p + 2 + texts .name) s)
 abbrev pub noteIn : List ℕ → ℕ → Lengths → List ℕ
 noteIn s p texts = take (texts .description) (drop (p + 2 + texts .name + span (texts .other) + 1) s)
 
+-- (6.7)
 unfoldable pub optionIn : List ℕ → ℕ → ℕ → Lengths → Frame
 optionIn s required short texts = option required short (nameIn s 3 texts) (longIn s 3 texts) (noteIn s 3 texts)
 
+-- (6.8)
 unfoldable pub flagIn : List ℕ → ℕ → Lengths → Frame
 flagIn s short texts = flag short (nameIn s 2 texts) (longIn s 2 texts) (noteIn s 2 texts)
 

@@ -12,10 +12,11 @@ use Rattle.keys.specs.declared.meaning.Meaning.{Meaning}
 abbrev pub doing : Action → Meaning
 doing action = record { action = action; mode = Typing }
 
+-- (2.13)
 abbrev pub awaiting : Mode → Meaning
 awaiting mode = record { action = Nothing; mode = mode }
 
--- typing: the ranges of bytes
+-- typing: the ranges of bytes (2.7, 2.10, 2.12, 2.13)
 unfoldable pub typed : ℕ → Meaning
 typed byte =
     cond (eqb byte 0x0D) (doing Enter)
@@ -26,11 +27,11 @@ typed byte =
     (cond (ltb byte 0x20) (doing Nothing)
     (doing (Insert byte)))))))
 
--- after ESC: `[` is waited for, and any other byte is swallowed
+-- after ESC: `[` is waited for, and any other byte is swallowed (2.14, 2.22)
 unfoldable pub escaped : ℕ → Meaning
 escaped byte = cond (eqb byte 0x5B) (awaiting Sequence) (doing Nothing)
 
--- after ESC `[`: A up, B down, C right, D left, each back to typing; every other byte is swallowed too
+-- after ESC `[`: A up, B down, C right, D left, each back to typing; every other byte is swallowed too (2.15, 2.22)
 unfoldable pub sequenced : ℕ → Meaning
 sequenced byte =
     cond (eqb byte 0x41) (doing Up)
@@ -39,6 +40,7 @@ sequenced byte =
     (cond (eqb byte 0x44) (doing Left)
     (doing Nothing))))
 
+-- (2.4, 2.6, 2.15, 2.17)
 abbrev pub meaning : Mode → ℕ → Meaning
 meaning Typing byte = typed byte
 meaning Escape byte = escaped byte

@@ -98,7 +98,7 @@ place-first want ends (whole f ∷ l) s k b e p =
 -- what a spot tells, and which frame it is
 pub record SpotTold (want : Frame → Bool) (image : List ℕ) (at p : ℕ) : Type 0 where
   pub frame-at : FrameAt want image p
-  pub behind : at ≤ p
+  pub later : at ≤ p
 
 pub record SpotFirst (want ends : Frame → Bool) (image : List ℕ) (at p : ℕ) : Type 0 where
   pub told : SpotTold want image at p
@@ -117,7 +117,7 @@ spot-first want ends image at p b e = by (placeOf want ends (framesIn (items (dr
         let w = f .within in
         let s = f .some in
         let h : at ≤ length image = omega arith in
-        rw (← z) record { told = record { frame-at = beyond want image at k h f; behind = omega arith }; first = g .first }
+        rw (← z) record { told = record { frame-at = beyond want image at k h f; later = omega arith }; first = g .first }
     by Nothing q r = absurd (let z : _≡_ {A = ℕ} 0 1 = cc in omega arith)
 
 pub spot-told : (want ends : Frame → Bool) (image : List ℕ) (at p : ℕ) → Bytes image → spot want ends image at ≡ At p → SpotTold want image at p
@@ -150,28 +150,28 @@ pub record PartTold (image : List ℕ) (depth : ℕ) (name : List ℕ) (start en
   pub order : start ≤ end
   pub within : end ≤ length image
 
-end-within : (image : List ℕ) (behind : ℕ) (x : Spot) → ((p : ℕ) → x ≡ At p → (behind ≤ p) × (p ≤ length image)) → behind ≤ length image → (behind ≤ orEnd image x) × (orEnd image x ≤ length image)
-end-within image behind (At p) k h = k p refl
-end-within image behind Nothing k h = (h, omega arith)
+end-within : (image : List ℕ) (later : ℕ) (x : Spot) → ((p : ℕ) → x ≡ At p → (later ≤ p) × (p ≤ length image)) → later ≤ length image → (later ≤ orEnd image x) × (orEnd image x ≤ length image)
+end-within image later (At p) k h = k p refl
+end-within image later Nothing k h = (h, omega arith)
 
 end-told : (image : List ℕ) (depth start : ℕ) → Bytes image → start ≤ length image → (start ≤ subtreeEnd image start depth) × (subtreeEnd image start depth ≤ length image)
 unfolding subtreeEnd
 end-told image depth start b h = by (readFirst (drop start image)) refl
   where
-    spots : (behind p : ℕ) → spot (wanted (Upper depth) []) (endedBy (Upper depth)) image behind ≡ At p → (behind ≤ p) × (p ≤ length image)
-    spots behind p e =
-        let t = spot-told (wanted (Upper depth) []) (endedBy (Upper depth)) image behind p b e in
+    spots : (later p : ℕ) → spot (wanted (Upper depth) []) (endedBy (Upper depth)) image later ≡ At p → (later ≤ p) × (p ≤ length image)
+    spots later p e =
+        let t = spot-told (wanted (Upper depth) []) (endedBy (Upper depth)) image later p b e in
         let w = t .frame-at .within in
-        let o = t .behind in
+        let o = t .later in
         (o, omega arith)
 
-    frames : (f : Frame) (behind : ℕ) → start ≤ behind → behind ≤ length image → (start ≤ endAfter image behind depth f) × (endAfter image behind depth f ≤ length image)
-    frames (node e g n ds u) behind l m =
-        let w = end-within image behind (spot (wanted (Upper depth) []) (endedBy (Upper depth)) image behind) (spots behind) m in
+    frames : (f : Frame) (later : ℕ) → start ≤ later → later ≤ length image → (start ≤ endAfter image later depth f) × (endAfter image later depth f ≤ length image)
+    frames (node e g n ds u) later l m =
+        let w = end-within image later (spot (wanted (Upper depth) []) (endedBy (Upper depth)) image later) (spots later) m in
         let w₀ = w .0 in
         (omega arith, w .1)
-    frames (option r c n x ds) behind l m = (h, omega arith)
-    frames (flag c n x ds) behind l m = (h, omega arith)
+    frames (option r c n x ds) later l m = (h, omega arith)
+    frames (flag c n x ds) later l m = (h, omega arith)
 
     by : (x : Read) → readFirst (drop start image) ≡ x → (start ≤ endBy image start depth x) × (endBy image start depth x ≤ length image)
     by (read f n) q =

@@ -24,7 +24,7 @@ use Rattle.lookup.specs.Subtrees.{treeNamed, PartHolds}
 use Rattle.lookup.specs.declared.seek.Spot.{Spot}
 use Rattle.lookup.specs.declared.seek.Spot.the-variants.{At}
 use Rattle.lookup.specs.declared.look.Sought.the-variants.{Node, Upper}
-use Rattle.lookup.proofs.Subtrees.{find-holds, spot-behind}
+use Rattle.lookup.proofs.Subtrees.{find-holds, spot-after}
 
 -- frames of which none passes a test
 abbrev pub NoneOf : (Frame → Bool) → List Frame → Type 0
@@ -220,5 +220,5 @@ unfolding flatten
 definitions-spot test h n ds u defs below d only fit =
     let size = first-size (node d h n ds u) in
     rw (← size)
-    (spot-behind test isNode (node d h n ds u ∷ []) (defs ++ (flatten (suc d) below ++ [])) fit
+    (spot-after test isNode (node d h n ds u ∷ []) (defs ++ (flatten (suc d) below ++ [])) fit
     ∙ rw (append-nil (flatten (suc d) below), definitions-end test defs (suc d) below only))

@@ -63,19 +63,19 @@ place-up test (f ∷ l) = by (test f) (place-up test l)
 
 -- the frames of what stands after frames
 module _ (a b : List Frame) (fit : AllFit (a ++ b)) where
-  behind : drop (length (flat a)) (flat (a ++ b)) ≡ flat b
-  behind = rw (flat-append a b) (drop-append-seam (flat a) (flat b))
+  later : drop (length (flat a)) (flat (a ++ b)) ≡ flat b
+  later = rw (flat-append a b) (drop-append-seam (flat a) (flat b))
 
-  frames-behind : framesOf (drop (length (flat a)) (flat (a ++ b))) ≡ b
-  frames-behind = ap framesOf behind ∙ frames-flat b (fit-append a b fit)
+  frames-after : framesOf (drop (length (flat a)) (flat (a ++ b))) ≡ b
+  frames-after = ap framesOf later ∙ frames-flat b (fit-append a b fit)
 
 -- a search in joined frames, from after some of them
-pub spot-behind : (test ends : Frame → Bool) (a b : List Frame) → AllFit (a ++ b) → spot test ends (flat (a ++ b)) (length (flat a)) ≡ shifted (length (flat a)) (placeOf test ends b)
+pub spot-after : (test ends : Frame → Bool) (a b : List Frame) → AllFit (a ++ b) → spot test ends (flat (a ++ b)) (length (flat a)) ≡ shifted (length (flat a)) (placeOf test ends b)
 unfolding spot
-spot-behind test ends a b fit = rw (frames-behind a b fit)
+spot-after test ends a b fit = rw (frames-after a b fit)
 
 spot-flat : (test : Frame → Bool) (a b : List Frame) → AllFit (a ++ b) → spot test never (flat (a ++ b)) (length (flat a)) ≡ shifted (length (flat a)) (placed (upTo test b) (onFrom test b))
-spot-flat test a b fit = spot-behind test never a b fit ∙ rw (place-up test b)
+spot-flat test a b fit = spot-after test never a b fit ∙ rw (place-up test b)
 
 -- the end of a subtree
 or-end : (image : List ℕ) (k : ℕ) (up on : List Frame) → length image ≡ k + length (flat (up ++ on)) → orEnd image (shifted k (placed up on)) ≡ k + length (flat up)
@@ -108,7 +108,7 @@ module _ (d : ℕ) (before : List Frame) (f : Frame) (l : List Frame) (fit : All
 
   first-there : readFirst (drop (length (flat before)) (flat (before ++ f ∷ l))) ≡ read f (length (encodeFrame f))
   unfolding flat
-  first-there = ap readFirst (behind before (f ∷ l) fit) ∙ frame-read f (flat l) (fit-append before (f ∷ l) fit .0)
+  first-there = ap readFirst (later before (f ∷ l) fit) ∙ frame-read f (flat l) (fit-append before (f ∷ l) fit .0)
 
   end-flat : (name : List ℕ) → wanted (Node d) name f ≡ true → subtreeEnd (flat (before ++ f ∷ l)) (length (flat before)) d ≡ length (flat before) + length (flat (f ∷ upTo (wanted (Upper d) []) l))
   unfolding subtreeEnd
@@ -122,10 +122,10 @@ module _ (d : ℕ) (before : List Frame) (f : Frame) (l : List Frame) (fit : All
       by (flag c n x ds) q r = absurd (let z : _≡_ {A = ℕ} 0 1 = cc in omega arith)
 
 -- a part between two places holds the frames that stand there
-part-holds : (before mid behind : List Frame) → take (length (flat before) + length (flat mid) - length (flat before)) (drop (length (flat before)) (flat (before ++ (mid ++ behind)))) ≡ flat mid
-part-holds before mid behind =
+part-holds : (before mid later : List Frame) → take (length (flat before) + length (flat mid) - length (flat before)) (drop (length (flat before)) (flat (before ++ (mid ++ later)))) ≡ flat mid
+part-holds before mid later =
     let n : length (flat before) + length (flat mid) - length (flat before) ≡ length (flat mid) = omega arith in
-    rw (n, flat-append before (mid ++ behind), flat-append mid behind, drop-append-seam (flat before) (flat mid ++ flat behind)) (take-append-seam (flat mid) (flat behind))
+    rw (n, flat-append before (mid ++ later), flat-append mid later, drop-append-seam (flat before) (flat mid ++ flat later)) (take-append-seam (flat mid) (flat later))
 
 -- the part that is found holds the subtree
 found-holds : (d : ℕ) (name : List ℕ) (before on : List Frame) → AllFit (before ++ on) → ((f : Frame) (l : List Frame) → on ≡ f ∷ l → wanted (Node d) name f ≡ true)

@@ -1,4 +1,4 @@
--- A node's definitions by key or by short: a flag first, then an option; of each the first definition wins.
+-- A node's definitions by key or by short: a flag first, then an option; of each the first definition wins (STANDARD 7.8, 7.10).
 use Prim.Native.Nat.{ℕ}
 use mathlib.Core.Bool.{Bool, false, cond}
 use mathlib.Core.List.{List}
@@ -17,9 +17,11 @@ hasKey key (node d h name description usage) = false
 hasKey key (option r c name long description) = keyed key name long
 hasKey key (flag c name long description) = keyed key name long
 
+-- (7.8)
 abbrev pub shortIs : ℕ → ℕ → Bool
 shortIs short c = cond (eqb short 0) false (eqb c short)
 
+-- (7.8)
 abbrev pub hasShort : ℕ → Frame → Bool
 hasShort short (node d h name description usage) = false
 hasShort short (option r c name long description) = shortIs short c
@@ -41,5 +43,6 @@ flagOr (At p) o = Flag p
 flagOr Nothing (At p) = Option p
 flagOr Nothing Nothing = Unknown
 
+-- (7.10)
 unfoldable pub defined : (Frame → Bool) → List ℕ → ℕ → Defined
 defined has image at = flagOr (spot (flagWith has) isNode image at) (spot (optionWith has) isNode image at)

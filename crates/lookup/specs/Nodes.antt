@@ -19,10 +19,10 @@ orEnd image Nothing = length image
 
 -- the end of the subtree of a node of that depth at a place, by the frame that stands there
 abbrev pub endAfter : List ℕ → ℕ → ℕ → Frame → ℕ
-endAfter image behind depth (node d h name description usage) =
-    orEnd image (spot (wanted (Upper depth) []) (endedBy (Upper depth)) image behind)
-endAfter image behind depth (option r c name long description) = length image
-endAfter image behind depth (flag c name long description) = length image
+endAfter image later depth (node d h name description usage) =
+    orEnd image (spot (wanted (Upper depth) []) (endedBy (Upper depth)) image later)
+endAfter image later depth (option r c name long description) = length image
+endAfter image later depth (flag c name long description) = length image
 
 abbrev pub endBy : List ℕ → ℕ → ℕ → Read → ℕ
 endBy image start depth (read f size) = endAfter image (start + size) depth f

@@ -1,4 +1,5 @@
 -- What is looked up: nodes by depth and name, the end of a subtree, and a node's definitions, whose list ends at the next node of any depth.
+-- (STANDARD 6.11, 7.10)
 use Prim.Native.Nat.{ℕ}
 use mathlib.Core.Bool.{Bool, true, false, cond}
 use mathlib.Core.List.{List}
@@ -13,6 +14,7 @@ abbrev pub longIs : List ℕ → Perhaps → Bool
 longIs key absent = false
 longIs key (present t) = sameBytes t key
 
+-- (7.10)
 unfoldable pub keyed : List ℕ → List ℕ → Perhaps → Bool
 keyed key name long = cond (sameBytes name key) true (longIs key long)
 
@@ -29,7 +31,7 @@ isNode (node e h name description usage) = true
 isNode (option r c name long description) = false
 isNode (flag c name long description) = false
 
--- what ends each search: nodes are sought to the end, definitions to the next node
+-- what ends each search: nodes are sought to the end, definitions to the next node (6.11)
 abbrev pub endedBy : Sought → Frame → Bool
 endedBy (Node d) f = false
 endedBy (Upper d) f = false

@@ -26,8 +26,8 @@ fn subtree_end(image: &[u8], start: usize, depth: usize) -> usize
     else {
         return image.len();
     };
-    let behind = start + texts.size;
-    let Spot::At(end) = seek(image, behind, Sought::Upper { depth }, part(image, 0, 0)) else {
+    let later = start + texts.size;
+    let Spot::At(end) = seek(image, later, Sought::Upper { depth }, part(image, 0, 0)) else {
         return image.len();
     };
     end

@@ -1,4 +1,5 @@
 -- The `Debug` text of a word (the standard): `"` and `\` get a `\`, 00 is `\0`, other controls `\u{1}` to `\u{7f}`; non-ASCII is copied.
+-- (STANDARD 9.5, 9.6)
 use Prim.Native.Nat.{ℕ, _/_, _%_}
 use mathlib.Core.Bool.{cond}
 use mathlib.Core.List.{List, [], _∷_, _++_}
@@ -6,14 +7,15 @@ use lib.Dec.{ltb, eqb}
 use Rattle.frame.specs.Hex.{digitOf}
 use Rattle.buffer.specs.Ascii.{ascii}
 
--- a number below 256 in hexadecimal digits, without a leading 0
+-- a number below 256 in hexadecimal digits, without a leading 0 (9.6)
 unfoldable pub hexDigits : ℕ → List ℕ
 hexDigits n = cond (ltb n 16) (digitOf n ∷ []) (digitOf (n / 16) ∷ digitOf (n % 16) ∷ [])
 
+-- (9.6)
 unfoldable pub codeText : ℕ → List ℕ
 codeText n = ascii "\\u{" ++ hexDigits n ++ ascii "}"
 
--- TAB, LF and CR, which are white space and stand in no word, are those of the Rust
+-- TAB, LF and CR, which are white space and stand in no word, are those of the Rust (9.6)
 unfoldable pub debugByte : ℕ → List ℕ
 debugByte b =
     cond (eqb b 0x22) (ascii "\\\"")
@@ -30,6 +32,6 @@ unfoldable pub debugBytes : List ℕ → List ℕ
 debugBytes [] = []
 debugBytes (b ∷ word) = debugByte b ++ debugBytes word
 
--- println!("Error: {:?}", e), where e is ParseError::UnknownCommand(word)
+-- println!("Error: {:?}", e), where e is ParseError::UnknownCommand(word) (9.5)
 unfoldable pub unknownHelp : List ℕ → List ℕ
 unknownHelp word = ascii "Error: UnknownCommand(\"" ++ debugBytes word ++ ascii "\")\n"

@@ -16,12 +16,12 @@ use Rattle.parse.specs.Commands.{Outcome, parsed, fault, parseLine}
 use Rattle.parse.specs.declared.answer.Parsed.{Parsed}
 use Rattle.parse.specs.declared.answer.Parsed.the-variants.{Report, BadTree, LineTooLong, IllFormed, UnknownCommand, UnknownOption, MissingValue, MissingRequired, NoRoom}
 
--- the bytes that an outcome is told in: the report's frames, or the frame of a fault
+-- the bytes that an outcome is told in: the report's frames, or the frame of a fault (8.6, 10.2)
 unfoldable pub toldIn : Outcome → List ℕ
 toldIn (parsed path found) = reportOf path (found .options) (found .flags) (found .positionals)
 toldIn (fault number told) = faultOf told
 
--- the answer of a fault's number, with the length of what is written
+-- the answer of a fault's number, with the length of what is written (10.2)
 abbrev pub faultAnswer : ℕ → ℕ → Parsed
 faultAnswer number n =
     cond (eqb number 4) (UnknownCommand n) (cond (eqb number 5) (UnknownOption n) (cond (eqb number 6) (MissingValue n) (MissingRequired n)))
@@ -30,9 +30,11 @@ abbrev pub namedAs : Outcome → ℕ → Parsed
 namedAs (parsed path found) n = Report n
 namedAs (fault number told) n = faultAnswer number n
 
+-- (8.7)
 unfoldable pub outcomeAnswer : Outcome → ℕ → Parsed
 outcomeAnswer o room = cond (ltb room (length (toldIn o))) (NoRoom (length (toldIn o))) (namedAs o (length (toldIn o)))
 
+-- (8.7)
 unfoldable pub outcomeLeaves : Outcome → List ℕ → List ℕ
 outcomeLeaves o out = cond (ltb (length out) (length (toldIn o))) out (over (toldIn o) out)
 
@@ -40,6 +42,7 @@ abbrev pub onChecked : {A : Type 0} → Checked → (ℕ → A) → A → A
 onChecked Good bad good = good
 onChecked (BadFrame n) bad good = bad n
 
+-- (7.14, 10.11)
 unfoldable pub parseAnswer : List ℕ → List ℕ → ℕ → Parsed
 parseAnswer image line room =
     onChecked (checkTree image) (λ n. BadTree n)

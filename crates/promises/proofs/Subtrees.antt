@@ -41,11 +41,11 @@ pub record Present (name : List ℕ) (command frames : List Frame) : Type 0 wher
   pub description : List ℕ
   pub usage : Perhaps
   pub below : List Frame
-  pub behind : List Frame
-  pub stands : frames ≡ before ++ (command ++ behind)
+  pub beyond : List Frame
+  pub stands : frames ≡ before ++ (command ++ beyond)
   pub begins : command ≡ node 0 handler name description usage ∷ below
   pub within : NoneOf (isUpper 0) below
-  pub ends : Ends behind
+  pub ends : Ends beyond
 
 -- what is absent is not found
 pub absent-none : (name : List ℕ) (frames : List Frame) → Absent name frames → subtree 0 name frames ≡ []
@@ -127,11 +127,11 @@ pub present-found : (image name : List ℕ) (command : List Frame) → checkTree
 unfolding subtree
 present-found image name command good p =
     let first : Frame = node 0 (p .handler) name (p .description) (p .usage) in
-    let whole : framesOf image ≡ p .before ++ (first ∷ (p .below ++ p .behind)) = p .stands ∙ ap (λ (c : List Frame). p .before ++ (c ++ p .behind)) (p .begins) in
-    let none = none-before (p .handler) name (p .description) (p .usage) (p .below ++ p .behind) (p .before) start (rw whole at (good-obeys image good)) in
+    let whole : framesOf image ≡ p .before ++ (first ∷ (p .below ++ p .beyond)) = p .stands ∙ ap (λ (c : List Frame). p .before ++ (c ++ p .beyond)) (p .begins) in
+    let none = none-before (p .handler) name (p .description) (p .usage) (p .below ++ p .beyond) (p .before) start (rw whole at (good-obeys image good)) in
     ap (subtree 0 name) whole
-    ∙ ap (rooted 0) (on-skip (isNamed 0 name) (p .before) (first ∷ (p .below ++ p .behind)) none ∙ found-here (p .handler) name (p .description) (p .usage) (p .below ++ p .behind))
-    ∙ ap (λ (l : List Frame). first ∷ l) (up-skip (isUpper 0) (p .below) (p .behind) (p .within) ∙ ap (λ (l : List Frame). p .below ++ l) (ended (p .behind) (p .ends)) ∙ append-nil (p .below))
+    ∙ ap (rooted 0) (on-skip (isNamed 0 name) (p .before) (first ∷ (p .below ++ p .beyond)) none ∙ found-here (p .handler) name (p .description) (p .usage) (p .below ++ p .beyond))
+    ∙ ap (λ (l : List Frame). first ∷ l) (up-skip (isUpper 0) (p .below) (p .beyond) (p .within) ∙ ap (λ (l : List Frame). p .below ++ l) (ended (p .beyond) (p .ends)) ∙ append-nil (p .below))
     ∙ sym (p .begins)
 
 -- ONE OF THE TWO: of every name a tree's frames say that it is absent, or present with its subtree
@@ -163,7 +163,7 @@ named-node name (node d h n ds u) l e =
       description = ds;
       usage = u;
       below = upTo (isUpper 0) l;
-      behind = onFrom (isUpper 0) l;
+      beyond = onFrom (isUpper 0) l;
       stands = ap (λ (m : List Frame). node d h n ds u ∷ m) (sym (up-on (isUpper 0) l));
       begins = rw (depth, same);
       within = none-up (isUpper 0) l;
@@ -172,15 +172,15 @@ named-node name (node d h n ds u) l e =
 named-node name (option r c n x ds) l e = absurd (let z : _≡_ {A = ℕ} 0 1 = cc in omega arith)
 named-node name (flag c n x ds) l e = absurd (let z : _≡_ {A = ℕ} 0 1 = cc in omega arith)
 
-behind-one : (name : List ℕ) (command : List Frame) (f : Frame) (l : List Frame) → Present name command l → Present name command (f ∷ l)
-behind-one name command f l p =
+after-one : (name : List ℕ) (command : List Frame) (f : Frame) (l : List Frame) → Present name command l → Present name command (f ∷ l)
+after-one name command f l p =
     record {
       before = f ∷ p .before;
       handler = p .handler;
       description = p .description;
       usage = p .usage;
       below = p .below;
-      behind = p .behind;
+      beyond = p .beyond;
       stands = ap (λ (m : List Frame). f ∷ m) (p .stands);
       begins = p .begins;
       within = p .within;
@@ -194,4 +194,4 @@ absent-or-present name (f ∷ l) = by (isNamed 0 name f) refl (absent-or-present
     by : (t : Bool) → isNamed 0 name f ≡ t → Absent name l ⊎ ((command : List Frame) × Present name command l) → Absent name (f ∷ l) ⊎ ((command : List Frame) × Present name command (f ∷ l))
     by true e more = inr (rooted 0 (f ∷ l), named-node name f l e)
     by false e (inl a) = inl (e, a)
-    by false e (inr p) = inr (p .0, behind-one name (p .0) f l (p .1))
+    by false e (inr p) = inr (p .0, after-one name (p .0) f l (p .1))

@@ -133,14 +133,14 @@ rest-more n w (fine ws) f =
     sym (append-assoc (gapBefore n) (shown w) (joinedFrom (suc n) (map shown ws)))
     ∙ ap (λ (k : ℕ). (gapBefore n ++ shown w) ++ joinedFrom k (map shown ws)) (sym (add-one n))
 
-fine-behind : (w : List ℕ) (j : Judged) → IsFine (wordBefore w j) → IsFine j
-fine-behind w (bad k) f = f
-fine-behind w (fine ws) f = tt
+fine-after : (w : List ℕ) (j : Judged) → IsFine (wordBefore w j) → IsFine j
+fine-after w (bad k) f = f
+fine-after w (fine ws) f = tt
 
 module _ (words : List ℕ) (n at : ℕ) (f : IsFine (judgeWords (listed (drop at words)))) where
   pub fine-turn : (len : ℕ) → WordTold (drop at words) len → IsFine (judgeWords (listed (drop (at + 3 + len) words)))
   fine-turn len t =
-      fine-behind (take (at + 3 + len - (at + 3)) (drop (at + 3) words)) (judgeWords (listed (drop (at + 3 + len) words))) (rw (word-judged words at len t) at f)
+      fine-after (take (at + 3 + len - (at + 3)) (drop (at + 3) words)) (judgeWords (listed (drop (at + 3 + len) words))) (rw (word-judged words at len t) at f)
 
   pub rest-turn : (len : ℕ) → WordTold (drop at words) len
       → restLine n (judgeWords (listed (drop at words)))

@@ -134,19 +134,19 @@ ended-some : (w : List ℕ) (words : List (List ℕ)) → 0 < length w → unles
 ended-some [] words h = absurd (omega arith)
 ended-some (c ∷ w) words h = refl
 
-behind-back : (n : ℕ) (w : List ℕ) (words : List (List ℕ)) → Each (λ v. 0 < length v) words
+after-back : (n : ℕ) (w : List ℕ) (words : List (List ℕ)) → Each (λ v. 0 < length v) words
     → tokensFrom w false false (joinedFrom (suc n) (map shownCodes words)) ≡ unlessEmpty w words
 unfolding joinedFrom gapBefore tokensFrom
-behind-back n w [] nothing = refl
-behind-back n w (v ∷ words) (also h hs) =
+after-back n w [] nothing = refl
+after-back n w (v ∷ words) (also h hs) =
     let rest : List ℕ = joinedFrom (suc (suc n)) (map shownCodes words) in
     tokens-step w false false 0x20 (shownCodes v ++ rest) Gap turn-space
-    ∙ ap (unlessEmpty w) (shown-back v rest ∙ behind-back (suc n) v words hs ∙ ended-some v words h)
+    ∙ ap (unlessEmpty w) (shown-back v rest ∙ after-back (suc n) v words hs ∙ ended-some v words h)
 
 joined-back : (words : List (List ℕ)) → Each (λ v. 0 < length v) words → tokensFrom [] false false (joined (map shownCodes words)) ≡ words
 unfolding joined joinedFrom gapBefore tokensFrom
 joined-back [] nothing = refl
-joined-back (v ∷ words) (also h hs) = shown-back v (joinedFrom 1 (map shownCodes words)) ∙ behind-back 0 v words hs ∙ ended-some v words h
+joined-back (v ∷ words) (also h hs) = shown-back v (joinedFrom 1 (map shownCodes words)) ∙ after-back 0 v words hs ∙ ended-some v words h
 
 -- the characters of a line
 gap-encoded : (n : ℕ) → encodeAll (gapBefore n) ≡ gapBefore n
@@ -274,9 +274,9 @@ pub given-back : (words : List ℕ) (ws : List (List ℕ)) → judgeWords (liste
 given-back words ws e = words-back ws (fine-good (listed words) ws e)
 
 -- and as frames they are the very bytes that were given
-bytes-behind : (s : List ℕ) (n : ℕ) → Bytes s → Bytes (drop n s)
+bytes-after : (s : List ℕ) (n : ℕ) → Bytes s → Bytes (drop n s)
 unfolding Bytes
-bytes-behind s n h i = rw (getD-drop) (h (n + i))
+bytes-after s n h i = rw (getD-drop) (h (n + i))
 
 nothing-fine : (ws : List (List ℕ)) → judgeWords (listed []) ≡ fine ws → [] ≡ ws
 unfolding listedFrom listed judgeWords
@@ -306,7 +306,7 @@ frames-within (suc k) (a ∷ s) ws h b e = by (itemFirst (a ∷ s)) refl (λ t v
         let size = length-drop (3 + n) (a ∷ s) in
         let rest : List ℕ = drop (3 + n) (a ∷ s) in
         step-back (a ∷ s) (take n (drop 3 (a ∷ s))) rest ws (frame-back (a ∷ s) 0x14 n b (t .head)) (judgeWords (listed rest))
-        (λ vs r. again rest vs (omega arith) (bytes-behind (a ∷ s) (3 + n) b) r) (sym (judge-first (a ∷ s) n t) ∙ e)
+        (λ vs r. again rest vs (omega arith) (bytes-after (a ∷ s) (3 + n) b) r) (sym (judge-first (a ∷ s) n t) ∙ e)
 
 pub frames-back : (words : List ℕ) (ws : List (List ℕ)) → Bytes words → judgeWords (listed words) ≡ fine ws → wordFrames ws ≡ words
 frames-back words ws b e = frames-within (suc (length words)) words ws (omega arith) b e

@@ -13,18 +13,18 @@ use Rattle.quote.specs.Joined.{joined}
 use Rattle.quote.specs.declared.quoter.Quoted.{Quoted}
 use Rattle.quote.specs.declared.quoter.Quoted.the-variants.{Line, BadWord, LineTooLong, NoRoom}
 
--- the line that gives words back
+-- the line that gives words back (5.6, 5.11)
 unfoldable pub quoteLine : List (List ℕ) → List ℕ
 quoteLine words = joined (map shown words)
 
--- the answer for a line of n bytes and a buffer of `room` bytes
+-- the answer for a line of n bytes and a buffer of `room` bytes (10.9)
 unfoldable pub lineAnswer : ℕ → ℕ → Quoted
 lineAnswer n room =
     cond (ltb lineLimit n) (LineTooLong (min n valueLimit))
     (cond (ltb room n) (NoRoom n)
     (Line n))
 
--- the answer for words that come as frames
+-- the answer for words that come as frames (10.9)
 unfoldable pub quoteAnswer : List ℕ → ℕ → Quoted
 quoteAnswer words room = onJudged (judgeWords (listed words)) (λ n. BadWord n) (λ ws. lineAnswer (length (quoteLine ws)) room)
 

@@ -21,10 +21,11 @@ listedFrom (a ∷ s) (suc skip) = listedFrom s skip
 listedFrom (a ∷ s) zero =
     onFrame (frameFirst (a ∷ s)) (λ kind n. cond (eqb kind 0x14) (word (take n (drop 3 (a ∷ s))) (listedFrom s (2 + n))) broken) broken
 
+-- (5.6, 5.7)
 unfoldable pub listed : List ℕ → Listed
 listed s = listedFrom s 0
 
--- a good word has some bytes and is well-formed
+-- a good word has some bytes and is well-formed (5.7)
 unfoldable pub goodWord : List ℕ → Bool
 goodWord w = cond (eqb (length w) 0) false (wellFormed w)
 
@@ -42,6 +43,7 @@ abbrev pub wordBefore : List ℕ → Judged → Judged
 wordBefore w (bad n) = bad (suc n)
 wordBefore w (fine words) = fine (w ∷ words)
 
+-- (5.7)
 unfoldable pub judgeWords : Listed → Judged
 judgeWords done = fine []
 judgeWords broken = bad 0

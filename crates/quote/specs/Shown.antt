@@ -8,15 +8,15 @@ use Rattle.text.specs.Decoding.{codesIn}
 use Rattle.text.specs.Space.{isWhiteSpace}
 use Rattle.words.specs.Tokens.{quote, backslash}
 
--- a character that needs `\` before it
+-- a character that needs `\` before it (5.9)
 unfoldable pub special : ℕ → Bool
 special code = cond (eqb code quote) true (eqb code backslash)
 
--- a character for which a word stands in quotes: white space, `"` or `\`
+-- a character for which a word stands in quotes: white space, `"` or `\` (5.8)
 unfoldable pub quoting : ℕ → Bool
 quoting code = cond (special code) true (isWhiteSpace code)
 
--- no character is one
+-- no character is one (5.8)
 unfoldable pub plain : List ℕ → Bool
 plain [] = true
 plain (code ∷ codes) = cond (quoting code) false (plain codes)
@@ -25,14 +25,15 @@ plain (code ∷ codes) = cond (quoting code) false (plain codes)
 abbrev pub escapedCode : ℕ → List ℕ
 escapedCode code = cond (special code) (backslash ∷ code ∷ []) (code ∷ [])
 
+-- (5.9)
 unfoldable pub escaped : List ℕ → List ℕ
 escaped [] = []
 escaped (code ∷ codes) = escapedCode code ++ escaped codes
 
--- a word by its characters
+-- a word by its characters (5.8, 5.9)
 unfoldable pub shownCodes : List ℕ → List ℕ
 shownCodes codes = cond (plain codes) codes (quote ∷ (escaped codes ++ (quote ∷ [])))
 
--- and as a text
+-- and as a text (5.9)
 unfoldable pub shown : List ℕ → List ℕ
 shown w = encodeAll (shownCodes (codesIn w))

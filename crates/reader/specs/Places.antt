@@ -1,4 +1,4 @@
--- The places between the frames of an image.
+-- The places between the frames of an image (STANDARD 6.23).
 use Prim.Native.Nat.{ℕ, _+_}
 use mathlib.Core.List.{List}
 use lib.ListN.{drop}
@@ -14,6 +14,6 @@ sizeFirst (Flag short texts) = texts .size
 sizeFirst Bad = 0
 sizeFirst End = 0
 
--- the place after the frame at a place; the same place where there is none
+-- the place after the frame at a place; the same place where there is none (6.23)
 unfoldable pub nextPlace : List ℕ → ℕ → ℕ
 nextPlace image at = at + sizeFirst (headFirst (drop at image))

@@ -11,8 +11,8 @@ pub fn buffer() -> [u8; 4096] {
 
 // Puts an answer's number and value.
 pub fn put_numbers(number: usize, value: usize, line: &mut [u8], at: usize) -> usize {
-    let behind_number = line::put_decimal(number, line, at);
-    let before_value = line::put(b' ', line, behind_number);
+    let after_number = line::put_decimal(number, line, at);
+    let before_value = line::put(b' ', line, after_number);
     line::put_decimal(value, line, before_value)
 }
 
@@ -30,13 +30,13 @@ pub fn put_written(out: &[u8], n: usize, line: &mut [u8], at: usize) -> usize {
         return line::put_all(b" more than the buffer holds", line, at);
     }
     let before = line::put(b' ', line, at);
-    let behind = line::put_bytes(&out[..n], line, before);
-    put_kept(out, n, line, behind)
+    let beyond = line::put_bytes(&out[..n], line, before);
+    put_kept(out, n, line, beyond)
 }
 
 // Puts a refusal's number and value, and whether the first byte of the buffer stayed.
 pub fn put_refusal(number: usize, value: usize, out: &[u8], line: &mut [u8], at: usize) -> usize {
     let before = line::put_all(b" refused ", line, at);
-    let behind = put_numbers(number, value, line, before);
-    put_kept(out, 0, line, behind)
+    let beyond = put_numbers(number, value, line, before);
+    put_kept(out, 0, line, beyond)
 }

@@ -66,7 +66,7 @@ pub fn put_answer(image: &[u8], text: &[u8], line: &mut [u8], at: usize) -> usiz
         return answer::put_refusal(number(parsed), value(parsed), &out, line, at);
     }
     let before = line::put_all(b" told ", line, at);
-    let behind_number = line::put_decimal(number(parsed), line, before);
-    let behind = answer::put_written(&out, value(parsed), line, behind_number);
-    put_short(image, text, value(parsed), line, behind)
+    let after_number = line::put_decimal(number(parsed), line, before);
+    let beyond = answer::put_written(&out, value(parsed), line, after_number);
+    put_short(image, text, value(parsed), line, beyond)
 }

@@ -93,7 +93,7 @@ fn end(stream: Stream, out: &mut [u8], answer: &mut [u8], printed: usize) -> usi
 }
 
 // The place a piece of so many bytes on, or the end.
-fn behind(at: usize, size: usize, end: usize) -> usize
+fn beyond(at: usize, size: usize, end: usize) -> usize
     requires { ⌜ (at < end) × (0 < size) ⌝ }
     ensures { λ r. ⌜ (at < r) × (r ≤ end) ⌝ }
 {
@@ -137,7 +137,7 @@ pub fn take_all(
             out,
             answer,
         );
-        at = behind(at, size, session.len());
+        at = beyond(at, size, session.len());
     }
     let stream = told.stream;
     end(stream, out, answer, told.printed)

@@ -66,6 +66,6 @@ pub fn put_answer(image: &[u8], text: &[u8], line: &mut [u8], at: usize) -> usiz
         return answer::put_refusal(number(ran), value(ran), &out, line, at);
     }
     let before = put_kind(ran, line, at);
-    let behind = answer::put_written(&out, value(ran), line, before);
-    put_short(image, text, value(ran), line, behind)
+    let beyond = answer::put_written(&out, value(ran), line, before);
+    put_short(image, text, value(ran), line, beyond)
 }

@@ -132,8 +132,8 @@ pub fn one_byte() {
 // Puts a space and the code of the first character of two bytes.
 fn put_code(first: u8, second: u8, line: &mut [u8], at: usize) -> usize {
     let s = [first, second];
-    let behind = line::put(b' ', line, at);
-    parts::put_first(&s, line, behind)
+    let beyond = line::put(b' ', line, at);
+    parts::put_first(&s, line, beyond)
 }
 
 // Writes a first byte and the codes that begin with it and go on with each byte from 7E to C1.

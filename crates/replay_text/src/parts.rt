@@ -20,16 +20,16 @@ fn put_blank(s: &[u8], line: &mut [u8], at: usize) -> usize {
 
 // Puts whether the text is blank, and the bytes that trimming leaves.
 pub fn put_trimmed(s: &[u8], line: &mut [u8], at: usize) -> usize {
-    let behind = put_blank(s, line, at);
-    line::put_bytes(text::trim(s), line, behind)
+    let beyond = put_blank(s, line, at);
+    line::put_bytes(text::trim(s), line, beyond)
 }
 
 // Puts where a word starts and ends.
 fn put_word(start: usize, end: usize, line: &mut [u8], at: usize) -> usize {
-    let behind_space = line::put(b' ', line, at);
-    let behind_start = line::put_decimal(start, line, behind_space);
-    let behind_dash = line::put(b'-', line, behind_start);
-    line::put_decimal(end, line, behind_dash)
+    let after_space = line::put(b' ', line, at);
+    let after_start = line::put_decimal(start, line, after_space);
+    let after_dash = line::put(b'-', line, after_start);
+    line::put_decimal(end, line, after_dash)
 }
 
 // Puts where each word lies. A text of 512 bytes has at most 256 words, so that past 300 the search doesn't advance.

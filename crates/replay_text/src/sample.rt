@@ -11,19 +11,19 @@ fn put_parts(s: &[u8], length: usize, line: &mut [u8], at: usize) -> usize {
     if length < s.len() {
         return at;
     }
-    let behind = parts::put_trimmed(s, line, at);
-    parts::put_words(s, line, behind)
+    let beyond = parts::put_trimmed(s, line, at);
+    parts::put_words(s, line, beyond)
 }
 
 // Writes the answer for a text: the text, the length of its well-formed part, its first code, and its parts.
 fn answer(s: &[u8], line: &mut [u8]) {
     let length = text::well_formed_prefix(s);
-    let behind_text = line::put_bytes(s, line, 0);
-    let before_length = line::put(b' ', line, behind_text);
-    let behind_length = line::put_decimal(length, line, before_length);
-    let before_code = line::put(b' ', line, behind_length);
-    let behind_code = parts::put_first(s, line, before_code);
-    let end = put_parts(s, length, line, behind_code);
+    let after_text = line::put_bytes(s, line, 0);
+    let before_length = line::put(b' ', line, after_text);
+    let after_length = line::put_decimal(length, line, before_length);
+    let before_code = line::put(b' ', line, after_length);
+    let after_code = parts::put_first(s, line, before_code);
+    let end = put_parts(s, length, line, after_code);
     line::write(line, end);
 }
 

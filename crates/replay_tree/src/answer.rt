@@ -17,7 +17,7 @@ fn put_checked(checked: Checked, line: &mut [u8], at: usize) -> usize {
 // Writes the answer for an image.
 pub fn answer(image: &[u8]) {
     let mut line = [0u8; 64];
-    let behind = line::put_decimal(image.len(), &mut line, 0);
-    let end = put_checked(check_tree(image), &mut line, behind);
+    let beyond = line::put_decimal(image.len(), &mut line, 0);
+    let end = put_checked(check_tree(image), &mut line, beyond);
     line::write(&mut line, end);
 }

@@ -77,8 +77,8 @@ fn compare_file(name: &[u8], image: &[u8]) {
     let mut file = [0u8; 4096];
     let n = read_file(name, &mut file);
     let mut line = [0u8; 128];
-    let behind = line::put_all(name, &mut line, 0);
-    let before = put_held(&file[..n], image, &mut line, behind);
+    let beyond = line::put_all(name, &mut line, 0);
+    let before = put_held(&file[..n], image, &mut line, beyond);
     let end = line::put_decimal(image.len(), &mut line, before);
     line::write(&mut line, end);
 }

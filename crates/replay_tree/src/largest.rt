@@ -5,14 +5,14 @@ use replay::line;
 // A node of depth 0 up to its name of two bytes, and what stands after the name: a description of 96 bytes and a usage of 23.
 const BEFORE: [u8; 5] = *b"\x01\x00\x00\x00\x02";
 
-const BEHIND: [u8; 121] =
+const AFTER: [u8; 121] =
     *b"\x60Of two hundred fifty-six nodes, each of which has a frame of one hundred and twenty-eight bytes.\x17And a usage to fill it.";
 
 // Puts the node with this number in hexadecimal as its name.
 fn put_node(number: u64, image: &mut [u8], at: usize) -> usize {
     let name = line::put_all(&BEFORE, image, at);
-    let behind = line::put_hex(number, 2, image, name);
-    line::put_all(&BEHIND, image, behind)
+    let beyond = line::put_hex(number, 2, image, name);
+    line::put_all(&AFTER, image, beyond)
 }
 
 // Puts all nodes.

@@ -47,6 +47,6 @@ pub fn put_answer(text: &[u8], line: &mut [u8], at: usize) -> usize {
         return answer::put_refusal(number(tokens), value(tokens), &out, line, at);
     };
     let before = line::put_all(b" words", line, at);
-    let behind = answer::put_written(&out, n, line, before);
-    put_short(text, n, line, behind)
+    let after = answer::put_written(&out, n, line, before);
+    put_short(text, n, line, after)
 }

@@ -8,8 +8,8 @@ use replay::line;
 // Writes a text and what is answered for it.
 fn answer(text: &[u8]) {
     let mut line = [0u8; 8192];
-    let behind = line::put_bytes(text, &mut line, 0);
-    let end = put_answer(text, &mut line, behind);
+    let after = line::put_bytes(text, &mut line, 0);
+    let end = put_answer(text, &mut line, after);
     line::write(&mut line, end);
 }
 

@@ -36,39 +36,39 @@ module _ (words image path : List ℕ) (options flags : Table) (rest : List ℕ)
   report-length = simp length-append (omega arith)
 
   -- where the code stands after the path words, after the options, after the flags
-  abbrev pub BehindPath : List ℕ → ℕ → List ℕ → Type 0
-  BehindPath out o mid = Ahead whole out (optionsPart ++ (flagsPart ++ restPart)) o mid
+  abbrev pub AfterPath : List ℕ → ℕ → List ℕ → Type 0
+  AfterPath out o mid = Ahead whole out (optionsPart ++ (flagsPart ++ restPart)) o mid
 
-  abbrev pub BehindOptions : List ℕ → ℕ → List ℕ → Type 0
-  BehindOptions out o mid = Ahead whole out (flagsPart ++ restPart) o mid
+  abbrev pub AfterOptions : List ℕ → ℕ → List ℕ → Type 0
+  AfterOptions out o mid = Ahead whole out (flagsPart ++ restPart) o mid
 
-  abbrev pub BehindFlags : List ℕ → ℕ → List ℕ → Type 0
-  BehindFlags out o mid = Ahead whole out restPart o mid
+  abbrev pub AfterFlags : List ℕ → ℕ → List ℕ → Type 0
+  AfterFlags out o mid = Ahead whole out restPart o mid
 
   -- each part fits into the rest that is lent, and once it is written what is after it is ahead
   module _ (out : List ℕ) (fits : length whole ≤ length out) where
-    pub path-written : (o : ℕ) (left : List ℕ) → Written pathPart out o left → BehindPath out o left
+    pub path-written : (o : ℕ) (left : List ℕ) → Written pathPart out o left → AfterPath out o left
     unfolding reportOf
     path-written o left w = ahead-first whole out fits pathPart (optionsPart ++ (flagsPart ++ restPart)) o left refl w
 
     module _ (o : ℕ) (mid : List ℕ) where
-      pub options-lent : BehindPath out o mid → length optionsPart ≤ length (take (length mid - o) (drop o mid))
+      pub options-lent : AfterPath out o mid → length optionsPart ≤ length (take (length mid - o) (drop o mid))
       options-lent a = ahead-lent whole out _ optionsPart (flagsPart ++ restPart) o mid a refl fits
 
-      pub options-written : BehindPath out o mid → (n : ℕ) (left : List ℕ) → Written optionsPart (take (length mid - o) (drop o mid)) n left
-          → BehindOptions out (o + n) (putMid o (length mid - o) mid left)
+      pub options-written : AfterPath out o mid → (n : ℕ) (left : List ℕ) → Written optionsPart (take (length mid - o) (drop o mid)) n left
+          → AfterOptions out (o + n) (putMid o (length mid - o) mid left)
       options-written a n left w = ahead-turn whole out _ optionsPart (flagsPart ++ restPart) o mid a refl fits n left w
 
-      pub flags-lent : BehindOptions out o mid → length flagsPart ≤ length (take (length mid - o) (drop o mid))
+      pub flags-lent : AfterOptions out o mid → length flagsPart ≤ length (take (length mid - o) (drop o mid))
       flags-lent a = ahead-lent whole out _ flagsPart restPart o mid a refl fits
 
-      pub flags-written : BehindOptions out o mid → (n : ℕ) (left : List ℕ) → Written flagsPart (take (length mid - o) (drop o mid)) n left
-          → BehindFlags out (o + n) (putMid o (length mid - o) mid left)
+      pub flags-written : AfterOptions out o mid → (n : ℕ) (left : List ℕ) → Written flagsPart (take (length mid - o) (drop o mid)) n left
+          → AfterFlags out (o + n) (putMid o (length mid - o) mid left)
       flags-written a n left w = ahead-turn whole out _ flagsPart restPart o mid a refl fits n left w
 
-      pub rest-lent : BehindFlags out o mid → length restPart ≤ length (take (length mid - o) (drop o mid))
+      pub rest-lent : AfterFlags out o mid → length restPart ≤ length (take (length mid - o) (drop o mid))
       rest-lent a = last-lent whole out fits restPart o mid a
 
-      pub rest-written : BehindFlags out o mid → (n : ℕ) (left : List ℕ) → Written restPart (take (length mid - o) (drop o mid)) n left
+      pub rest-written : AfterFlags out o mid → (n : ℕ) (left : List ℕ) → Written restPart (take (length mid - o) (drop o mid)) n left
           → putMid o (length mid - o) mid left ≡ over whole out
       rest-written a n left w = ahead-last whole out fits restPart o mid a n left w .bytes

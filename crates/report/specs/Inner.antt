@@ -1,4 +1,5 @@
 -- What only contracts of inner calls cite: a report of what the code holds, the frame of a pair, the text of a fault in its parts, and what writing either answers and leaves.
+-- (STANDARD 8.6, 8.7; 9 of 10.1)
 use Prim.Native.Nat.{ℕ}
 use mathlib.Core.Path.{_≡_}
 use mathlib.Core.Bool.{Bool, true, false, cond}
@@ -22,11 +23,11 @@ abbrev pub pairFrame : Bool → List ℕ × List ℕ → List ℕ
 pairFrame true = optionFrame
 pairFrame false = flagFrame
 
--- what a fault tells of a word: the dashes `-` of its form, and a part of it
+-- what a fault tells of a word: the dashes `-` of its form, and a part of it (8.6)
 unfoldable pub dashed : ℕ → List ℕ → List ℕ
 dashed dashes part = replicate dashes 0x2D ++ part
 
--- the answer for frames and a buffer of `room` bytes
+-- the answer for frames and a buffer of `room` bytes (8.7)
 unfoldable pub reportAnswer : List ℕ → ℕ → Reported
 reportAnswer frames room = cond (ltb room (length frames)) (NoRoom (length frames)) (Report (length frames))
 
@@ -35,6 +36,7 @@ abbrev pub leavesBy : Reported → List ℕ → List ℕ → List ℕ
 leavesBy (Report n) frames out = over frames out
 leavesBy (NoRoom n) frames out = out
 
+-- (8.7)
 unfoldable pub reportLeaves : List ℕ → List ℕ → List ℕ
 reportLeaves frames out = leavesBy (reportAnswer frames (length out)) frames out
 

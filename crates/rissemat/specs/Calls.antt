@@ -1,4 +1,5 @@
 -- What each call gives back: the answer of the call that it wraps, by its number and its value, and what that leaves in each lent buffer.
+-- (STANDARD 10.21)
 use Prim.Native.Nat.{ℕ}
 use mathlib.Core.Path.{_≡_}
 use mathlib.Core.Bool.{cond}
@@ -37,6 +38,7 @@ pub record FreshCall (state slots : List ℕ) (r : ℕ) (state′ slots′ : Lis
   pub held : slots′ ≡ cond (isReady (beginAnswer (length state) (length slots))) (journalSlots noEntries) slots
 
 -- a key has three kinds of answer: 1 at Enter, with the length of the line that is submitted as second value; 2 when the byte was dropped; 0 otherwise
+-- (10.21)
 unfoldable pub keyTold : Pressed → ℕ
 keyTold told = answered (keyNumber told) (keyValue told) (keyKind told) (keyBeside told)
 
@@ -68,7 +70,7 @@ pub record HelpCall (image line out : List ℕ) (r : ℕ) (left : List ℕ) : Ty
   pub bytes : left ≡ helpLeaves image line out
 
 -- running a line has three kinds of answer beside nothing, 0: 1 a text, 2 the end, 3 a handler. The number beside a text stands where a refusal's
--- does, and a handler is the second value
+-- does, and a handler is the second value (10.21)
 unfoldable pub runTold : Ran → ℕ
 runTold told =
     answered (cond (eqb (runKind told) 1) (beside told) (runNumber told)) (runValue told) (runKind told) (cond (eqb (runKind told) 3) (beside told) 0)

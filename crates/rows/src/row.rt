@@ -139,8 +139,8 @@ fn put_node(
 {
     let label = put(indent, out, at);
     let end = put(name, out, label);
-    let behind = put_note(name.len(), width, note, out, end);
-    put(b"\n", out, behind)
+    let beyond = put_note(name.len(), width, note, out, end);
+    put(b"\n", out, beyond)
 }
 
 // What a node gives in each list.

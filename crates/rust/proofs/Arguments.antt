@@ -161,9 +161,9 @@ equals-at (b ∷ k) = by (eqb b 0x3D) (ltb (beforeEquals k) (length k)) refl (eq
 
 module _ (t : Tree) (value : Option (List ℕ)) (f : Found) where
   -- what stands after `--`
-  same-behind : (token k : List ℕ) → long (nodeOf t) (argsOf f) value k ≡ turnBy value (formStep put (t .definitions) f token (longForm k))
+  same-after : (token k : List ℕ) → long (nodeOf t) (argsOf f) value k ≡ turnBy value (formStep put (t .definitions) f token (longForm k))
   unfolding long longForm
-  same-behind token k = rw (equals-at k) (by (ltb (beforeEquals k) (length k)))
+  same-after token k = rw (equals-at k) (by (ltb (beforeEquals k) (length k)))
     where
       by : (b : Bool)
           → ifSome (cond b (some (beforeEquals k)) none) (λ at. optionValue (nodeOf t) (argsOf f) (take at k) (drop 1 (drop at k))) (longName (nodeOf t) (argsOf f) k value)
@@ -196,7 +196,7 @@ module _ (t : Tree) (value : Option (List ℕ)) (f : Found) where
           → ifSome (cond p (cond q (some rest) none) none) (long (nodeOf t) (argsOf f) value)
           (cond (cond (cond p true false) true false) (shortNames (nodeOf t) (argsOf f) value (codesIn (b ∷ rest))) (next (withPositional (argsOf f) (a ∷ b ∷ rest))))
           ≡ turnBy value (formStep put (t .definitions) f (a ∷ b ∷ rest) (cond p (cond q (longForm rest) (shorts (b ∷ rest))) positional))
-      by true true = same-behind (a ∷ b ∷ rest) rest
+      by true true = same-after (a ∷ b ∷ rest) rest
       by true false = same-shorts t value f (codesIn (b ∷ rest))
       by false q = same-positional (a ∷ b ∷ rest)
 

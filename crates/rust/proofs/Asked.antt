@@ -18,7 +18,7 @@ use Rattle.message.specs.Debug.{debugBytes}
 use Rattle.shell.specs.Lines.{beginsHelp, helpWords}
 use Rattle.rust.specs.Shell.{debugChars}
 use Rattle.rust.specs.Same.{allPrinted}
-use Rattle.rust.proofs.Plain.{codes-behind}
+use Rattle.rust.proofs.Plain.{codes-after}
 use Rattle.rust.proofs.Escapes.{chars-same}
 
 -- what holds of each of several words
@@ -37,12 +37,12 @@ pieces-are (c ∷ codes) (more h hs) =
 
 help-codes : (t : List ℕ) → codesIn (ascii "help " ++ t) ≡ ascii "help " ++ codesIn t
 unfolding ascii
-help-codes t = codes-behind (ascii "help ") t (omega arith, (omega arith, (omega arith, (omega arith, (omega arith, tt)))))
+help-codes t = codes-after (ascii "help ") t (omega arith, (omega arith, (omega arith, (omega arith, (omega arith, tt)))))
 
 -- what stands after `help ` in a well-formed line, by its characters
-help-behind : (line : List ℕ) → encodeAll (codesIn line) ≡ line → codesIn line ≡ ascii "help " ++ codesIn (drop 5 line) → drop 5 line ≡ encodeAll (codesIn (drop 5 line))
+help-after : (line : List ℕ) → encodeAll (codesIn line) ≡ line → codesIn line ≡ ascii "help " ++ codesIn (drop 5 line) → drop 5 line ≡ encodeAll (codesIn (drop 5 line))
 unfolding ascii encode encodeAll
-help-behind line w e = sym (ap (drop 5) w) ∙ ap (λ (codes : List ℕ). drop 5 (encodeAll codes)) e
+help-after line w e = sym (ap (drop 5) w) ∙ ap (λ (codes : List ℕ). drop 5 (encodeAll codes)) e
 
 -- a text that is its characters
 abbrev pub Whole : List ℕ → Type 0
@@ -59,9 +59,9 @@ scalars-both : (a b : List ℕ) → Scalars a → Scalars b → Scalars (a ++ b)
 scalars-both [] b none y = y
 scalars-both (c ∷ a) b (more h hs) y = more h (scalars-both a b hs y)
 
-scalars-behind : (a b : List ℕ) → Scalars (a ++ b) → Scalars b
-scalars-behind [] b x = x
-scalars-behind (c ∷ a) b (more h hs) = scalars-behind a b hs
+scalars-after : (a b : List ℕ) → Scalars (a ++ b) → Scalars b
+scalars-after [] b x = x
+scalars-after (c ∷ a) b (more h hs) = scalars-after a b hs
 
 bytes-are : (codes : List ℕ) → bytesAll (map character codes) ≡ encodeAll codes
 unfolding bytesAll encodeAll
@@ -102,4 +102,4 @@ help-whole line w b =
     let whole : line ≡ ascii "help " ++ drop 5 line = sym (take-append-drop 5 line) ∙ ap (λ (s : List ℕ). s ++ drop 5 line) (same-is (take 5 line) (ascii "help ") b) in
     let codes : codesIn line ≡ ascii "help " ++ codesIn (drop 5 line) = ap codesIn whole ∙ help-codes (drop 5 line) in
     let scalars = codes-scalars line in
-    rw (help-behind line (codes-whole line w) codes) (between-whole (codesIn (drop 5 line)) (scalars-behind (ascii "help ") (codesIn (drop 5 line)) (rw codes at scalars)))
+    rw (help-after line (codes-whole line w) codes) (between-whole (codesIn (drop 5 line)) (scalars-after (ascii "help ") (codesIn (drop 5 line)) (rw codes at scalars)))

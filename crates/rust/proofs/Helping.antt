@@ -51,8 +51,8 @@ about-is w words description u =
 -- ITS LISTS
 module _ (d : ℕ) (t : Tree) (fine : Fine d t) where
   -- the frames after the node
-  abbrev behind : List Frame
-  behind = t .definitions ++ flatten (suc d) (t .below)
+  abbrev beyond : List Frame
+  beyond = t .definitions ++ flatten (suc d) (t .below)
 
   -- what the Rust prints of each list
   abbrev optionList : List ℕ
@@ -64,23 +64,23 @@ module _ (d : ℕ) (t : Tree) (fine : Fine d t) where
   abbrev nodeList : List ℕ
   nodeList = cond (noNodes (commandsOf (t .below))) [] (println (ascii "\nSubcommands:") ++ forEachNode (nodeLine (ascii "  ") 20) (commandsOf (t .below)))
 
-  options-are : titled (ascii "\nOptions:\n") (rows Options behind) ≡ optionList
+  options-are : titled (ascii "\nOptions:\n") (rows Options beyond) ≡ optionList
   unfolding println ascii
   options-are =
       ap (titled (ascii "\nOptions:\n")) (options-listed (t .definitions) (suc d) (t .below) (fine-rules d t fine .only))
       ∙ titled-each OptionDef optionLine (ascii "\nOptions:\n") (optionDefs (t .definitions)) option-some
 
-  flags-are : titled (ascii "\nFlags:\n") (rows Flags behind) ≡ flagList
+  flags-are : titled (ascii "\nFlags:\n") (rows Flags beyond) ≡ flagList
   unfolding println ascii
   flags-are =
       ap (titled (ascii "\nFlags:\n")) (flags-listed (t .definitions) (suc d) (t .below) (fine-rules d t fine .only))
       ∙ titled-each FlagDef flagLine (ascii "\nFlags:\n") (flagDefs (t .definitions)) flag-some
 
-  subcommands-are : titled (ascii "\nSubcommands:\n") (rows (Subcommands (d + 1)) behind) ≡ nodeList
+  subcommands-are : titled (ascii "\nSubcommands:\n") (rows (Subcommands (d + 1)) beyond) ≡ nodeList
   unfolding println ascii
   subcommands-are =
       let e : d + 1 ≡ suc d = omega arith in
-      ap (λ (n : ℕ). titled (ascii "\nSubcommands:\n") (rows (Subcommands n) behind)) e
+      ap (λ (n : ℕ). titled (ascii "\nSubcommands:\n") (rows (Subcommands n) beyond)) e
       ∙ ap (titled (ascii "\nSubcommands:\n")) (subcommands-listed (t .definitions) (t .below) (suc d) (fine-rules d t fine .only) (fine-rules d t fine .deeper))
       ∙ titled-nodes (nodeLine (ascii "  ") 20) (ascii "\nSubcommands:\n") (commandsOf (t .below)) node-some
 

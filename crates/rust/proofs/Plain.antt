@@ -39,12 +39,12 @@ first-plain : (b : ℕ) (t : List ℕ) → b < 0x80 → codesIn (b ∷ t) ≡ b 
 unfolding decodeFirst
 first-plain b t h = codes-step (b ∷ t) b 1 (row-ascii b (getD t 0 0) (getD t 1 0) (getD t 2 0) h)
 
-pub codes-behind : (s t : List ℕ) → Plain s → codesIn (s ++ t) ≡ s ++ codesIn t
-codes-behind [] t p = refl
-codes-behind (b ∷ s) t p = first-plain b (s ++ t) (p .0) ∙ ap (λ (l : List ℕ). b ∷ l) (codes-behind s t (p .1))
+pub codes-after : (s t : List ℕ) → Plain s → codesIn (s ++ t) ≡ s ++ codesIn t
+codes-after [] t p = refl
+codes-after (b ∷ s) t p = first-plain b (s ++ t) (p .0) ∙ ap (λ (l : List ℕ). b ∷ l) (codes-after s t (p .1))
 
 codes-plain : (t : List ℕ) → Plain t → codesIn t ≡ t
-codes-plain t p = ap codesIn (sym (append-nil t)) ∙ codes-behind t [] p ∙ ap (λ (l : List ℕ). t ++ l) codes-none ∙ append-nil t
+codes-plain t p = ap codesIn (sym (append-nil t)) ∙ codes-after t [] p ∙ ap (λ (l : List ℕ). t ++ l) codes-none ∙ append-nil t
 
 -- what is shown is plain
 shown-plain : (low b : ℕ) → isShown low b ≡ true → b < 0x80

@@ -54,8 +54,8 @@ lost-told P v (w ∷ words) d frames each e = by (subtree d w frames) (λ below.
     by (g ∷ l) more q = more (g ∷ l) q
 
 -- the Rust's line on an unknown word
-error-bracketed : (e u before t behind end : List ℕ) → e ++ (u ++ before ++ t ++ behind) ++ end ≡ e ++ u ++ before ++ t ++ (behind ++ end)
-error-bracketed e u before t behind end = simp append-assoc
+error-bracketed : (e u before t beyond end : List ℕ) → e ++ (u ++ before ++ t ++ beyond) ++ end ≡ e ++ u ++ before ++ t ++ (beyond ++ end)
+error-bracketed e u before t beyond end = simp append-assoc
 
 error-is : (printable : ℕ → Bool) (v : List ℕ) → AsIs printable v → println (ascii "Error: " ++ debugError printable (UnknownCommand v)) ≡ unknownHelp v
 unfolding println debugError unknownHelp ascii

@@ -21,7 +21,7 @@ use Rattle.editor.specs.Answer.{stateOf, editorOf, historyOf, goodState}
 use Rattle.editor.proofs.Fine.{Fine, fine-of, turn-fine}
 use Rattle.editor.proofs.Called.{held-state}
 use Rattle.session.specs.Prints.{Printed, shown, prompt, answered, leaves, turnPrints, keyPrints, turnEnds, keyEnds}
-use Rattle.session.specs.Lines.{Standing, inState, Course, behind, pressKey, pressKeys}
+use Rattle.session.specs.Lines.{Standing, inState, Course, preceded, pressKey, pressKeys}
 use Rattle.session.specs.Calls.{imageOf, isEnter, treeBefore, Laid, PressingKey}
 use Rattle.session.specs.Sizes.{keyRoom}
 use Rattle.session.specs.declared.running.Printing.{Printing}
@@ -180,13 +180,13 @@ module _ (printable : ℕ → Bool) (tree : Commands) where
 
   -- a turn, and those after it if the process goes on
   course-both : (first : Loop) (course : Course) (rest : Loop) (more : Course) → course .prints ≡ printedBy printable tree (first .events) → course .ends ≡ endedBy printable tree (first .events)
-      → (course .ends ≡ false → CourseAs printable tree rest more) → CourseAs printable tree (turned (rest .after) (first .events ++ rest .events)) (cond (course .ends) course (behind (course .prints) more))
+      → (course .ends ≡ false → CourseAs printable tree rest more) → CourseAs printable tree (turned (rest .after) (first .events ++ rest .events)) (cond (course .ends) course (preceded (course .prints) more))
   course-both first course rest more p q k = by (course .ends) refl
     where
       whole : cond (course .ends) (course .prints) (course .prints ++ more .prints) ≡ printedBy printable tree (first .events ++ rest .events)
       whole = both-printed (first .events) (rest .events) (course .prints) (more .prints) (course .ends) p q (λ n. k n .prints)
 
-      by : (b : Bool) → course .ends ≡ b → CourseAs printable tree (turned (rest .after) (first .events ++ rest .events)) (cond b course (behind (course .prints) more))
+      by : (b : Bool) → course .ends ≡ b → CourseAs printable tree (turned (rest .after) (first .events ++ rest .events)) (cond b course (preceded (course .prints) more))
       by true e =
           record {
             prints = sym (then-is _ _ _ e) ∙ whole;

@@ -1,4 +1,5 @@
 -- The Rust's builders, and `build_base_cmd` (docs/src/src/shell/command/base.rs), statement by statement in its order, with and without the feature fs.
+-- (STANDARD 6.22, 9.1, 9.6, 9.7, 12.2)
 use Prim.Native.Nat.{ℕ, zero, suc}
 use Prim.Native.Char.{Char, code}
 use Prim.Native.String.{String}

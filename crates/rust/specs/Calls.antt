@@ -1,4 +1,5 @@
 -- What the calls answer and leave, said by what the Rust does: the bytes that are written, the number of the standard beside them, and 9 where they don't fit.
+-- (STANDARD 2.9)
 use Prim.Native.Nat.{ℕ, _<_, _≤_}
 use mathlib.Core.Path.{_≡_}
 use mathlib.Core.Bool.{Bool}
@@ -41,7 +42,7 @@ resultNumber (ok a) = 0
 resultNumber (err e) = errorNumber e
 
 -- KEY: one turn of the loop. The call shows the bytes that the loop writes first and gives back the line that it runs, so that a caller who writes those, runs the line and
--- writes the prompt after Enter does what the loop does, in its order. Where the loop does nothing the answer may be dropped.
+-- writes the prompt after Enter does what the loop does, in its order. Where the loop does nothing the answer may be dropped (2.9).
 abbrev pub ToldAs : List ℕ → List Event → Pressed → Type 0
 ToldAs prompt events (Shown n) = (n ≡ length (firstBytes events)) × (events ≡ written (firstBytes events))
 ToldAs prompt events (Entered n) = (n ≡ length (lineRun events)) × (events ≡ atEnter prompt (firstBytes events) (lineRun events))

@@ -1,4 +1,4 @@
--- The Rust's `show_help` and `show_available_commands` on values: what they print.
+-- The Rust's `show_help` and `show_available_commands` on values: what they print (STANDARD 6.22, 9.1, 9.6, 9.7, 12.2).
 use Prim.Native.Nat.{ℕ}
 use mathlib.Core.Bool.{Bool, true, false, cond}
 use mathlib.Core.List.{List, [], _∷_, _++_}

@@ -1,4 +1,5 @@
 -- The Rust's history and its redraw (docs/src/src/shell/command/history.rs) as functions on values: a `Vec<String>` is a list of texts, a `String` its bytes.
+-- (STANDARD 2.19, 3.4, 3.8, 3.9, 12.2)
 use Prim.Native.Nat.{ℕ, _+_, _-_}
 use mathlib.Core.Bool.{Bool, false, cond, not}
 use mathlib.Core.List.{List, [], _∷_, _++_}
@@ -37,7 +38,7 @@ pushed size es cmd = cond (leb size (length es)) (drop 1 es) es ++ (cmd ∷ [])
 unfoldable pub kept : ℕ → List (List ℕ) → List ℕ → List (List ℕ)
 kept size es cmd = cond (not (isEmpty (trim cmd))) (cond (not (isSome (last es) cmd)) (pushed size es cmd) es) es
 
--- pub fn add_command(&mut self, cmd: String): .. self.current_index = self.history.len();
+-- pub fn add_command(&mut self, cmd: String): .. self.current_index = self.history.len(); (3.4)
 unfoldable pub addCommand : CommandHistory → List ℕ → CommandHistory
 addCommand h cmd =
     record { history = kept (h .size) (h .history) cmd; index = length (kept (h .size) (h .history) cmd); size = h .size }
@@ -50,13 +51,13 @@ pub record Stepped : Type 0 where
 abbrev pub at : CommandHistory → ℕ → CommandHistory
 at h i = record { history = h .history; index = i; size = h .size }
 
--- pub fn previous(&mut self) -> Option<&String>
+-- pub fn previous(&mut self) -> Option<&String> (3.8)
 unfoldable pub previous : CommandHistory → Stepped
 previous h =
     cond (ltb 0 (h .index)) (record { after = at h (h .index - 1); text = getElem? (h .history) (h .index - 1) })
     (record { after = h; text = none })
 
--- pub fn next(&mut self) -> Option<&String>
+-- pub fn next(&mut self) -> Option<&String> (3.9)
 unfoldable pub next : CommandHistory → Stepped
 next h =
     cond (ltb (h .index) (length (h .history)))
@@ -66,7 +67,7 @@ next h =
     })
     (record { after = h; text = none })
 
--- pub fn clear_line_and_redraw(stdout, prompt, content, cursor_pos): the bytes that it writes
+-- pub fn clear_line_and_redraw(stdout, prompt, content, cursor_pos): the bytes that it writes (2.19)
 unfoldable pub clearLineAndRedraw : List ℕ → List ℕ → ℕ → List ℕ
 clearLineAndRedraw prompt text cursor =
     0x0D ∷ 0x1B ∷ 0x5B ∷ 0x32 ∷ 0x4B

@@ -1,5 +1,5 @@
 -- The Rust's loop (docs/src/src/shell/mod.rs) as a function on values: what one key writes and runs, in the loop's order, and what it leaves.
--- `buf[..line_len]` is a list, and a `String` its bytes.
+-- `buf[..line_len]` is a list, and a `String` its bytes (STANDARD 2.5, 2.8, 2.9, 12.2).
 use Prim.Native.Nat.{ℕ, _+_, _-_, min}
 use mathlib.Core.Bool.{cond}
 use mathlib.Core.List.{List, [], _∷_, _++_}
@@ -46,7 +46,7 @@ lineRun [] = []
 lineRun (writes bytes ∷ events) = lineRun events
 lineRun (runs cmd bytes ∷ events) = bytes
 
--- #[cfg(not(feature = "fs"))] let prompt = "axvisor:$ ".to_string(); with `fs` the current directory stands in it
+-- #[cfg(not(feature = "fs"))] let prompt = "axvisor:$ ".to_string(); with `fs` the current directory stands in it (2.5)
 unfoldable pub promptWithoutFs : List ℕ
 promptWithoutFs = ascii "axvisor:$ "
 
@@ -56,6 +56,7 @@ withBuf sh buf cursor = record { buf = buf; cursor = cursor; input = Normal; his
 
 -- CR | LF: println!(); if line_len > 0 { let cmd_str = std::str::from_utf8(&buf[..line_len]).unwrap_or(""); history.add_command(cmd_str.to_string());
 -- if !handle_builtin_commands(cmd_str) { run_cmd_bytes(&buf[..line_len]); } buf[..line_len].fill(0); cursor = 0; line_len = 0; } print_prompt();
+-- (2.8, 2.9)
 unfoldable pub crlf : List ℕ → Shell → Loop
 crlf prompt sh =
     cond (ltb 0 (length (sh .buf)))

@@ -1,4 +1,4 @@
--- The Rust's `CommandParser` on values.
+-- The Rust's `CommandParser` on values (STANDARD 6.22, 9.1, 9.6, 9.7, 12.2).
 use Prim.Native.Nat.{ℕ, suc}
 use mathlib.Core.Bool.{Bool, true, false, cond, not}
 use mathlib.Core.List.{List, [], _∷_, _++_}

@@ -1,4 +1,4 @@
--- Our answers as the Rust would give them: what the laws of this crate equate.
+-- Our answers as the Rust would give them: what the laws of this crate equate (STANDARD 9.6).
 use Prim.Native.Nat.{ℕ}
 use mathlib.Core.Path.{_≡_}
 use mathlib.Core.Bool.{Bool, true, cond}
@@ -134,9 +134,10 @@ wordIn (some (ok bytes)) = []
 wordIn (some (err e)) = textIn e
 wordIn none = []
 
+-- (9.6)
 unfoldable pub debugged : Commands → List ℕ → List ℕ
 debugged tree input = cond (startsWith (ascii "help ") input) (wordIn (showHelp tree (splitWhitespace (drop 5 input)))) []
 
--- that word of a line is one whose characters are printed as they are
+-- that word of a line is one whose characters are printed as they are (9.6)
 abbrev pub QuotedAsIs : (ℕ → Bool) → Commands → List ℕ → Type 0
 QuotedAsIs printable tree line = allPrinted printable (codesIn (debugged tree (utf8OrEmpty line))) ≡ true

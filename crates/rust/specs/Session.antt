@@ -1,5 +1,5 @@
 -- What a session prints of the loop's events: bytes that are written are a frame 22; a line that is run is what it comes to, its output in a 22, its handler's call in a 21, the end in
--- a 23 after its output, and nothing comes after that.
+-- a 23 after its output, and nothing comes after that (STANDARD 2.9).
 use Prim.Native.Nat.{ℕ}
 use mathlib.Core.Path.{_≡_}
 use mathlib.Core.Bool.{Bool, true, false}

@@ -1,4 +1,4 @@
--- The Rust's `run_cmd_bytes`, `execute_command` and `handle_builtin_commands` on values: what they print, call and end.
+-- The Rust's `run_cmd_bytes`, `execute_command` and `handle_builtin_commands` on values: what they print, call and end (STANDARD 9.1, 9.6).
 use Prim.Native.Nat.{ℕ, zero, suc, _/_, _%_}
 use mathlib.Core.Bool.{Bool, true, false, cond}
 use mathlib.Core.List.{List, [], _∷_, _++_}
@@ -56,7 +56,7 @@ executed tree (err e) = failed e
 unfoldable pub executeCommand : Commands → List ℕ → Effect
 executeCommand tree input = executed tree (parse tree input)
 
--- pub fn run_cmd_bytes(cmd_bytes: &[u8])
+-- pub fn run_cmd_bytes(cmd_bytes: &[u8]) (9.1)
 unfoldable pub runCmdBytes : Commands → List ℕ → Effect
 runCmdBytes tree bytes =
     cond (isUtf8 bytes) (cond (isEmpty (trim bytes)) returns (executeCommand tree (trim bytes)))
@@ -74,6 +74,7 @@ escapeUnicode c = ascii "\\u{" ++ hexIn 6 c ++ ascii "}"
 unfoldable pub isPrintable : (ℕ → Bool) → ℕ → Bool
 isPrintable printable c = cond (ltb c 0x20) false (cond (ltb c 0x7f) true (cond (eqb c 0x7f) false (printable c)))
 
+-- (9.6)
 unfoldable pub escapeDebug : (ℕ → Bool) → ℕ → List ℕ
 escapeDebug printable c =
     cond (eqb c 0x00) (ascii "\\0")
@@ -112,7 +113,7 @@ abbrev pub helped : (ℕ → Bool) → Result (List ℕ) → Effect
 helped printable (ok text) = prints text
 helped printable (err e) = fails e (println (ascii "Error: " ++ debugError printable e))
 
--- pub fn handle_builtin_commands(input: &str) -> bool: what it does where it answers true, none where it answers false
+-- pub fn handle_builtin_commands(input: &str) -> bool: what it does where it answers true, none where it answers false (9.1)
 unfoldable pub handleBuiltinCommands : (ℕ → Bool) → Commands → List ℕ → Option Effect
 handleBuiltinCommands printable tree input =
     cond (sameBytes (trim input) (ascii "help")) (some (prints (showAvailableCommands tree)))

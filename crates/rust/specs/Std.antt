@@ -1,5 +1,5 @@
 -- What the Rust takes from its std, on values: a `String` and a `&str` are their bytes, a `char` its code. What our definitions take from std too has one definition for both sides, and
--- stands here under the Rust's name; promises (SameAsRust, "what both sides share") has the law of each.
+-- stands here under the Rust's name; promises (SameAsRust, "what both sides share") has the law of each (STANDARD 1.3 to 1.10, 2.18, 12.2).
 use Prim.Native.Nat.{ℕ, _-_}
 use mathlib.Core.Bool.{Bool, true, false, cond, not}
 use mathlib.Core.List.{List, [], _∷_, _++_}
@@ -34,7 +34,7 @@ isEmpty (x ∷ l) = false
 unfoldable pub isUtf8 : List ℕ → Bool
 isUtf8 bytes = not (isIllFormed bytes)
 
--- str::from_utf8(bytes).unwrap_or("")
+-- str::from_utf8(bytes).unwrap_or("") (2.18)
 unfoldable pub utf8OrEmpty : List ℕ → List ℕ
 utf8OrEmpty bytes = cond (isUtf8 bytes) bytes []
 

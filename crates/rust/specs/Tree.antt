@@ -1,5 +1,5 @@
 -- The Rust's command tree as values, and the tree that an image stands for. A `String` is its bytes, a `char` its code, a `Vec` a list, a function pointer its
--- handler's number, and a `BTreeMap` its keys with their values, by rising keys.
+-- handler's number, and a `BTreeMap` its keys with their values, by rising keys (STANDARD 6.22, 9.1, 9.6, 9.7, 12.2).
 use Prim.Native.Nat.{ℕ}
 use mathlib.Core.Bool.{Bool, cond}
 use mathlib.Core.List.{List, [], _∷_}

@@ -117,17 +117,17 @@ decimal-lead = by-digits (λ n. 0 < n → 0x30 < getD (decimal n) 0 0) (λ n h p
         rw (decimal-more n h, List·getD-append (decimal (n / 10)) ((0x30 + n % 10) ∷ []) 0 0 (decimal-some (n / 10))) (k (omega arith))
 
 -- NO OTHER digits without a leading zero have this value
-behind : (v : ℕ) (s : List ℕ) → 0 < v → Digits s → decimal (valueAfter v s) ≡ decimal v ++ s
+beyond : (v : ℕ) (s : List ℕ) → 0 < v → Digits s → decimal (valueAfter v s) ≡ decimal v ++ s
 unfolding valueAfter
-behind v [] h d = sym (append-nil (decimal v))
-behind v (x ∷ s) h d =
+beyond v [] h d = sym (append-nil (decimal v))
+beyond v (x ∷ s) h d =
     let w : ℕ = v * 10 + (x - 0x30) in
     let last : decimal w ≡ decimal v ++ (x ∷ []) =
     decimal-more w (omega arith)
     ∙ ap (λ (n : ℕ). decimal n ++ ((0x30 + w % 10) ∷ [])) (tenth v x (d .0))
     ∙ ap (λ (n : ℕ). decimal v ++ (n ∷ [])) (lastDigit v x (d .0))
     in
-    behind w s (omega arith) (d .1)
+    beyond w s (omega arith) (d .1)
     ∙ ap (λ (l : List ℕ). l ++ s) last
     ∙ append-assoc (decimal v) (x ∷ []) s
   where
@@ -143,7 +143,7 @@ decimal-only d s h k =
     let first : 0 * 10 + (d - 0x30) ≡ d - 0x30 = omega arith in
     let back : 0x30 + (d - 0x30) ≡ d = omega arith in
     ap (λ (v : ℕ). decimal (valueAfter v s)) first
-    ∙ behind (d - 0x30) s (omega arith) (k .1)
+    ∙ beyond (d - 0x30) s (omega arith) (k .1)
     ∙ ap (λ (l : List ℕ). l ++ s) (decimal-one (d - 0x30) (omega arith) ∙ ap (λ (n : ℕ). n ∷ []) back)
 
 -- the digits written one after the other

@@ -10,24 +10,24 @@ use Rattle.screen.specs.Decimal.{decimal}
 use Rattle.screen.specs.declared.line.Redrawn.{Redrawn}
 use Rattle.screen.specs.declared.line.Redrawn.the-variants.{Shown, NoRoom}
 
--- CR, then ESC `[2K`: the cursor goes to the left, and the line is cleared
+-- CR, then ESC `[2K`: the cursor goes to the left, and the line is cleared (2.19)
 abbrev pub clearLine : List ℕ
 clearLine = 0x0D ∷ 0x1B ∷ 0x5B ∷ 0x32 ∷ 0x4B ∷ []
 
--- ESC `[`nD: the cursor goes n places back; nothing for none
+-- ESC `[`nD: the cursor goes n places back; nothing for none (2.19)
 unfoldable pub moveBack : ℕ → List ℕ
 moveBack zero = []
 moveBack (suc n) = 0x1B ∷ 0x5B ∷ (decimal (suc n) ++ (0x44 ∷ []))
 
--- the bytes of a redraw; a cursor at the content's end or past it has nothing after it
+-- the bytes of a redraw; a cursor at the content's end or past it has nothing after it (2.19, 2.21)
 unfoldable pub redraw : List ℕ → List ℕ → ℕ → List ℕ
 redraw prompt content cursor = clearLine ++ (prompt ++ (content ++ moveBack (length content - cursor)))
 
--- the greatest number of 64 bits: a length needed that is above it is given as this one
+-- the greatest number of 64 bits: a length needed that is above it is given as this one (10.18)
 abbrev pub greatestNumber : ℕ
 greatestNumber = 0xFFFFFFFFFFFFFFFF
 
--- the answer for n bytes and a buffer of `room` bytes
+-- the answer for n bytes and a buffer of `room` bytes (10.18)
 unfoldable pub roomAnswer : ℕ → ℕ → Redrawn
 roomAnswer n room = cond (ltb room n) (NoRoom (min n greatestNumber)) (Shown n)
 

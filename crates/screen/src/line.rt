@@ -18,7 +18,7 @@ pub enum Redrawn {
 }
 
 // How many places after the cursor the content ends.
-fn behind(content: &[u8], cursor: usize) -> usize
+fn beyond(content: &[u8], cursor: usize) -> usize
     ensures { λ r. ⌜ r ≡ length (now (content .entry)) - cursor ⌝ }
 {
     if cursor < content.len() {
@@ -42,7 +42,7 @@ fn redraw_size(prompt: &[u8], content: &[u8], cursor: usize) -> usize
     ensures { λ r. ⌜ r ≡ min (length (redraw (now (prompt .entry)) (now (content .entry)) cursor)) greatestNumber ⌝ }
 {
     let texts = prompt.len() + content.len();
-    let rest = move_size(behind(content, cursor)) + 5;
+    let rest = move_size(beyond(content, cursor)) + 5;
     if 0xFFFFFFFFFFFFFFFF - rest < texts {
         return 0xFFFFFFFFFFFFFFFF;
     }
@@ -78,6 +78,6 @@ pub fn clear_line_and_redraw(
     let start = push(b"\r\x1b[2K", out, 0);
     let text = push(prompt, out, start);
     let end = push(content, out, text);
-    push_move(behind(content, cursor), out, end);
+    push_move(beyond(content, cursor), out, end);
     Redrawn::Shown(needed)
 }

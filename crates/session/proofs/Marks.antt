@@ -42,5 +42,5 @@ module _ (s e : List ℕ) (k size : ℕ) (full : length s ≡ size) (h : k + 1 �
       ∙ getD-take (k + 1) marked k 0 (omega arith)
       ∙ getD-set-same s k 0x22 0 (omega arith)
 
-  pub returned-behind : drop (k + 1) returned ≡ e
-  returned-behind = ap (λ (x : List ℕ). drop (k + 1) x) returned-is ∙ drop-at (take (k + 1) marked) e (k + 1) front-size
+  pub returned-after : drop (k + 1) returned ≡ e
+  returned-after = ap (λ (x : List ℕ). drop (k + 1) x) returned-is ∙ drop-at (take (k + 1) marked) e (k + 1) front-size

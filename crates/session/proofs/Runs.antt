@@ -27,7 +27,7 @@ use Rattle.shell.proofs.answer.Ran.{the-type}
 use Rattle.session.specs.Prints.{Printed, handler, exit, wide, frameOf, linesOf, shown, prompt, answered, leaves}
 use Rattle.session.specs.Inner.{Fits, Says, Answers}
 use Rattle.session.specs.declared.running.Printing.the-variants.{Goes, Ends}
-use Rattle.session.proofs.Marks.{lent-size, returned-size, returned-kind, returned-behind}
+use Rattle.session.proofs.Marks.{lent-size, returned-size, returned-kind, returned-after}
 use Rattle.session.proofs.Printings.{lines-both, line-alone, shown-size}
 
 -- a text after its kind
@@ -105,9 +105,9 @@ module _ (said : Said) (ran : Ran) (s : List ℕ) (h : Says said ran s) (out lef
       by (handed m b) k = absurd (miss (0 ∷ 4 ∷ 5 ∷ 6 ∷ []) 3 tt k)
 
   -- what a text prints, with whatever is printed after it
-  shown-behind : (b : List ℕ) (n p : ℕ) (mid : List ℕ) (more : List Printed) → n ≡ length b → take (length b) (drop 3 s) ≡ b → n ≤ 65533 → at + 131096 ≤ length out
+  shown-after : (b : List ℕ) (n p : ℕ) (mid : List ℕ) (more : List Printed) → n ≡ length b → take (length b) (drop 3 s) ≡ b → n ≤ 65533 → at + 131096 ≤ length out
       → Pushed (linesOf (shown (take n (drop 3 s)))) out at p mid → Pushed (linesOf more) mid p r left → Pushed (linesOf (shown b ++ more)) out at r left
-  shown-behind b n p mid more e k fits room x y =
+  shown-after b n p mid more e k fits room x y =
       let same : take n (drop 3 s) ≡ b = ap (λ (i : ℕ). take i (drop 3 s)) e ∙ k in
       let size = shown-size b in
       both (shown b) more out mid left at p r (omega arith) (subst (λ (z : List ℕ). Pushed (linesOf (shown z)) out at p mid) same x) y
@@ -121,7 +121,7 @@ module _ (said : Said) (ran : Ran) (s : List ℕ) (h : Says said ran s) (out lef
       by silence k l = absurd (let z : _≡_ {A = ℕ} 0 1 = cc in omega arith)
       by (text number b) k l =
           let same : n ≡ length b = let a : Text m n ≡ Text number (length b) = sym e ∙ k in cc in
-          goes (text number b) out left at r refl (shown-behind b n p mid (shown prompt) same l fits room x y)
+          goes (text number b) out left at r refl (shown-after b n p mid (shown prompt) same l fits room x y)
       by farewell k l = absurd (let z : _≡_ {A = ℕ} 0 1 = cc in omega arith)
       by (handed number b) k l = absurd (let z : _≡_ {A = ℕ} 0 1 = cc in omega arith)
 
@@ -136,7 +136,7 @@ module _ (said : Said) (ran : Ran) (s : List ℕ) (h : Says said ran s) (out lef
       by farewell k l =
           let same : n ≡ length (bytesOf farewell) = let a : Exit n ≡ Exit (length (bytesOf farewell)) = sym e ∙ k in cc in
           ends farewell out left at r refl
-          (shown-behind (bytesOf farewell) n p mid (exit ∷ []) same l fits room x (subst (λ (z : List ℕ). Pushed z mid p r left) (sym (line-alone exit)) y))
+          (shown-after (bytesOf farewell) n p mid (exit ∷ []) same l fits room x (subst (λ (z : List ℕ). Pushed z mid p r left) (sym (line-alone exit)) y))
       by (handed number b) k l = absurd (let z : _≡_ {A = ℕ} 0 1 = cc in omega arith)
 
   pub prints-handler : (m n p : ℕ) (mid : List ℕ) → ran ≡ Handler m n → length s ≡ 65536 → n ≤ 65533 → at + 131096 ≤ length out
@@ -200,6 +200,6 @@ module _ (s e : List ℕ) (full : length s ≡ 65536) (image line : List ℕ) (r
   run-says =
       record {
         answer = ran-is;
-        bytes = ap (λ (x : List ℕ). take (length (bytesOf heard)) x) (returned-behind s e 2 65536 full (omega arith) ∙ left-is)
+        bytes = ap (λ (x : List ℕ). take (length (bytesOf heard)) x) (returned-after s e 2 65536 full (omega arith) ∙ left-is)
             ∙ take-append-seam (bytesOf heard) (drop (length (bytesOf heard)) lent);
       }

@@ -45,7 +45,7 @@ use Rattle.session.specs.declared.running.Printing.{Printing}
 use Rattle.session.specs.declared.running.Printing.the-variants.{Goes, Ends, BadTree, BadState, NoRoom}
 use Rattle.session.specs.declared.standing.Session.{Session}
 use Rattle.session.proofs.Printings.{line-alone, lines-both, shown-some}
-use Rattle.session.proofs.Marks.{lent-size, returned-size, returned-kind, returned-behind}
+use Rattle.session.proofs.Marks.{lent-size, returned-size, returned-kind, returned-after}
 use Rattle.session.proofs.Screens.{screen-short, submitted-short, enters-tested}
 
 -- screen bytes after their kind
@@ -229,7 +229,7 @@ module _ (h : Session) (slots line lent : List ℕ) (byte : ℕ) (k : KeyAnswer)
       parts x y = record { editor = x; history = y; walk = h .walk; keyed = h .keyed; lines = h .lines }
 
   -- the call's contract
-  module _ (image out left screen : List ℕ) (r : Printing) (behind : drop 1 screen ≡ e) (good : treeBefore byte (imageOf h image) ≡ Good) (room : keyRoom ≤ length out)
+  module _ (image out left screen : List ℕ) (r : Printing) (beyond : drop 1 screen ≡ e) (good : treeBefore byte (imageOf h image) ≡ Good) (room : keyRoom ≤ length out)
       (told : Tells (k .answer) (imageOf h image) line′ screen out r left) where
     pub press-told : PressingKey h image slots byte out (record { session = withKey h k; answer = r }) slots′ left
     unfolding keyPrints keyEnds
@@ -249,7 +249,7 @@ module _ (h : Session) (slots line lent : List ℕ) (byte : ℕ) (k : KeyAnswer)
       where
         by : is ≡ true → (q : Kind) → Tells (taken t q) (imageOf h image) line′ screen out r left
             → Laid (turnPrints (framesOf (imageOf h image)) t q) (turnEnds (framesOf (imageOf h image)) t q) out r left
-        by g shows l = subst (λ (x : List ℕ). Laid (shown x) false out r left) (ap (λ (x : List ℕ). take (length (t .screen)) x) behind ∙ key-screen g) l
+        by g shows l = subst (λ (x : List ℕ). Laid (shown x) false out r left) (ap (λ (x : List ℕ). take (length (t .screen)) x) beyond ∙ key-screen g) l
         by g enters l = subst (λ (x : List ℕ). Enters (framesOf (imageOf h image)) x out r left) (key-line g) l
         by g drops l = l
 
@@ -272,7 +272,7 @@ module _ (h : Session) (slots line s : List ℕ) (byte : ℕ) (k : KeyAnswer) (s
       → PressingKey h image slots byte out (record { session = next; answer = r }) slots′ left
   press-done image tree out left next r good room same after told =
       subst (λ (x : Session). PressingKey h image slots byte out (record { session = x; answer = r }) slots′ left) (sym after)
-      (press-told h slots line _ byte k slots′ line′ e p full lent image out left _ r (returned-behind s e 0 1024 wide (omega arith)) good room
+      (press-told h slots line _ byte k slots′ line′ e p full lent image out left _ r (returned-after s e 0 1024 wide (omega arith)) good room
       (subst (λ (x : List ℕ). Tells (k .answer) x line′ (putMid 1 (length (set s 0 0x22) - 1) (set s 0 0x22) e) out r left) same told))
 
 -- the refusals before a key is pressed: no room, and a bad tree

@@ -1,4 +1,4 @@
--- What the calls of a session answer and leave, by the parts in which the code holds one.
+-- What the calls of a session answer and leave, by the parts in which the code holds one (STANDARD 2.3, 10.19, 11.12).
 use Prim.Native.Nat.{ℕ, _+_, _≤_, _<_}
 use mathlib.Core.Path.{_≡_}
 use mathlib.Core.Bool.{Bool, true, false, cond}
@@ -51,7 +51,7 @@ withKeys h = record { editor = h .editor; history = h .history; walk = h .walk; 
 abbrev pub refusing : Session → Took
 refusing h = record { session = h; answer = BadLine (h .lines + 1) }
 
--- a tree frame, keys, or neither
+-- a tree frame, keys, or neither (10.19)
 unfoldable pub tookBy : Session → List ℕ → Form → Took
 tookBy h image (tree frame) =
     cond (h .keyed) (refusing h)
@@ -60,12 +60,13 @@ tookBy h image (tree frame) =
 tookBy h image (keys bytes) = record { session = withKeys h; answer = Keys (1 + length bytes) }
 tookBy h image formless = refusing h
 
+-- (10.19)
 unfoldable pub imageBy : Session → List ℕ → Form → List ℕ
 imageBy h image (tree frame) = cond (h .keyed) image (cond (admits (h .walk) frame image) (overAt frame image (h .walk .at)) image)
 imageBy h image (keys bytes) = image
 imageBy h image formless = image
 
--- nothing is read past line 65,535, nor into buffers that a frame or an image may not fit: so many bytes are needed
+-- nothing is read past line 65,535, nor into buffers that a frame or an image may not fit: so many bytes are needed (10.19, 11.12)
 unfoldable pub onLine : {A : Type 0} → Session → List ℕ → List ℕ → A → (ℕ → A) → A → A
 onLine h image frame late narrow read =
     cond (ltb (h .lines) lastLine)
@@ -74,6 +75,7 @@ onLine h image frame late narrow read =
     read))
     late
 
+-- (10.19)
 pub record TakingLine (h : Session) (line image frame : List ℕ) (r : Took) (image′ frame′ : List ℕ) : Type 0 where
   pub answer : r ≡ onLine h image frame (record { session = h; answer = Over }) (λ n. record { session = h; answer = NoBuffer n }) (tookBy h image (lineForm line))
   pub built : image′ ≡ onLine h image frame image (λ n. image) (imageBy h image (lineForm line))
@@ -90,6 +92,7 @@ turnIn h slots byte = turnOf prompt (stateOf (h .editor) (h .history) slots) byt
 unfoldable pub isEnter : ℕ → Bool
 isEnter byte = cond (eqb byte 0x0D) true (eqb byte 0x0A)
 
+-- (10.19)
 unfoldable pub treeBefore : ℕ → List ℕ → Checked
 treeBefore byte image = cond (isEnter byte) (checkTree image) Good
 
@@ -114,7 +117,7 @@ pub record Prints (h : Session) (frames : List Frame) (t : Turn) (out : List ℕ
   pub held : slots′ ≡ slotsOf (t .after)
   pub lines : Laid (keyPrints frames t) (keyEnds frames t) out (r .answer) out′
 
--- 9, then 1, then 12, or the key is taken
+-- 9, then 1, then 12, or the key is taken (10.19)
 pub record PressingKey (h : Session) (image slots : List ℕ) (byte : ℕ) (out : List ℕ) (r : Pressing) (slots′ out′ : List ℕ) : Type 0 where
   pub short : length out < keyRoom → (r .answer ≡ NoRoom keyRoom) × Kept h slots out r slots′ out′
   pub badTree : keyRoom ≤ length out → (n : ℕ) → treeBefore byte (imageOf h image) ≡ BadFrame n → (r .answer ≡ BadTree n) × Kept h slots out r slots′ out′
@@ -123,7 +126,7 @@ pub record PressingKey (h : Session) (image slots : List ℕ) (byte : ℕ) (out 
   pub pressed : keyRoom ≤ length out → treeBefore byte (imageOf h image) ≡ Good → goodState (h .editor) (h .history) slots ≡ true
       → Prints h (framesOf (imageOf h image)) (turnIn h slots byte) out r slots′ out′
 
--- the 2F of a line, which is the last that is printed
+-- the 2F of a line, which is the last that is printed (10.19)
 pub record RefusingLine (number : ℕ) (out : List ℕ) (r : Printing) (out′ : List ℕ) : Type 0 where
   pub short : length out < 7 → (r ≡ NoRoom 7) × (out′ ≡ out)
   pub told : 7 ≤ length out → Laid (badLine number ∷ []) true out r out′

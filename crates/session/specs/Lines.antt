@@ -13,17 +13,18 @@ use Rattle.editor.specs.Turns.{State, freshState, turnOf}
 use Rattle.session.specs.Sizes.{lastLine, frameRoom}
 use Rattle.session.specs.Prints.{Printed, badLine, prompt, keyPrints, keyEnds}
 
--- what a house line is: a tree frame, keys after a 20, or of no such form
+-- what a house line is: a tree frame, keys after a 20, or of no such form (11.3)
 pub data Form : Type 0 where
   tree : (frame : List ℕ) → Form
   keys : (bytes : List ℕ) → Form
   formless : Form
 
+-- (11.1, 11.3, 11.9)
 unfoldable pub formOf : List ℕ → Form
 formOf [] = formless
 formOf (kind ∷ bytes) = cond (eqb kind 0x20) (keys bytes) (tree (kind ∷ bytes))
 
--- every fault of a house line makes it one of no such form; a frame has at most 512 bytes
+-- every fault of a house line makes it one of no such form; a frame has at most 512 bytes (11.9)
 abbrev pub formBy : House → List ℕ → Form
 formBy (Frame n) bytes = formOf bytes
 formBy Unended bytes = formless
@@ -33,6 +34,7 @@ formBy Odd bytes = formless
 formBy (NoDigit place) bytes = formless
 formBy (Short needed) bytes = formless
 
+-- (11.1)
 unfoldable pub lineForm : List ℕ → Form
 lineForm line = formBy (readHouse line frameRoom) (unhex (digitsOf line))
 
@@ -43,6 +45,7 @@ pub record Standing : Type 0 where
   pub state : State
   pub lines : ℕ
 
+-- (11.2)
 abbrev pub beginning : Standing
 beginning = record { image = []; keyed = false; state = freshState; lines = 0 }
 
@@ -62,7 +65,7 @@ pub data Taking : Type 0 where
   pressing : (bytes : List ℕ) (after : Standing) → Taking
   refused : (number : ℕ) → Taking
 
--- a tree line holds one frame, and the image with it is well-formed; one that comes after a frame 20 is refused
+-- a tree line holds one frame, and the image with it is well-formed; one that comes after a frame 20 is refused (11.1, 11.3, 11.9)
 unfoldable pub takeForm : Standing → Form → Taking
 takeForm s (tree frame) =
     cond (s .keyed) (refused (s .lines + 1))
@@ -80,8 +83,8 @@ pub record Course : Type 0 where
   pub ends : Bool
   pub after : Standing
 
-abbrev pub behind : List Printed → Course → Course
-behind before course = record { prints = before ++ course .prints; ends = course .ends; after = course .after }
+abbrev pub preceded : List Printed → Course → Course
+preceded before course = record { prints = before ++ course .prints; ends = course .ends; after = course .after }
 
 unfoldable pub pressKey : Standing → ℕ → Course
 pressKey s byte =
@@ -91,20 +94,23 @@ pressKey s byte =
       after = inState s (turnOf prompt (s .state) byte .after);
     }
 
+-- (11.3, 11.11)
 unfoldable pub pressKeys : Standing → List ℕ → Course
 pressKeys s [] = record { prints = []; ends = false; after = s }
 pressKeys s (byte ∷ bytes) =
-    cond (pressKey s byte .ends) (pressKey s byte) (behind (pressKey s byte .prints) (pressKeys (pressKey s byte .after) bytes))
+    cond (pressKey s byte .ends) (pressKey s byte) (preceded (pressKey s byte .prints) (pressKeys (pressKey s byte .after) bytes))
 
+-- (11.9)
 unfoldable pub onTaking : Standing → Taking → Course
 onTaking s (grown after) = record { prints = []; ends = false; after = after }
 onTaking s (pressing bytes after) = pressKeys after bytes
 onTaking s (refused number) = record { prints = badLine number ∷ []; ends = true; after = s }
 
+-- (11.11)
 unfoldable pub lineCourse : Standing → List ℕ → Course
 lineCourse s line = onTaking s (takeLine s line)
 
--- a session is the fold of its lines: nothing is read past its end, nor past line 65,535
+-- a session is the fold of its lines: nothing is read past its end, nor past line 65,535 (11.1, 11.7, 11.11, 11.12)
 unfoldable pub session : Standing → List (List ℕ) → List Printed
 session s [] = []
 session s (line ∷ lines) =

@@ -1,4 +1,4 @@
--- The limits of a session, and how many bytes a key prints at most, each number once.
+-- The limits of a session, and how many bytes a key prints at most, each number once (STANDARD 10.19, 11.14).
 use Prim.Native.Nat.{ℕ, _+_, _*_}
 
 -- the last line that is read: `Session::LAST_LINE`
@@ -34,5 +34,6 @@ promptLine = 23
 abbrev pub answerRoom : ℕ
 answerRoom = 131096
 
+-- (10.19, 11.14)
 abbrev pub keyRoom : ℕ
 keyRoom = 131101

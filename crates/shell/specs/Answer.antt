@@ -15,14 +15,14 @@ use Rattle.shell.specs.Lines.{Said, silence, text, farewell, handed, sai
 use Rattle.shell.specs.declared.answer.Ran.{Ran}
 use Rattle.shell.specs.declared.answer.Ran.the-variants.{Nothing, Text, Exit, Handler, BadTree, LineTooLong, NoRoom}
 
--- the bytes that are written
+-- the bytes that are written (10.13)
 abbrev pub bytesOf : Said → List ℕ
 bytesOf silence = []
 bytesOf (text number bytes) = bytes
 bytesOf farewell = goodbye
 bytesOf (handed handler report) = report
 
--- the answer with their length
+-- the answer with their length (10.13)
 abbrev pub named : Said → ℕ → Ran
 named silence n = Nothing
 named (text number bytes) n = Text number n
@@ -35,11 +35,13 @@ saidAnswer s room = cond (ltb room (length (bytesOf s))) (NoRoom (length (bytesO
 unfoldable pub saidLeaves : Said → List ℕ → List ℕ
 saidLeaves s out = cond (ltb (length out) (length (bytesOf s))) out (over (bytesOf s) out)
 
+-- (10.13)
 unfoldable pub runAnswer : List ℕ → List ℕ → ℕ → Ran
 runAnswer image line room =
     onChecked (checkTree image) (λ n. BadTree n)
     (cond (ltb lineLimit (length line)) (LineTooLong (min (length line) valueLimit)) (saidAnswer (saidOf (framesOf image) line) room))
 
+-- (10.13)
 unfoldable pub runLeaves : List ℕ → List ℕ → List ℕ → List ℕ
 runLeaves image line out =
     onChecked (checkTree image) (λ n. out) (cond (ltb lineLimit (length line)) out (saidLeaves (saidOf (framesOf image) line) out))
@@ -48,7 +50,7 @@ pub record Running (image line out : List ℕ) (r : Ran) (left : List ℕ) : Typ
   pub answer : r ≡ runAnswer image line (length out)
   pub bytes : left ≡ runLeaves image line out
 
--- nothing 0, text 1, the end 2, a handler 3; a refusal is none of them
+-- nothing 0, text 1, the end 2, a handler 3; a refusal is none of them (10.13)
 abbrev pub kind : Ran → ℕ
 kind Nothing = 0
 kind (Text m n) = 1
@@ -58,7 +60,7 @@ kind (BadTree n) = 0
 kind (LineTooLong n) = 0
 kind (NoRoom n) = 0
 
--- the refusal's number (STANDARD 10.1; 0: none), and the value that goes with it: the length of what is written, or what the standard says
+-- the refusal's number (STANDARD 10.1; 0: none), and the value that goes with it: the length of what is written, or what the standard says (10.13)
 abbrev pub number : Ran → ℕ
 number Nothing = 0
 number (Text m n) = 0
@@ -68,6 +70,7 @@ number (BadTree n) = 1
 number (LineTooLong n) = 2
 number (NoRoom n) = 9
 
+-- (10.13)
 abbrev pub value : Ran → ℕ
 value Nothing = 0
 value (Text m n) = n
@@ -77,7 +80,7 @@ value (BadTree n) = n
 value (LineTooLong n) = n
 value (NoRoom n) = n
 
--- the second value: the number beside a text, or the handler
+-- the second value: the number beside a text, or the handler (10.13)
 abbrev pub beside : Ran → ℕ
 beside Nothing = 0
 beside (Text m n) = m

@@ -1,4 +1,4 @@
--- What the calls on a saved state answer and leave.
+-- What the calls on a saved state answer and leave (STANDARD 3.6, 4.1, 4.3, 4.5, 10.15, 10.16; 9 and 12 of 10.1).
 use Prim.Native.Nat.{ℕ}
 use mathlib.Core.Path.{_≡_}
 use mathlib.Core.Bool.{Bool, true, false, cond}
@@ -20,7 +20,7 @@ use Rattle.state.specs.declared.calls.Begun.{Begun}
 use Rattle.state.specs.declared.calls.Begun.the-variants.{Ready, NoRoom, BadState}
 
 -- a fresh session: a buffer that is too short is refused with the length needed, the state's first; one of another length, which is then too long,
--- is a bad state's
+-- is a bad state's (10.16)
 unfoldable pub beginAnswer : ℕ → ℕ → Begun
 beginAnswer state slots =
     cond (ltb state stateSize) (NoRoom stateSize)
@@ -45,6 +45,7 @@ value Ready = 0
 value (NoRoom n) = n
 value BadState = 0
 
+-- (4.3, 10.16)
 pub record Beginning (state slots : List ℕ) (told : Begun) (state′ slots′ : List ℕ) : Type 0 where
   pub answer : told ≡ beginAnswer (length state) (length slots)
   pub kept : state′ ≡ cond (isReady told) (savedOf freshEditor (recordOf noEntries)) state
@@ -57,10 +58,11 @@ turnIn state slots prompt byte = turnOf prompt (stateOf (editorIn state) (histor
 unfoldable pub pressAnswer : List ℕ → List ℕ → List ℕ → ℕ → ℕ → ℕ → Pressed
 pressAnswer state slots prompt byte line screen = keyAnswer (goodSaved state slots) prompt (turnIn state slots prompt byte) line screen
 
+-- (4.5)
 unfoldable pub savedAfter : State → List ℕ
 savedAfter s = savedOf (editorOf s) (historyOf s)
 
--- a refusal keeps the state and every byte
+-- a refusal keeps the state and every byte (4.1, 4.5)
 pub record SavedKey (state slots prompt : List ℕ) (byte : ℕ) (line screen : List ℕ) (told : Pressed) (state′ slots′ line′ screen′ : List ℕ) : Type 0 where
   pub answer : told ≡ pressAnswer state slots prompt byte (length line) (length screen)
   pub kept : state′ ≡ cond (refused told) state (savedAfter (turnIn state slots prompt byte .after))
@@ -68,17 +70,18 @@ pub record SavedKey (state slots prompt : List ℕ) (byte : ℕ) (line screen : 
   pub given : line′ ≡ cond (refused told) line (over (turnIn state slots prompt byte .submitted) line)
   pub shown : screen′ ≡ cond (refused told) screen (over (turnIn state slots prompt byte .screen) screen)
 
--- a text added to the history of a saved state, of which all is to be good
+-- a text added to the history of a saved state, of which all is to be good (10.15)
 unfoldable pub savedAnswer : List ℕ → List ℕ → List ℕ → Added
 savedAnswer state slots text = addAnswer (goodSaved state slots) text
 
--- a refusal keeps every byte; otherwise the history is saved
+-- a refusal keeps every byte; otherwise the history is saved (4.5)
 abbrev pub stateBy : Added → List ℕ → Journal → List ℕ
 stateBy Done state j = savedOf (editorIn state) (recordOf j)
 stateBy BadHistory state j = state
 stateBy (TooLong n) state j = state
 stateBy (IllFormed n) state j = state
 
+-- (3.6, 4.1, 4.5)
 pub record SavedAdd (state slots text : List ℕ) (told : Added) (state′ slots′ : List ℕ) : Type 0 where
   pub answer : told ≡ savedAnswer state slots text
   pub kept : state′ ≡ stateBy told state (offered text (journalOf (historyIn state) slots))

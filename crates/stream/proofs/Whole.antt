@@ -12,7 +12,7 @@ use Rattle.frame.specs.House.{LF, endsInLF, digitsOf, readHouse}
 use Rattle.frame.specs.Hex.{unhex}
 use Rattle.frame.specs.declared.house.House.{House}
 use Rattle.session.specs.Prints.{Printed, badLine, linesOf}
-use Rattle.session.specs.Lines.{formBy, formless, Form, lineForm, Standing, beginning, Taking, grown, pressing, refused, takeForm, takeLine, Course, behind, pressKey, pressKeys, onTaking, lineCourse, session}
+use Rattle.session.specs.Lines.{formBy, formless, Form, lineForm, Standing, beginning, Taking, grown, pressing, refused, takeForm, takeLine, Course, preceded, pressKey, pressKeys, onTaking, lineCourse, session}
 use Rattle.session.specs.Sizes.{keyRoom}
 use Rattle.session.proofs.Printings.{lines-both}
 use Rattle.stream.specs.Bytes.{closes, cut, linesIn, console}
@@ -31,25 +31,25 @@ unfolding session
 late at [] e = refl
 late at (line ∷ lines) e = else-is _ _ _ e
 
-behind-rest : (at : Standing) (bytes : List ℕ) → rest (afterLine at) bytes ≡ session at (cut [] bytes)
+after-rest : (at : Standing) (bytes : List ℕ) → rest (afterLine at) bytes ≡ session at (cut [] bytes)
 unfolding afterLine rest
-behind-rest at bytes = by (ltb (at .lines) 65535) refl
+after-rest at bytes = by (ltb (at .lines) 65535) refl
   where
     by : (b : Bool) → ltb (at .lines) 65535 ≡ b → rest (cond b (reads at []) closed) bytes ≡ session at (cut [] bytes)
     by true e = refl
     by false e = sym (late at (cut [] bytes) e)
 
-behind-fit : (at : Standing) → Fit (afterLine at)
+after-fit : (at : Standing) → Fit (afterLine at)
 unfolding afterLine endsInLF
-behind-fit at = by (ltb (at .lines) 65535) refl
+after-fit at = by (ltb (at .lines) 65535) refl
   where
     by : (b : Bool) → ltb (at .lines) 65535 ≡ b → Fit (cond b (reads at []) closed)
     by true e = (ltb-true _ _ e, refl)
     by false e = tt
 
 -- keys
-onward-behind : (before : List Printed) (course : Course) (further : Standing → List Printed) → onward (behind before course) further ≡ before ++ onward course further
-onward-behind before course further = by (course .ends)
+onward-after : (before : List Printed) (course : Course) (further : Standing → List Printed) → onward (preceded before course) further ≡ before ++ onward course further
+onward-after before course further = by (course .ends)
   where
     by : (b : Bool) → cond b (before ++ course .prints) ((before ++ course .prints) ++ further (course .after)) ≡ before ++ cond b (course .prints) (course .prints ++ further (course .after))
     by true = refl
@@ -57,7 +57,7 @@ onward-behind before course further = by (course .ends)
 
 press-rest : (room : ℕ) (at : Standing) (keys bytes : List ℕ) → rest (waits at keys) bytes ≡ pressSome room at keys .prints ++ rest (pressSome room at keys .after) bytes
 unfolding rest pressSome pressKeys
-press-rest room at [] bytes = sym (behind-rest at bytes)
+press-rest room at [] bytes = sym (after-rest at bytes)
 press-rest room at (byte ∷ keys) bytes =
     full (ltb room keyRoom) (ends (pressKey at byte .ends) refl (press-rest (room - size (pressKey at byte .prints)) (pressKey at byte .after) keys bytes))
   where
@@ -71,10 +71,10 @@ press-rest room at (byte ∷ keys) bytes =
     next b = cond b (record { prints = pressKey at byte .prints; after = closed }) (printing (pressKey at byte .prints) then)
 
     ends : (b : Bool) → pressKey at byte .ends ≡ b → onward (pressKeys (pressKey at byte .after) keys) further ≡ then .prints ++ rest (then .after) bytes
-        → onward (cond b (pressKey at byte) (behind (pressKey at byte .prints) (pressKeys (pressKey at byte .after) keys))) further ≡ next b .prints ++ rest (next b .after) bytes
+        → onward (cond b (pressKey at byte) (preceded (pressKey at byte .prints) (pressKeys (pressKey at byte .after) keys))) further ≡ next b .prints ++ rest (next b .after) bytes
     ends true e k = then-is _ _ _ e ∙ sym (append-nil (pressKey at byte .prints))
     ends false e k =
-        onward-behind (pressKey at byte .prints) (pressKeys (pressKey at byte .after) keys) further
+        onward-after (pressKey at byte .prints) (pressKeys (pressKey at byte .after) keys) further
         ∙ ap (λ (l : List Printed). pressKey at byte .prints ++ l) k
         ∙ sym (append-assoc (pressKey at byte .prints) (then .prints) (rest (then .after) bytes))
 
@@ -91,7 +91,7 @@ either-fit false m n p q = q
 
 press-fit : (room : ℕ) (at : Standing) (keys : List ℕ) → Fit (pressSome room at keys .after)
 unfolding pressSome
-press-fit room at [] = behind-fit at
+press-fit room at [] = after-fit at
 press-fit room at (byte ∷ keys) =
     either-fit (ltb room keyRoom) _ _ tt
     (either-fit (pressKey at byte .ends) (record { prints = pressKey at byte .prints; after = closed })
@@ -101,7 +101,7 @@ press-fit room at (byte ∷ keys) =
 -- a whole line
 taken : (room : ℕ) (at : Standing) (t : Taking) (bytes : List ℕ) → onward (onTaking at t) (λ after. session after (cut [] bytes)) ≡ moveBy room t .prints ++ rest (moveBy room t .after) bytes
 unfolding onTaking rest
-taken room at (grown after) bytes = sym (behind-rest after bytes)
+taken room at (grown after) bytes = sym (after-rest after bytes)
 taken room at (pressing keys after) bytes = press-rest room after keys bytes
 taken room at (refused number) bytes = refl
 
@@ -114,7 +114,7 @@ unfolding lineMove
 line-fit room at line = by (takeLine at line)
   where
     by : (t : Taking) → Fit (moveBy room t .after)
-    by (grown after) = behind-fit after
+    by (grown after) = after-fit after
     by (pressing keys after) = press-fit room after keys
     by (refused number) = tt
 

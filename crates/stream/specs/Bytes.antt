@@ -12,24 +12,25 @@ use Rattle.session.specs.Lines.{beginning, session}
 abbrev pub lineRoom : ℕ
 lineRoom = 1026
 
--- whether a byte ends the line that so many bytes have come of: it is the LF, or the last byte that there is room for
+-- whether a byte ends the line that so many bytes have come of: it is the LF, or the last byte that there is room for (11.8)
 unfoldable pub closes : ℕ → ℕ → Bool
 closes held byte = cond (eqb byte LF) true (leb lineRoom (held + 1))
 
--- at the input's end: what has come of a line is a line without its end
+-- at the input's end: what has come of a line is a line without its end (11.10)
 abbrev pub unended : List ℕ → List (List ℕ)
 unended [] = []
 unended (b ∷ held) = (b ∷ held) ∷ []
 
--- bytes cut into lines, where some bytes of the first have come before
+-- bytes cut into lines, where some bytes of the first have come before (11.8)
 unfoldable pub cut : List ℕ → List ℕ → List (List ℕ)
 cut held [] = unended held
 cut held (byte ∷ bytes) =
     cond (closes (length held) byte) ((held ++ (byte ∷ [])) ∷ cut [] bytes) (cut (held ++ (byte ∷ [])) bytes)
 
+-- (11.1, 11.8)
 unfoldable pub linesIn : List ℕ → List (List ℕ)
 linesIn bytes = cut [] bytes
 
--- all that `console` writes for all that it reads
+-- all that `console` writes for all that it reads (11.1)
 unfoldable pub console : List ℕ → List ℕ
 console bytes = linesOf (session beginning (linesIn bytes))

@@ -1,4 +1,5 @@
 -- The same in steps: where a stream stands, what is still to be printed from there, and how far a step goes with room for so many bytes.
+-- (STANDARD 11.10, 11.12, 11.13)
 use Prim.Native.Nat.{ℕ, _+_, _-_}
 use mathlib.Core.Bool.{cond}
 use mathlib.Core.List.{List, [], _∷_, _++_}
@@ -22,12 +23,13 @@ start = reads beginning []
 abbrev pub onward : Course → (Standing → List Printed) → List Printed
 onward course further = cond (course .ends) (course .prints) (course .prints ++ further (course .after))
 
+-- (11.13)
 unfoldable pub rest : Stand → List ℕ → List Printed
 rest (reads at held) bytes = session at (cut held bytes)
 rest (waits at keys) bytes = onward (pressKeys at keys) (λ after. session after (cut [] bytes))
 rest closed bytes = []
 
--- after a line: nothing is read past line 65,535
+-- after a line: nothing is read past line 65,535 (11.12)
 unfoldable pub afterLine : Standing → Stand
 afterLine at = cond (ltb (at .lines) lastLine) (reads at []) closed
 
@@ -43,7 +45,7 @@ printing before move = record { prints = before ++ move .prints; after = move .a
 abbrev pub size : List Printed → ℕ
 size prints = length (linesOf prints)
 
--- keys are pressed one after the other, each with room for what a key may print
+-- keys are pressed one after the other, each with room for what a key may print (11.13)
 unfoldable pub pressSome : ℕ → Standing → List ℕ → Move
 pressSome room at [] = record { prints = []; after = afterLine at }
 pressSome room at (byte ∷ keys) =
@@ -71,7 +73,7 @@ stays s left = record { move = record { prints = []; after = s }; left = left }
 abbrev pub printed : List Printed → Went → Went
 printed before went = record { move = printing before (went .move); left = went .left }
 
--- bytes are taken while there is room for what a key may print, up to keys that wait or the session's end
+-- bytes are taken while there is room for what a key may print, up to keys that wait or the session's end (11.13)
 unfoldable pub takeSome : ℕ → Stand → List ℕ → Went
 takeSome room s [] = stays s []
 takeSome room closed (byte ∷ bytes) = stays closed (byte ∷ bytes)
@@ -88,11 +90,12 @@ resume room (reads at held) = record { prints = []; after = reads at held }
 resume room (waits at keys) = pressSome room at keys
 resume room closed = record { prints = []; after = closed }
 
+-- (11.13)
 unfoldable pub stepBy : ℕ → Stand → List ℕ → Went
 stepBy room s piece =
     let move : Move = resume room s in printed (move .prints) (takeSome (room - size (move .prints)) (move .after) piece)
 
--- at the input's end: a line without its end is a bad one
+-- at the input's end: a line without its end is a bad one (11.10)
 abbrev pub last : Stand → List Printed
 last (reads at []) = []
 last (reads at (byte ∷ held)) = badLine (at .lines + 1) ∷ []

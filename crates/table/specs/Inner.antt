@@ -1,5 +1,5 @@
 -- What only contracts of inner calls cite. How a table holds a map: a number for each entry, in which the places of its key and its value are packed. A value lies in the words, a key in the
--- words (a long form, as typed) or in the image (a name, for a short one).
+-- words (a long form, as typed) or in the image (a name, for a short one) (STANDARD 7.11).
 use Prim.Native.Nat.{ℕ, zero, suc, _+_, _*_, _/_, _%_, _≤_}
 use mathlib.Core.Path.{_≡_}
 use mathlib.Core.List.{List, [], _∷_, _++_, map}
@@ -50,6 +50,7 @@ abbrev pub keySlice : List ℕ → List ℕ → ℕ → List ℕ
 keySlice words image zero = words
 keySlice words image (suc n) = image
 
+-- (7.11)
 unfoldable pub keyOf : List ℕ → List ℕ → ℕ → List ℕ
 keyOf words image e = partOf (keySlice words image (keyBit e)) (keyStart e) (keyLength e)
 

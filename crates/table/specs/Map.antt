@@ -20,7 +20,7 @@ onOrder Less less equal greater = less
 onOrder Equal less equal greater = equal
 onOrder Greater less equal greater = greater
 
--- BTreeMap::insert: a key goes before the first that is greater, and takes the place of its equal
+-- BTreeMap::insert: a key goes before the first that is greater, and takes the place of its equal (7.12, 8.5)
 unfoldable pub put : List ℕ → List ℕ → Map → Map
 put k v [] = (k, v) ∷ []
 put k v (e ∷ m) = onOrder (order k (e .0)) ((k, v) ∷ e ∷ m) ((k, v) ∷ m) (e ∷ put k v m)
@@ -30,7 +30,7 @@ unfoldable pub look : List ℕ → Map → Option (List ℕ)
 look k [] = none
 look k (e ∷ m) = cond (sameBytes k (e .0)) (some (e .1)) (look k m)
 
--- BTreeMap::contains_key
+-- BTreeMap::contains_key (7.13)
 unfoldable pub has : List ℕ → Map → Bool
 has k [] = false
 has k (e ∷ m) = cond (sameBytes k (e .0)) true (has k m)
@@ -40,6 +40,7 @@ abbrev pub Above : List ℕ → Map → Type 0
 Above k [] = Unit
 Above k (e ∷ m) = order k (e .0) ≡ Less
 
+-- (8.5)
 abbrev pub Rising : Map → Type 0
 Rising [] = Unit
 Rising (e ∷ m) = Above (e .0) m × Rising m

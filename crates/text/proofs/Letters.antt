@@ -113,7 +113,7 @@ head-has a h = by (eqb a 0xE0) refl h
 
 pub data NoHead (a : ℕ) : Type 0 where
   between : 0xE1 ≤ a → a < 0xE4 → NoHead a
-  behind : 0xF0 ≤ a → NoHead a
+  after : 0xF0 ≤ a → NoHead a
 
 head-not : (a : ℕ) → 0xE0 ≤ a → letterHead a ≡ false → NoHead a
 unfolding letterHead within
@@ -122,7 +122,7 @@ head-not a l h = by (eqb a 0xE0) (leb 0xE4 a) (leb a 0xEF) refl refl refl h
     by : (t u v : Bool) → eqb a 0xE0 ≡ t → leb 0xE4 a ≡ u → leb a 0xEF ≡ v → cond t true (cond u v false) ≡ false → NoHead a
     by true u v e f g q = absurd (true-is-not-false q)
     by false true true e f g q = absurd (true-is-not-false q)
-    by false true false e f g q = behind (let k = leb-false a 0xEF g in omega arith)
+    by false true false e f g q = after (let k = leb-false a 0xEF g in omega arith)
     by false false v e f g q = let n = eqb-false a 0xE0 e in between (let m : (a ≡ 0xE0) → ⊥ = n in omega arith) (leb-false 0xE4 a f)
 
 -- the table by the first byte
@@ -176,7 +176,7 @@ module _ (a b c d : ℕ) where
     where
       by : NoHead a → letterOf (table a b c d) ≡ 0
       by (between m n) = ap letterOf (row-three a b c d l (omega arith)) ∙ three-other a b c (codes-between a b c m n)
-      by (behind m) =
+      by (after m) =
           ⊎-elim
           (λ (n : a < 0xF5). ap letterOf (row-four a b c d m n) ∙ four-none m n)
           (λ (n : 0xF5 ≤ a). none-there _ (row-past a b c d n))

@@ -35,13 +35,13 @@ run-fits is s =
     omega arith
 
 -- the pieces of what is left after a run are the pieces after it
-Behind : Bool → List ℕ → List Piece → Type 0
-Behind is s ps = piecesOf s ≡ ps → piecesOf (drop (length (bytesAll (runOf is ps))) s) ≡ afterRun is ps
+After : Bool → List ℕ → List Piece → Type 0
+After is s ps = piecesOf s ≡ ps → piecesOf (drop (length (bytesAll (runOf is ps))) s) ≡ afterRun is ps
 
-behind-more : (is : Bool) (p : Piece) (s : List ℕ) → Fair p → s ≡ bytesOf p ++ drop (length (bytesOf p)) s
-    → Behind is (drop (length (bytesOf p)) s) (piecesOf (drop (length (bytesOf p)) s)) → Behind is s (p ∷ piecesOf (drop (length (bytesOf p)) s))
-unfolding Behind bytesAll runOf afterRun
-behind-more is p s f e h q = by (Bool·beq (white p) is) (h refl)
+after-more : (is : Bool) (p : Piece) (s : List ℕ) → Fair p → s ≡ bytesOf p ++ drop (length (bytesOf p)) s
+    → After is (drop (length (bytesOf p)) s) (piecesOf (drop (length (bytesOf p)) s)) → After is s (p ∷ piecesOf (drop (length (bytesOf p)) s))
+unfolding After bytesAll runOf afterRun
+after-more is p s f e h q = by (Bool·beq (white p) is) (h refl)
   where
     t : List ℕ
     t = drop (length (bytesOf p)) s
@@ -55,13 +55,13 @@ behind-more is p s f e h q = by (Bool·beq (white p) is) (h refl)
         ∙ k
     by false k = q
 
-behind-none : (is : Bool) → Behind is [] []
-unfolding Behind bytesAll runOf afterRun
-behind-none is e = e
+after-none : (is : Bool) → After is [] []
+unfolding After bytesAll runOf afterRun
+after-none is e = e
 
-pub behind-pieces : (is : Bool) (s : List ℕ) → piecesOf (drop (length (bytesAll (runOf is (piecesOf s)))) s) ≡ afterRun is (piecesOf s)
-unfolding Behind
-behind-pieces is s = by-pieces (Behind is) (behind-none is) (behind-more is) s refl
+pub after-pieces : (is : Bool) (s : List ℕ) → piecesOf (drop (length (bytesAll (runOf is (piecesOf s)))) s) ≡ afterRun is (piecesOf s)
+unfolding After
+after-pieces is s = by-pieces (After is) (after-none is) (after-more is) s refl
 
 -- a text is blank exactly if its white space reaches to its end
 same-sum : (k a b : ℕ) → eqb (k + a) (k + b) ≡ eqb a b
@@ -151,7 +151,7 @@ module _ (s : List ℕ) (start end : ℕ) (e : start ≡ 0 + length (bytesAll (r
   trim-is =
       let z : start ≡ length (bytesAll (runOf true (piecesOf s))) = omega arith in
       let size : end - start ≡ solidLength (drop start s) = omega arith in
-      let ps : piecesOf (drop start s) ≡ afterRun true (piecesOf s) = ap (λ (n : ℕ). piecesOf (drop n s)) z ∙ behind-pieces true s in
+      let ps : piecesOf (drop start s) ≡ afterRun true (piecesOf s) = ap (λ (n : ℕ). piecesOf (drop n s)) z ∙ after-pieces true s in
       ap (λ (n : ℕ). take n (drop start s)) size
       ∙ solid-take (drop start s)
       ∙ ap (λ (l : List Piece). bytesAll (trimEnd l)) ps
@@ -197,10 +197,10 @@ run-white (p ∷ ps) = by (white p) refl (run-white ps)
     by false e h = refl
 
 -- after a run of white space there is none
-behind-solid : (ps : List Piece) → beginsWhite (afterRun true ps) ≡ false
+after-solid : (ps : List Piece) → beginsWhite (afterRun true ps) ≡ false
 unfolding afterRun
-behind-solid [] = refl
-behind-solid (p ∷ ps) = by (white p) refl (behind-solid ps)
+after-solid [] = refl
+after-solid (p ∷ ps) = by (white p) refl (after-solid ps)
   where
     by : (t : Bool) → white p ≡ t → beginsWhite (afterRun true ps) ≡ false → beginsWhite (cond (Bool·beq t true) (afterRun true ps) (p ∷ ps)) ≡ false
     by true e h = h
@@ -238,7 +238,7 @@ trimming s =
       blank-before = run-white (piecesOf s);
       blank-after = l .blanks;
       kept = refl;
-      begins = end-begins rest (behind-solid (piecesOf s));
+      begins = end-begins rest (after-solid (piecesOf s));
       ends = end-ends rest;
     }
 
@@ -253,19 +253,19 @@ module _ (s : List ℕ) (at start : ℕ) (e : start ≡ at + length (bytesAll (r
   left-is : drop (length (bytesAll (runOf true (piecesOf (drop at s))))) (drop at s) ≡ drop start s
   left-is = drop-drop (length (bytesAll (runOf true (piecesOf (drop at s))))) at s ∙ ap (λ (n : ℕ). drop n s) (sym e)
 
-  behind-is : afterRun true (piecesOf (drop at s)) ≡ piecesOf (drop start s)
-  behind-is = sym (behind-pieces true (drop at s)) ∙ ap piecesOf left-is
+  after-is : afterRun true (piecesOf (drop at s)) ≡ piecesOf (drop start s)
+  after-is = sym (after-pieces true (drop at s)) ∙ ap piecesOf left-is
 
   pub next-none : length s ≤ start → nextWord at (drop at s) ≡ Nothing
   unfolding nextWord runOf
-  next-none h = rw (behind-is, drop-end s start h, pieces-none)
+  next-none h = rw (after-is, drop-end s start h, pieces-none)
 
   pub next-is : (end : ℕ) → start < length s → end ≡ start + length (bytesAll (runOf false (piecesOf (drop start s)))) → nextWord at (drop at s) ≡ At start end
   unfolding nextWord
   next-is end h f =
       let some : 0 < length (bytesAll (piecesOf (drop start s))) = rw (pieces-bytes (drop start s), length-drop start s) (omega arith) in
-      let solid : beginsWhite (piecesOf (drop start s)) ≡ false = rw behind-is at (behind-solid (piecesOf (drop at s))) in
-      rw (← e, behind-is) (word-here (piecesOf (drop start s)) start solid some ∙ ap (λ (n : ℕ). At start n) (sym f))
+      let solid : beginsWhite (piecesOf (drop start s)) ≡ false = rw after-is at (after-solid (piecesOf (drop at s))) in
+      rw (← e, after-is) (word-here (piecesOf (drop start s)) start solid some ∙ ap (λ (n : ℕ). At start n) (sym f))
 
 pub next-past : (s : List ℕ) (at : ℕ) → length s ≤ at → nextWord at (drop at s) ≡ Nothing
 unfolding nextWord runOf afterRun
@@ -315,14 +315,14 @@ word-at t =
       taken =
           ap (λ (l : List ℕ). take (length word) l) (sym (pieces-bytes t) ∙ run-splits false (piecesOf t))
           ∙ take-at word (bytesAll (afterRun false (piecesOf t))) (length word) refl;
-      rest = behind-pieces false t;
+      rest = after-pieces false t;
     }
 
 words-by : (s : List ℕ) (start : ℕ) (word : List Piece) → piecesOf (drop start s) ≡ afterRun true (piecesOf s)
     → runOf false (piecesOf (drop start s)) ≡ word → WordsBy s (wordAt start word)
 unfolding wordsBetween wordsAfter
 words-by s start [] e w =
-    let none : afterRun true (piecesOf s) ≡ [] = no-word (afterRun true (piecesOf s)) (behind-solid (piecesOf s)) (ap (runOf false) (sym e) ∙ w) in
+    let none : afterRun true (piecesOf s) ≡ [] = no-word (afterRun true (piecesOf s)) (after-solid (piecesOf s)) (ap (runOf false) (sym e) ∙ w) in
     ap (map bytesAll) (words-start (piecesOf s) ∙ ap (wordsAfter []) none)
 words-by s start (p ∷ word) e w =
     let t : List ℕ = drop start s in
@@ -343,5 +343,5 @@ unfolding nextWord
 words-next s =
     let start : ℕ = 0 + length (bytesAll (runOf true (piecesOf s))) in
     let z : start ≡ length (bytesAll (runOf true (piecesOf s))) = omega arith in
-    let e : piecesOf (drop start s) ≡ afterRun true (piecesOf s) = ap (λ (n : ℕ). piecesOf (drop n s)) z ∙ behind-pieces true s in
+    let e : piecesOf (drop start s) ≡ afterRun true (piecesOf s) = ap (λ (n : ℕ). piecesOf (drop n s)) z ∙ after-pieces true s in
     words-by s start (runOf false (afterRun true (piecesOf s))) e (ap (runOf false) e)

@@ -1,4 +1,5 @@
 -- The decoder after Unicode's Table 3-7, and a text read as pieces: its characters, and the bytes that belong to none.
+-- (STANDARD 1.4 to 1.6, 1.11; 3 of 10.1)
 use Prim.Native.Nat.{ℕ, zero, suc, pred, _+_, _*_, _%_}
 use mathlib.Core.Bool.{Bool, true, false, cond}
 use mathlib.Core.List.{List, [], _∷_, _++_}
@@ -43,7 +44,7 @@ decodeFour a b c d =
     (cond (later c) (characterIf (later d) (a % 0x08 * 0x40000 + b % 0x40 * 0x1000 + c % 0x40 * 0x40 + d % 0x40) 4) IllFormed)
     IllFormed
 
--- Table 3-7 by its first byte. Of the four bytes the last may lie past the character; one past the end of the text is 0 and fits nowhere.
+-- Table 3-7 by its first byte. Of the four bytes the last may lie past the character; one past the end of the text is 0 and fits nowhere (1.4).
 unfoldable pub table : ℕ → ℕ → ℕ → ℕ → Decoded
 table a b c d =
     cond (ltb a 0x80) (Character a 1)
@@ -53,12 +54,12 @@ table a b c d =
     (cond (ltb a 0xF5) (decodeFour a b c d)
     IllFormed))))
 
--- the character that a text begins with
+-- the character that a text begins with (1.4)
 unfoldable pub decodeFirst : List ℕ → Decoded
 decodeFirst [] = End
 decodeFirst (a ∷ s) = table a (getD s 0 0) (getD s 1 0) (getD s 2 0)
 
--- a piece of a text: a character by its code, or one byte where no character begins
+-- a piece of a text: a character by its code, or one byte where no character begins (1.11)
 pub data Piece : Type 0 where
   character : ℕ → Piece
   stray : ℕ → Piece
@@ -86,6 +87,7 @@ piecesFrom (a ∷ s) (suc skip) = piecesFrom s skip
 piecesFrom (a ∷ s) zero =
     onDecoded (decodeFirst (a ∷ s)) (λ code n. character code ∷ piecesFrom s (pred n)) (stray a ∷ piecesFrom s 0)
 
+-- (1.11)
 unfoldable pub piecesOf : List ℕ → List Piece
 piecesOf s = piecesFrom s 0
 
@@ -104,17 +106,18 @@ codesOf [] = []
 codesOf (character code ∷ pieces) = code ∷ codesOf pieces
 codesOf (stray b ∷ pieces) = []
 
+-- (1.6)
 unfoldable pub codesIn : List ℕ → List ℕ
 codesIn s = codesOf (piecesOf s)
 
--- the length of the longest well-formed prefix
+-- the length of the longest well-formed prefix (1.6)
 unfoldable pub wellFormedLength : List ℕ → ℕ
 wellFormedLength s = length (encodeAll (codesIn s))
 
--- a well-formed text: its longest well-formed prefix is all of it
+-- a well-formed text: its longest well-formed prefix is all of it (1.5)
 unfoldable pub wellFormed : List ℕ → Bool
 wellFormed text = eqb (wellFormedLength text) (length text)
 
--- an ill-formed one: that prefix is shorter
+-- an ill-formed one: that prefix is shorter (1.5)
 abbrev pub isIllFormed : List ℕ → Bool
 isIllFormed text = ltb (wellFormedLength text) (length text)

@@ -1,10 +1,10 @@
--- White space: the code points with Unicode's property White_Space (PropList.txt).
+-- White space: the code points with Unicode's property White_Space (PropList.txt) (STANDARD 1.7, 12.12).
 use Prim.Native.Nat.{ℕ}
 use mathlib.Core.Bool.{Bool, true, false, cond}
 use mathlib.Core.List.{List, [], _∷_}
 use lib.Dec.{eqb}
 
--- U+0009-000D, 0020, 0085, 00A0, 1680, 2000-200A, 2028, 2029, 202F, 205F, 3000
+-- U+0009-000D, 0020, 0085, 00A0, 1680, 2000-200A, 2028, 2029, 202F, 205F, 3000 (1.7)
 unfoldable pub whiteSpace : List ℕ
 whiteSpace =
     0x0009
@@ -39,5 +39,6 @@ unfoldable pub among : ℕ → List ℕ → Bool
 among n [] = false
 among n (m ∷ list) = cond (eqb m n) true (among n list)
 
+-- (1.7)
 unfoldable pub isWhiteSpace : ℕ → Bool
 isWhiteSpace code = among code whiteSpace

@@ -152,8 +152,8 @@ grow-node d hd n ds u defs below next grow-below grow-next seen rest o h m =
     let g = grow-below (e .into) (flatten d next ++ rest) inner deep (omega arith) in
     let count₂ = g .nodes in
     let q : take (suc d) (g .out .path) ≡ take (suc d) (take d (seen .path) ++ n ∷ []) = g .path ∙ ap (take (suc d)) (e .path) in
-    let behind : orderly (getD (g .out .path) d []) d next ≡ true = rw (name-there d n (seen .path) (g .out .path) h q) (e .o-next) in
-    let k = grow-next (g .out) rest behind (deep-there d n (seen .path) (g .out .path) h q) (omega arith) in
+    let beyond : orderly (getD (g .out .path) d []) d next ≡ true = rw (name-there d n (seen .path) (g .out .path) h q) (e .o-next) in
+    let k = grow-next (g .out) rest beyond (deep-there d n (seen .path) (g .out .path) h q) (omega arith) in
     let count₃ = k .nodes in
     record {
       out = k .out;

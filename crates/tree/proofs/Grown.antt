@@ -52,15 +52,15 @@ unfolding seenBy
 start-stands buffer = (omega arith, record { place = refl; short = omega arith; number = 0; way = λ rest. sets-out rest startWalk refl; seen = λ rest. refl })
 
 -- a frame that is alone is read the same whatever comes after it
-frame-behind : (frame rest : List ℕ) (f : Frame) → Bytes frame → fair f ≡ true → readFirst frame ≡ read f (length frame) → readFirst (frame ++ rest) ≡ read f (length frame)
-frame-behind frame rest f b g e =
+frame-after : (frame rest : List ℕ) (f : Frame) → Bytes frame → fair f ≡ true → readFirst frame ≡ read f (length frame) → readFirst (frame ++ rest) ≡ read f (length frame)
+frame-after frame rest f b g e =
     let back : frame ≡ encodeFrame f = read-back frame b f (length frame) e ∙ rw (drop-length frame) (append-nil (encodeFrame f)) in
     rw back (frame-read f rest (fair-fits f g))
 
 -- one frame after an image that was passed
 module _ (image : List ℕ) (walk : Walk) (p : Passed image walk) (frame : List ℕ) (b : Bytes frame) (f : Frame) (e : readFirst frame ≡ read f (length frame)) where
-  behind : (rest : List ℕ) → drop (walk .at) (image ++ (frame ++ rest)) ≡ frame ++ rest
-  behind rest = drop-at image (frame ++ rest) (walk .at) (sym (p .place))
+  beyond : (rest : List ℕ) → drop (walk .at) (image ++ (frame ++ rest)) ≡ frame ++ rest
+  beyond rest = drop-at image (frame ++ rest) (walk .at) (sym (p .place))
 
   -- where it obeys it is passed too
   module _ (o : obeys (seenBy image walk) f ≡ true) where
@@ -69,7 +69,7 @@ module _ (image : List ℕ) (walk : Walk) (p : Passed image walk) (frame : List 
 
     found : (rest : List ℕ) → readFirst (drop (walk .at) (image ++ (frame ++ rest))) ≡ read f (length frame)
     unfolding obeys
-    found rest = rw (behind rest) (frame-behind frame rest f b (both-first (fair f) _ o) e)
+    found rest = rw (beyond rest) (frame-after frame rest f b (both-first (fair f) _ o) e)
 
     obeyed : (rest : List ℕ) → obeys (seenBy (image ++ (frame ++ rest)) walk) f ≡ true
     obeyed rest = rw (p .seen (frame ++ rest)) o

@@ -63,10 +63,10 @@ up-up far near k (f ∷ l) = by (far f) refl (up-up far near k l)
     by true e more = sym (then-is _ _ _ (k f e))
     by false e more = ap (λ (m : List Frame). cond (near f) [] (f ∷ m)) more
 
-on-behind : (test : Frame → Bool) (a b : List Frame) → onFrom test a ≡ [] → onFrom test (a ++ b) ≡ onFrom test b
+on-after : (test : Frame → Bool) (a b : List Frame) → onFrom test a ≡ [] → onFrom test (a ++ b) ≡ onFrom test b
 unfolding onFrom
-on-behind test [] b e = refl
-on-behind test (f ∷ a) b e = by (test f) e (on-behind test a b)
+on-after test [] b e = refl
+on-after test (f ∷ a) b e = by (test f) e (on-after test a b)
   where
     by : (t : Bool) → cond t (f ∷ a) (onFrom test a) ≡ [] → (onFrom test a ≡ [] → onFrom test (a ++ b) ≡ onFrom test b) → cond t (f ∷ (a ++ b)) (onFrom test (a ++ b)) ≡ onFrom test b
     by true q more = absurd (let z : _≡_ {A = ℕ} 0 1 = cc in omega arith)
@@ -260,7 +260,7 @@ module _ (words image : List ℕ) (b : Bytes image) (at n : ℕ) (f : Frame) (e 
           none = o .none;
           bytes = front-on (t .place .start) (o .start) ∙ ap (λ (s : List ℕ). s ++ encodeFrame f) (o .bytes) ∙ ap (λ (s : List ℕ). flat passed ++ s) (sym flat-one) ∙ sym (flat-append passed (f ∷ []));
           fair = fair-both passed (f ∷ []) (o .fair) fair-one;
-          free = λ w l q. on-behind (isNamed (t .depth) w) passed (f ∷ []) (o .free w l q) ∙ on-other (isNamed (t .depth) w) (m w l q);
+          free = λ w l q. on-after (isNamed (t .depth) w) passed (f ∷ []) (o .free w l q) ∙ on-other (isNamed (t .depth) w) (m w l q);
           steps =
               ap (λ (fs : List Frame). descend (t .depth) fs (path words image at t passed o) (left words image at t passed o)) (append-snoc passed f (upTo (isAbove (t .depth)) more) ∙ ap (λ (fs : List Frame). passed ++ fs) (sym (up-over (isAbove (t .depth)) a)))
               ∙ o .steps;
@@ -283,7 +283,7 @@ module _ (words image : List ℕ) (b : Bytes image) (at n : ℕ) (f : Frame) (e 
       child c =
           ap (rooted (t .depth))
           (ap (λ (l : List Frame). onFrom (isNamed (t .depth) word) (passed ++ l)) (up-over (isAbove (t .depth)) a)
-          ∙ on-behind (isNamed (t .depth) word) passed (f ∷ upTo (isAbove (t .depth)) more) (o .free word _ (words-more words (t .place .at) kind m q))
+          ∙ on-after (isNamed (t .depth) word) passed (f ∷ upTo (isAbove (t .depth)) more) (o .free word _ (words-more words (t .place .at) kind m q))
           ∙ on-met (isNamed (t .depth) word) (upTo (isAbove (t .depth)) more) c)
           ∙ ap (λ (l : List Frame). f ∷ l) (up-up (isAbove (t .depth)) (isUpper (t .depth)) (above-upper (t .depth)) more)
 

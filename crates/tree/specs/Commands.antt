@@ -6,7 +6,7 @@ use Rattle.image.specs.Frames.{Frame, node, option, flag}
 use Rattle.tree.specs.Images.{framesOf}
 use Rattle.tree.specs.Subtrees.{subtree}
 
--- the command that words lead to: its path, the words left over, and its subtree
+-- the command that words lead to: its path, the words left over, and its subtree (7.3)
 pub record Reached : Type 0 where
   pub path : List (List ℕ)
   pub words : List (List ℕ)
@@ -16,7 +16,7 @@ abbrev pub onSubtree : {A : Type 0} → List Frame → A → (List Frame → A) 
 onSubtree [] absent found = absent
 onSubtree (f ∷ l) absent found = found (f ∷ l)
 
--- words are followed while they name a child, which is a node of that depth in the subtree
+-- words are followed while they name a child, which is a node of that depth in the subtree (6.19, 7.3)
 unfoldable pub descend : ℕ → List Frame → List (List ℕ) → List (List ℕ) → Reached
 descend depth frames path [] = record { path = path; words = []; frames = frames }
 descend depth frames path (w ∷ words) =

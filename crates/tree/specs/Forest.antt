@@ -1,4 +1,4 @@
--- The tree that an image stands for, and its rules: siblings rise strictly, and there are limits.
+-- The tree that an image stands for, and its rules: siblings rise strictly, and there are limits (STANDARD 6.11, 6.20).
 use Prim.Native.Nat.{ℕ, suc, _+_}
 use mathlib.Core.Bool.{Bool, true, false}
 use mathlib.Core.List.{List, [], _∷_, _++_}
@@ -8,12 +8,12 @@ use Rattle.image.specs.Frames.{Perhaps, Frame, node, option, flag}
 use Rattle.image.specs.Limits.{both, fair}
 use Rattle.tree.specs.Rules.{isLess}
 
--- siblings: none, or a node with its definitions and all below it, and the siblings after it
+-- siblings: none, or a node with its definitions and all below it, and the siblings after it (6.20)
 pub data Forest : Type 0 where
   bare : Forest
   grown : (handler : ℕ) (name description : List ℕ) (usage : Perhaps) (definitions : List Frame) (below after : Forest) → Forest
 
--- the frames of siblings of that depth: each node, its definitions, all below it, then the next
+-- the frames of siblings of that depth: each node, its definitions, all below it, then the next (6.11, 6.20)
 unfoldable pub flatten : ℕ → Forest → List Frame
 flatten d bare = []
 flatten d (grown handler name description usage definitions below after) =
@@ -45,7 +45,7 @@ definitionsOnly (flag c name long description ∷ l) = both (fair (flag c name l
 abbrev pub modest : List Frame → Bool
 modest l = both (definitionsOnly l) (both (leb (optionsIn l) 32) (leb (flagsIn l) 32))
 
--- siblings of that depth which rise strictly from a name on, the empty one before the first
+-- siblings of that depth which rise strictly from a name on, the empty one before the first (6.20)
 unfoldable pub orderly : List ℕ → ℕ → Forest → Bool
 orderly before d bare = true
 orderly before d (grown handler name description usage definitions below after) =

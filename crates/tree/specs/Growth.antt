@@ -21,6 +21,7 @@ fills size (read f n) = eqb n size
 fills size broken = false
 fills size ended = false
 
+-- (6.21, 11.9)
 unfoldable pub oneFrame : List ℕ → Bool
 oneFrame bytes = fills (length bytes) (readFirst bytes)
 
@@ -28,7 +29,7 @@ abbrev pub isGood : Checked → Bool
 isGood Good = true
 isGood (BadFrame n) = false
 
--- whether an image takes these bytes: they are one frame, and with it the image is well-formed
+-- whether an image takes these bytes: they are one frame, and with it the image is well-formed (6.21, 11.9)
 unfoldable pub takes : List ℕ → List ℕ → Bool
 takes image bytes = both (oneFrame bytes) (isGood (checkTree (image ++ bytes)))
 
@@ -42,6 +43,7 @@ obeysBy seen (read f n) = obeys seen f
 obeysBy seen broken = false
 obeysBy seen ended = false
 
+-- (6.21)
 unfoldable pub admits : Walk → List ℕ → List ℕ → Bool
 admits walk bytes buffer =
     both (hasRoom walk (length bytes) (length buffer)) (both (obeysBy (seenBy buffer walk) (readFirst bytes)) (oneFrame bytes))
@@ -53,6 +55,7 @@ passedBy walk ended = walk
 
 -- One frame more, or all as it was. The answer says no more than whether it was taken: a frame that comes by itself has no number in the table of the standard. In a session the line that
 -- held it is the console's to answer, by a frame 2F with the line's number; an image that is lent whole is refused by 1 with the frame's number.
+-- (6.21)
 pub record Grows (walk : Walk) (frame buffer : List ℕ) (r : Step) (left : List ℕ) : Type 0 where
   pub answer : r ≡ stepIf (admits walk frame buffer) walk (passedBy walk (readFirst frame))
   pub bytes : left ≡ cond (admits walk frame buffer) (overAt frame buffer (walk .at)) buffer

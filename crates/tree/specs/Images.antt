@@ -1,10 +1,10 @@
--- An image as frames, one after the other.
+-- An image as frames, one after the other (STANDARD 6.4, 6.16, 6.23).
 use Prim.Native.Nat.{ℕ, zero, suc, _-_}
 use mathlib.Core.List.{List, [], _∷_, _++_}
 use Rattle.image.specs.Frames.{Frame, encodeFrame}
 use Rattle.image.specs.Reading.{Read, read, broken, ended, readFirst}
 
--- a frame, or bytes that are none
+-- a frame, or bytes that are none (6.16)
 pub data Item : Type 0 where
   whole : Frame → Item
   torn : Item
@@ -20,6 +20,7 @@ itemsFrom [] j = []
 itemsFrom (a ∷ s) zero = onRead (readFirst (a ∷ s)) (λ f n. whole f ∷ itemsFrom s (n - 1))
 itemsFrom (a ∷ s) (suc j) = itemsFrom s j
 
+-- (6.16)
 unfoldable pub items : List ℕ → List Item
 items s = itemsFrom s 0
 
@@ -29,10 +30,11 @@ framesIn [] = []
 framesIn (whole f ∷ l) = f ∷ framesIn l
 framesIn (torn ∷ l) = []
 
+-- (6.23)
 unfoldable pub framesOf : List ℕ → List Frame
 framesOf s = framesIn (items s)
 
--- the image of frames: the frames joined
+-- the image of frames: the frames joined (6.4)
 unfoldable pub flat : List Frame → List ℕ
 flat [] = []
 flat (f ∷ l) = encodeFrame f ++ flat l

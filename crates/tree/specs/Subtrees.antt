@@ -1,4 +1,4 @@
--- The subtree of a node in a list of frames: the node and all frames before the next node of its depth or less.
+-- The subtree of a node in a list of frames: the node and all frames before the next node of its depth or less (STANDARD 6.18, 7.2).
 use Prim.Native.Nat.{ℕ}
 use mathlib.Core.Bool.{Bool, false, cond}
 use mathlib.Core.List.{List, [], _∷_}
@@ -13,7 +13,7 @@ isNamed d key (node e h name description usage) = both (eqb e d) (sameBytes name
 isNamed d key (option r c name long description) = false
 isNamed d key (flag c name long description) = false
 
--- a node of that depth or less
+-- a node of that depth or less (6.18)
 abbrev pub isUpper : ℕ → Frame → Bool
 isUpper d (node e h name description usage) = leb e d
 isUpper d (option r c name long description) = false
@@ -28,10 +28,11 @@ unfoldable pub onFrom : (Frame → Bool) → List Frame → List Frame
 onFrom test [] = []
 onFrom test (f ∷ l) = cond (test f) (f ∷ l) (onFrom test l)
 
--- a node of depth d and all frames before the next node of its depth or less
+-- a node of depth d and all frames before the next node of its depth or less (6.18)
 abbrev pub rooted : ℕ → List Frame → List Frame
 rooted d [] = []
 rooted d (f ∷ l) = f ∷ upTo (isUpper d) l
 
+-- (6.18, 7.2)
 unfoldable pub subtree : ℕ → List ℕ → List Frame → List Frame
 subtree d name fs = rooted d (onFrom (isNamed d name) fs)

@@ -90,8 +90,8 @@ impl Trail {
             return self;
         }
         let name = self.place.at + 3;
-        let behind = name + bytes;
-        if byte_at(image, at + 4 + bytes) != byte_at(words, behind - 1) {
+        let beyond = name + bytes;
+        if byte_at(image, at + 4 + bytes) != byte_at(words, beyond - 1) {
             return self;
         }
         if !same(name_at(image, at + 4), part(words, name, bytes)) {
@@ -101,10 +101,10 @@ impl Trail {
             place: Place {
                 start: at,
                 end: image.len(),
-                at: behind,
+                at: beyond,
             },
             depth: self.depth + 1,
-            next: next_word(words, behind),
+            next: next_word(words, beyond),
         }
     }
 

@@ -1,4 +1,4 @@
--- The trees of the shell's base commands, with and without its file system, taken from the original's builders to the letter.
+-- The trees of the shell's base commands, with and without its file system, taken from the original's builders to the letter (STANDARD 6.22).
 use Prim.Native.Nat.{ℕ}
 use Prim.Native.Char.{Char, code}
 use Prim.Native.String.{String}
@@ -14,7 +14,7 @@ command handler name description usage = node 0 handler (ascii name) (ascii desc
 unfoldable pub marked : Char → String → String → String → Frame
 marked short name long description = flag (code short) (ascii name) (present (ascii long)) (ascii description)
 
--- without the feature fs: handlers numbered from 1 in name order
+-- without the feature fs: handlers numbered from 1 in name order (6.22)
 unfoldable pub baseTree : List Frame
 baseTree =
     command 1 "exit" "Exit the shell" "exit [EXIT_CODE]"
@@ -25,7 +25,7 @@ baseTree =
     ∷ marked "m" "machine" "machine" "Show machine architecture"
     ∷ []
 
--- with the feature fs
+-- with the feature fs (6.22)
 unfoldable pub fsTree : List Frame
 fsTree =
     command 1 "cat" "Display file contents" "cat <FILE1> [FILE2...]"

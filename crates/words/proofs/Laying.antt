@@ -27,8 +27,8 @@ use Rattle.words.proofs.Standing.{shown, Standing, standing-start, stan
 unfoldable pub laid : List ℕ → List ℕ → List ℕ → ℕ → List ℕ
 laid frames word out done = overAt (encodeAll word) (over frames out) (done + 3)
 
-over-behind : (f x d : List ℕ) → length f ≤ length d → overAt x (over f d) (length f) ≡ over (f ++ x) d
-over-behind f x d h =
+over-after : (f x d : List ℕ) → length f ≤ length d → overAt x (over f d) (length f) ≡ over (f ++ x) d
+over-after f x d h =
     let z : 0 + length f ≡ length f = omega arith in
     ap (λ (n : ℕ). overAt x (over f d) n) (sym z)
     ∙ ap (λ (l : List ℕ). overAt x l (0 + length f)) (sym (overAt-front f d))
@@ -52,7 +52,7 @@ close-some frames word out done n d e some room =
     ∙ overAt-before head (encodeAll word) (over frames out) done (omega arith)
     ∙ ap (λ (l : List ℕ). overAt l (over frames out) done) is
     ∙ ap (λ (k : ℕ). overAt (0x14 ∷ (numberBytes 2 (length (encodeAll word)) ++ encodeAll word)) (over frames out) k) d
-    ∙ over-behind frames (0x14 ∷ (numberBytes 2 (length (encodeAll word)) ++ encodeAll word)) out (omega arith)
+    ∙ over-after frames (0x14 ∷ (numberBytes 2 (length (encodeAll word)) ++ encodeAll word)) out (omega arith)
 
 some-word : (c : ℕ) (word : List ℕ) → length (encodeAll (c ∷ word)) ≡ 0 → ⊥
 some-word c word e = let q = word-none (c ∷ word) e in let z : _≡_ {A = ℕ} 0 1 = cc in omega arith

@@ -183,7 +183,7 @@ reading-on line s n end h w =
     let k = h .some in
     let there : s .at + (end - s .at) ≡ end = omega arith in
     let size : end - s .at ≡ n + (end - (s .at + n)) = omega arith in
-    let behind : List ℕ = codesIn (drop end line) in
+    let beyond : List ℕ = codesIn (drop end line) in
     record {
       run = h .run ++ r .run;
       some = omega arith;
@@ -191,7 +191,7 @@ reading-on line s n end h w =
       prefix = rw there (r .prefix ∙ h .prefix);
       codes =
           rw there
-          (h .codes ∙ ap (λ (l : List ℕ). h .run ++ l) (r .codes) ∙ sym (append-assoc (h .run) (r .run) behind));
+          (h .codes ∙ ap (λ (l : List ℕ). h .run ++ l) (r .codes) ∙ sym (append-assoc (h .run) (r .run) beyond));
       bytes =
           ap (λ (m : ℕ). take m (drop (s .at) line)) size
           ∙ take-add n (end - (s .at + n)) (drop (s .at) line)

@@ -12,11 +12,11 @@ use Rattle.words.specs.Tokens.{wordsOf, wordFrames}
 use Rattle.words.specs.declared.tokenizer.Tokens.{Tokens}
 use Rattle.words.specs.declared.tokenizer.Tokens.the-variants.{Words, LineTooLong, IllFormed, NoRoom}
 
--- the frames of a line's words: what `tokenize` writes
+-- the frames of a line's words: what `tokenize` writes (5.5)
 unfoldable pub written : List ℕ → List ℕ
 written line = wordFrames (wordsOf line)
 
--- the answer for a line and a buffer of `room` bytes
+-- the answer for a line and a buffer of `room` bytes (10.8)
 unfoldable pub answerFor : List ℕ → ℕ → Tokens
 answerFor line room =
     cond (ltb lineLimit (length line)) (LineTooLong (min (length line) valueLimit))
@@ -31,6 +31,7 @@ leavesBy (LineTooLong n) frames out = out
 leavesBy (IllFormed n) frames out = out
 leavesBy (NoRoom n) frames out = out
 
+-- (10.8)
 unfoldable pub leavesFor : List ℕ → List ℕ → List ℕ
 leavesFor line out = leavesBy (answerFor line (length out)) (written line) out
 

@@ -18,7 +18,7 @@ abbrev pub quote : ℕ
 quote = 0x22
 
 -- what a character does. After `\` the next is taken as it stands, also inside quotes; `\` and `"` vanish; white space outside
--- quotes ends a word; everything else is taken into the word.
+-- quotes ends a word; everything else is taken into the word (5.1, 5.4).
 unfoldable pub roleOf : Bool → Bool → ℕ → Role
 roleOf quotes escaped code =
     cond escaped Take
@@ -35,7 +35,7 @@ onRole Toggle a b c d = c tt
 onRole Gap a b c d = d tt
 
 -- the words still to come where `word` has been read and not ended, inside quotes or not, after `\` or not. Empty words don't exist;
--- a final `\` is lost; an open quotation ends with the line.
+-- a final `\` is lost; an open quotation ends with the line (5.1 to 5.3).
 unfoldable pub tokensFrom : List ℕ → Bool → Bool → List ℕ → List (List ℕ)
 tokensFrom word quotes escaped [] = unlessEmpty word []
 tokensFrom word quotes escaped (code ∷ codes) =
@@ -45,14 +45,15 @@ tokensFrom word quotes escaped (code ∷ codes) =
     (λ _. tokensFrom word (not quotes) false codes)
     (λ _. unlessEmpty word (tokensFrom [] quotes false codes))
 
--- the words of a line, each by its characters, and each as a text
+-- the words of a line, each by its characters, and each as a text (5.1)
 unfoldable pub tokens : List ℕ → List (List ℕ)
 tokens line = tokensFrom [] false false (codesIn line)
 
+-- (5.1, 5.11, 7.1, 12.9)
 unfoldable pub wordsOf : List ℕ → List (List ℕ)
 wordsOf line = map encodeAll (tokens line)
 
--- words as frames of kind 14
+-- words as frames of kind 14 (5.5)
 unfoldable pub wordFrames : List (List ℕ) → List ℕ
 wordFrames [] = []
 wordFrames (word ∷ words) = frameOf 0x14 word ++ wordFrames words

@@ -16,8 +16,8 @@ enum-known-texts c = search needs
 returns : tie.Need-returns
 returns c = end-none (c .before .before .before .args .image .now) (c .before .before .before .args .start) (c .before .before .before .args .depth) _ (c .before .head-at .ensures) (c .match .keys2)
 
-add-behind : tie.Need-add-behind
-add-behind c = omega (arith, node-fits (c .before .before .before .before .before .before .args .image .now) (c .before .before .before .before .before .before .args .start) (c .before .before .before .before .before .before .args .depth) _ _ _ (sym (c .before .before .texts .given .1) ∙ c .before .before .before .before .head-at .ensures))
+add-later : tie.Need-add-later
+add-later c = omega (arith, node-fits (c .before .before .before .before .before .before .args .image .now) (c .before .before .before .before .before .before .args .start) (c .before .before .before .before .before .before .args .depth) _ _ _ (sym (c .before .before .texts .given .1) ∙ c .before .before .before .before .head-at .ensures))
 
 part-requires : tie.Need-part-requires
 part-requires c κs = search needs
@@ -48,7 +48,7 @@ subtree-end-spec =
     head-at-requires
     enum-known-texts
     returns
-    add-behind
+    add-later
     part-requires
     seek-requires
     enum-known-end

@@ -28,14 +28,14 @@ part-requires c κs = search needs
 take-piece-requires : tie.Need-take-piece-requires Inv-loop μ-loop
 take-piece-requires c κs = (c .before .before .before .before .before .before .before .before .loop .inv .0, omega arith)
 
-behind-requires : tie.Need-behind-requires Inv-loop μ-loop
-behind-requires c κs = (c .before .before .before .before .before .before .before .before .before .before .before .before .before .before .before .before .before .before .loop-test .taken, c .before .before .before .before .before .before .before .before .before .before .before .before .before .before .before .before .before .before .before .before .before .before .before .before .before .before .before .pre .3)
+beyond-requires : tie.Need-beyond-requires Inv-loop μ-loop
+beyond-requires c κs = (c .before .before .before .before .before .before .before .before .before .before .before .before .before .before .before .before .before .before .loop-test .taken, c .before .before .before .before .before .before .before .before .before .before .before .before .before .before .before .before .before .before .before .before .before .before .before .before .before .before .before .pre .3)
 
 loop-less : tie.Need-loop-less Inv-loop μ-loop
-loop-less c = let l = c .behind .ensures in omega arith
+loop-less c = let l = c .beyond .ensures in omega arith
 
 loop-again : tie.Need-loop-again Inv-loop μ-loop
-loop-again c = (c .before .before .before .before .before .before .before .before .before .before .before .take-piece .ensures, c .behind .ensures .1, search needs, search needs, c .before .before .before .before .before .before .before .before .before .before .before .before .before .before .before .before .before .before .before .before .loop .inv .4)
+loop-again c = (c .before .before .before .before .before .before .before .before .before .before .before .take-piece .ensures, c .beyond .ensures .1, search needs, search needs, c .before .before .before .before .before .before .before .before .before .before .before .before .before .before .before .before .before .before .before .before .loop .inv .4)
 
 end-requires : tie.Need-end-requires Inv-loop μ-loop
 end-requires c κs = let k = c .before .before .before .before .loop .inv in let m = c .before .before .before .before .before .before .before .before .before .before .before .before .pre .4 in let o = k .2 in (λ e. let r = reads-so _ e in k .0 .early (r .0) (r .1), omega arith)
@@ -68,7 +68,7 @@ take-all-spec =
     loop-holds
     part-requires
     take-piece-requires
-    behind-requires
+    beyond-requires
     loop-less
     loop-again
     end-requires

@@ -27,13 +27,13 @@ push-requires-2 c κs = let r = room (c .before .before .before .before .before 
 push-requires-3 : tie.Need-push-requires-3
 push-requires-3 c κs = let r = room (c .before .before .before .before .before .before .before .before .before .before .before .before .before .before .before .args .prompt .now) (c .before .before .before .before .before .before .before .before .before .before .before .before .before .before .before .args .content .now) (c .before .before .before .before .before .before .before .before .before .before .before .before .before .before .before .args .cursor) (c .before .before .before .before .before .before .before .before .before .before .before .before .before .before .before .args .out .now) _ (c .before .before .before .before .before .before .before .before .before .before .before .redraw-size .ensures) (omega arith) (c .before .before .before .before .before .before .before .before .before .before .if1 .left) in omega arith
 
-behind-requires : tie.Need-behind-requires
-behind-requires c κs = search needs
+beyond-requires : tie.Need-beyond-requires
+beyond-requires c κs = search needs
 
 push-move-requires : tie.Need-push-move-requires
 push-move-requires c κs =
     let r = room (c .before .before .before .before .before .before .before .before .before .before .before .before .before .before .before .before .before .before .before .before .args .prompt .now) (c .before .before .before .before .before .before .before .before .before .before .before .before .before .before .before .before .before .before .before .before .args .content .now) (c .before .before .before .before .before .before .before .before .before .before .before .before .before .before .before .before .before .before .before .before .args .cursor) (c .before .before .before .before .before .before .before .before .before .before .before .before .before .before .before .before .before .before .before .before .args .out .now) _ (c .before .before .before .before .before .before .before .before .before .before .before .before .before .before .before .before .redraw-size .ensures) (omega arith) (c .before .before .before .before .before .before .before .before .before .before .before .before .before .before .before .if1 .left) in
-    let m = ap (λ (n : ℕ). length (moveBack n)) (c .before .behind .ensures) in
+    let m = ap (λ (n : ℕ). length (moveBack n)) (c .before .beyond .ensures) in
     omega arith
 
 same-length : tie.Need-same-length
@@ -45,7 +45,7 @@ returns-2 c =
     let e = c .before .before .before .before .before .before .before .before .before .before .before .before .before .before .before .before .before .before .before .redraw-size .ensures in
     let h : length (a .out .now) < 2 ^ 63 = omega arith in
     let f = enough (a .prompt .now) (a .content .now) (a .cursor) (a .out .now) _ e h (c .before .before .before .before .before .before .before .before .before .before .before .before .before .before .before .before .before .before .if1 .left) in
-    let w = pushed-redraw (a .prompt .now) (a .content .now) (a .cursor) (a .out .now) _ _ _ _ _ _ _ _ _ (c .before .before .before .before .behind .ensures) (omega arith) (c .before .before .before .before .before .before .before .before .before .before .before .before .before .before .before .push .ensures) (c .before .before .before .before .before .before .before .before .before .before .before .push2 .ensures) (c .before .before .before .before .before .before .before .push3 .ensures) (c .before .before .push-move .ensures) in
+    let w = pushed-redraw (a .prompt .now) (a .content .now) (a .cursor) (a .out .now) _ _ _ _ _ _ _ _ _ (c .before .before .before .before .beyond .ensures) (omega arith) (c .before .before .before .before .before .before .before .before .before .before .before .before .before .before .before .push .ensures) (c .before .before .before .before .before .before .before .before .before .before .before .push2 .ensures) (c .before .before .before .before .before .before .before .push3 .ensures) (c .before .before .push-move .ensures) in
     shown (a .prompt .now) (a .content .now) (a .cursor) (a .out .now) _ e _ h (c .before .before .before .before .before .before .before .before .before .before .before .before .before .before .before .before .before .before .if1 .left) w
 
 pub clear-line-and-redraw-spec : {M : Type 1} → statement M
@@ -58,7 +58,7 @@ clear-line-and-redraw-spec =
     push-requires
     push-requires-2
     push-requires-3
-    behind-requires
+    beyond-requires
     push-move-requires
     same-length
     returns-2)

@@ -12,8 +12,8 @@ use Rattle.screen.proofs.line.redraw_size.Tie as tie
 add-texts : tie.Need-add-texts
 add-texts c = search needs
 
-behind-requires : tie.Need-behind-requires
-behind-requires c κs = search needs
+beyond-requires : tie.Need-beyond-requires
+beyond-requires c κs = search needs
 
 move-size-requires : tie.Need-move-size-requires
 move-size-requires c κs = search needs
@@ -27,7 +27,7 @@ sub-if1 c = search needs
 returns : tie.Need-returns
 returns c =
     let n = redraw-length (c .before .before .before .before .before .args .prompt .now) (c .before .before .before .before .before .args .content .now) (c .before .before .before .before .before .args .cursor) in
-    let m = ap (λ (k : ℕ). length (moveBack k)) (c .before .before .behind .ensures) in
+    let m = ap (λ (k : ℕ). length (moveBack k)) (c .before .before .beyond .ensures) in
     omega arith
 
 add-result : tie.Need-add-result
@@ -36,7 +36,7 @@ add-result c = search needs
 returns-2 : tie.Need-returns-2
 returns-2 c =
     let n = redraw-length (c .before .before .before .before .before .args .prompt .now) (c .before .before .before .before .before .args .content .now) (c .before .before .before .before .before .args .cursor) in
-    let m = ap (λ (k : ℕ). length (moveBack k)) (c .before .before .behind .ensures) in
+    let m = ap (λ (k : ℕ). length (moveBack k)) (c .before .before .beyond .ensures) in
     omega arith
 
 pub redraw-size-spec : {M : Type 1} → statement M
@@ -44,7 +44,7 @@ redraw-size-spec =
     tie.close
     (tie.spec
     add-texts
-    behind-requires
+    beyond-requires
     move-size-requires
     add-rest
     sub-if1

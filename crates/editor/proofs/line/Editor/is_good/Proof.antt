@@ -1,6 +1,6 @@
 -- `editor::line::Editor::is_good` meets its contract.
 use borrow.Author.Needs.{needs}
-use Rattle.editor.proofs.Lines.{whole-line, too-long, past-end, zeros-behind}
+use Rattle.editor.proofs.Lines.{whole-line, too-long, past-end, zeros-after}
 use native.Mathlib.Omega.{arith}
 use mathlib.Core.Path.{sym}
 use Rattle.editor.proofs.line.Editor.is_good.Statement.{statement}
@@ -22,7 +22,7 @@ greatest-byte-requires : tie.Need-greatest-byte-requires
 greatest-byte-requires c κs = search needs
 
 returns-3 : tie.Need-returns-3
-returns-3 c = zeros-behind (c .before .before .before .before .before .before .before .args .self) _ (whole-line (c .before .before .before .before .before .before .before .args .self .line) (c .before .before .before .before .before .before .before .good .0 .1 .1 .0 .1 .0 .1)) (c .before .before .before .before .before .before .if1 .left) (c .before .before .before .before .if2 .left) (c .greatest-byte .ensures)
+returns-3 c = zeros-after (c .before .before .before .before .before .before .before .args .self) _ (whole-line (c .before .before .before .before .before .before .before .args .self .line) (c .before .before .before .before .before .before .before .good .0 .1 .1 .0 .1 .0 .1)) (c .before .before .before .before .before .before .if1 .left) (c .before .before .before .before .if2 .left) (c .greatest-byte .ensures)
 
 pub is-good-spec : {M : Type 1} → statement M
 is-good-spec =

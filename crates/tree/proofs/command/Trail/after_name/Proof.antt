@@ -22,8 +22,8 @@ returns c = let w = next-framed _ _ (sym (c .before .before .before .before .pre
 add-name : tie.Need-add-name
 add-name c = let w = next-framed _ _ (sym (c .before .before .before .before .before .pre .1 .1) ∙ c .before .before .before .before .before .pre .0 .3) in let h = word-within (c .before .before .before .before .before .args .words .now) (c .before .before .before .before .before .args .self .place .at) (w .0) (c .before .before .before .before .before .args .bytes) (w .1) in let s = c .before .before .before .before .before .pre .0 .0 in omega arith
 
-add-behind : tie.Need-add-behind
-add-behind c = let w = next-framed _ _ (sym (c .before .before .before .before .before .pre .1 .1) ∙ c .before .before .before .before .before .pre .0 .3) in let h = word-within (c .before .before .before .before .before .args .words .now) (c .before .before .before .before .before .args .self .place .at) (w .0) (c .before .before .before .before .before .args .bytes) (w .1) in let s = c .before .before .before .before .before .pre .0 .0 in omega arith
+add-beyond : tie.Need-add-beyond
+add-beyond c = let w = next-framed _ _ (sym (c .before .before .before .before .before .pre .1 .1) ∙ c .before .before .before .before .before .pre .0 .3) in let h = word-within (c .before .before .before .before .before .args .words .now) (c .before .before .before .before .before .args .self .place .at) (w .0) (c .before .before .before .before .before .args .bytes) (w .1) in let s = c .before .before .before .before .before .pre .0 .0 in omega arith
 
 add-byte-at-2 : tie.Need-add-byte-at-2
 add-byte-at-2 c = search needs
@@ -78,7 +78,7 @@ after-name-spec =
     byte-at-requires
     returns
     add-name
-    add-behind
+    add-beyond
     add-byte-at-2
     add-byte-at-3
     byte-at-requires-2
