@@ -20,7 +20,9 @@ same-length-2 : tie.Need-same-length-2
 same-length-2 c = search needs
 
 returns : tie.Need-returns
-returns c = fresh-call (c .before .of-fresh .result) (c .packed .result) (c .before .before .before .before .before .before .begin .ensures) (c .before .of-fresh .ensures) (c .packed .ensures)
+returns c =
+    let begin = c .before .before .before .before .before .before .begin in
+    fresh-call (c .before .of-fresh .result) (c .packed .result) (begin .ensures) (c .before .of-fresh .ensures) (c .packed .ensures)
 
 pub rissemat-fresh-spec : {M : Type 1} → statement M
 rissemat-fresh-spec =

@@ -17,7 +17,9 @@ same-length : tie.Need-same-length
 same-length c = search needs
 
 returns : tie.Need-returns
-returns c = help-call (c .before .of-help .result) (c .packed .result) (c .before .before .before .before .help .ensures) (c .before .of-help .ensures) (c .packed .ensures)
+returns c =
+    let help = c .before .before .before .before .help in
+    help-call (c .before .of-help .result) (c .packed .result) (help .ensures) (c .before .of-help .ensures) (c .packed .ensures)
 
 pub rissemat-help-spec : {M : Type 1} → statement M
 rissemat-help-spec =

@@ -20,7 +20,9 @@ same-length-2 : tie.Need-same-length-2
 same-length-2 c = search needs
 
 returns : tie.Need-returns
-returns c = add-call (c .before .of-add .result) (c .packed .result) (c .before .before .before .before .before .before .add .ensures) (c .before .of-add .ensures) (c .packed .ensures)
+returns c =
+    let add = c .before .before .before .before .before .before .add in
+    add-call (c .before .of-add .result) (c .packed .result) (add .ensures) (c .before .of-add .ensures) (c .packed .ensures)
 
 pub rissemat-history-add-spec : {M : Type 1} → statement M
 rissemat-history-add-spec =

@@ -26,7 +26,9 @@ same-length-4 : tie.Need-same-length-4
 same-length-4 c = search needs
 
 returns : tie.Need-returns
-returns c = key-call (c .before .of-key .result) (c .packed .result) (c .before .before .before .before .before .before .before .before .before .before .press .ensures) (c .before .of-key .ensures) (c .packed .ensures)
+returns c =
+    let press = c .before .before .before .before .before .before .before .before .before .before .press in
+    key-call (c .before .of-key .result) (c .packed .result) (press .ensures) (c .before .of-key .ensures) (c .packed .ensures)
 
 pub rissemat-key-spec : {M : Type 1} → statement M
 rissemat-key-spec =

@@ -17,7 +17,9 @@ same-length : tie.Need-same-length
 same-length c = search needs
 
 returns : tie.Need-returns
-returns c = parse-call (c .before .of-parse .result) (c .packed .result) (c .before .before .before .before .parse .ensures) (c .before .of-parse .ensures) (c .packed .ensures)
+returns c =
+    let parse = c .before .before .before .before .parse in
+    parse-call (c .before .of-parse .result) (c .packed .result) (parse .ensures) (c .before .of-parse .ensures) (c .packed .ensures)
 
 pub rissemat-parse-spec : {M : Type 1} → statement M
 rissemat-parse-spec =

@@ -17,7 +17,9 @@ same-length : tie.Need-same-length
 same-length c = search needs
 
 returns : tie.Need-returns
-returns c = quote-call (c .before .of-quote .result) (c .packed .result) (c .before .before .before .before .quote .ensures) (c .before .of-quote .ensures) (c .packed .ensures)
+returns c =
+    let quote = c .before .before .before .before .quote in
+    quote-call (c .before .of-quote .result) (c .packed .result) (quote .ensures) (c .before .of-quote .ensures) (c .packed .ensures)
 
 pub rissemat-quote-spec : {M : Type 1} → statement M
 rissemat-quote-spec =

@@ -17,7 +17,9 @@ same-length : tie.Need-same-length
 same-length c = search needs
 
 returns : tie.Need-returns
-returns c = run-call (c .before .of-run .result) (c .packed .result) (c .before .before .before .before .run .ensures) (c .before .of-run .ensures) (c .packed .ensures)
+returns c =
+    let run = c .before .before .before .before .run in
+    run-call (c .before .of-run .result) (c .packed .result) (run .ensures) (c .before .of-run .ensures) (c .packed .ensures)
 
 pub rissemat-run-spec : {M : Type 1} → statement M
 rissemat-run-spec =

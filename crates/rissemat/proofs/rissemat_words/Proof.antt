@@ -17,7 +17,9 @@ same-length : tie.Need-same-length
 same-length c = search needs
 
 returns : tie.Need-returns
-returns c = words-call (c .before .of-words .result) (c .packed .result) (c .before .before .before .before .tokenize .ensures) (c .before .of-words .ensures) (c .packed .ensures)
+returns c =
+    let tokenize = c .before .before .before .before .tokenize in
+    words-call (c .before .of-words .result) (c .packed .result) (tokenize .ensures) (c .before .of-words .ensures) (c .packed .ensures)
 
 pub rissemat-words-spec : {M : Type 1} → statement M
 rissemat-words-spec =

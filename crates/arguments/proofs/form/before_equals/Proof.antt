@@ -22,7 +22,10 @@ shared-slice-read-if1 : tie.Need-shared-slice-read-if1 Inv-loop μ-loop
 shared-slice-read-if1 c = search needs
 
 returns : tie.Need-returns Inv-loop μ-loop
-returns c = let e = equals-here (c .before .before .before .before .args .s .now) (c .before .before .before .loop .at) (c .before .before .loop-test .taken) (c .if1 .taken) in let i = c .before .before .before .loop .inv .0 in let k = c .before .before .before .loop .inv .1 in (omega arith, omega arith)
+returns c =
+    let args = c .before .before .before .before .args in
+    let loop = c .before .before .before .loop in
+    let e = equals-here (args .s .now) (loop .at) (c .before .before .loop-test .taken) (c .if1 .taken) in let i = loop .inv .0 in let k = loop .inv .1 in (omega arith, omega arith)
 
 add-at : tie.Need-add-at Inv-loop μ-loop
 add-at c = search needs
@@ -31,10 +34,15 @@ loop-less : tie.Need-loop-less Inv-loop μ-loop
 loop-less c = search needs
 
 loop-again : tie.Need-loop-again Inv-loop μ-loop
-loop-again c = let e = equals-next (c .before .before .before .before .args .s .now) (c .before .before .before .loop .at) (c .before .before .loop-test .taken) (c .if1 .left) in let i = c .before .before .before .loop .inv .0 in (omega arith, search needs)
+loop-again c =
+    let args = c .before .before .before .before .args in
+    let loop = c .before .before .before .loop in
+    let e = equals-next (args .s .now) (loop .at) (c .before .before .loop-test .taken) (c .if1 .left) in let i = loop .inv .0 in (omega arith, search needs)
 
 returns-2 : tie.Need-returns-2 Inv-loop μ-loop
-returns-2 c = let e = equals-end (c .before .before .args .s .now) (c .before .loop .at) (omega arith) in let i = c .before .loop .inv .0 in let k = equals-within (c .before .before .args .s .now) in (omega arith, omega arith)
+returns-2 c =
+    let args = c .before .before .args in
+    let e = equals-end (args .s .now) (c .before .loop .at) (omega arith) in let i = c .before .loop .inv .0 in let k = equals-within (args .s .now) in (omega arith, omega arith)
 
 pub before-equals-spec : {M : Type 1} → statement M
 before-equals-spec =

@@ -12,15 +12,18 @@ rest-requires : tie.Need-rest-requires
 rest-requires c κs = search needs
 
 slice-aggregate-result : tie.Need-slice-aggregate-result
-slice-aggregate-result c = sym (length-take-le (c .before .before .before .before .args .n) (c .before .before .rest .result .now) (c .before .if1 .taken))
+slice-aggregate-result c =
+    let args = c .before .before .before .before .args in
+    sym (length-take-le (args .n) (c .before .before .rest .result .now) (c .before .if1 .taken))
 
 returns : tie.Need-returns
 returns c = ap (take (c .before .before .before .before .args .n)) (c .before .before .rest .ensures)
 
 returns-2 : tie.Need-returns-2
 returns-2 c =
-    let h : length (c .before .rest .result .now) ≤ c .before .before .before .args .n = omega arith in
-    sym (take-all (c .before .before .before .args .n) (c .before .rest .result .now) h) ∙ ap (take (c .before .before .before .args .n)) (c .before .rest .ensures)
+    let args = c .before .before .before .args in
+    let h : length (c .before .rest .result .now) ≤ args .n = omega arith in
+    sym (take-all (args .n) (c .before .rest .result .now) h) ∙ ap (take (args .n)) (c .before .rest .ensures)
 
 pub part-spec : {M : Type 1} → statement M
 part-spec = tie.close (tie.spec rest-requires slice-aggregate-result returns returns-2)

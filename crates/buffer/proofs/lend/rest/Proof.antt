@@ -20,10 +20,14 @@ slice-aggregate-result : tie.Need-slice-aggregate-result
 slice-aggregate-result c = search needs
 
 returns : tie.Need-returns
-returns c = rest-lent (c .before .before .args .s .now) (c .before .before .args .at)
+returns c =
+    let args = c .before .before .args in
+    rest-lent (args .s .now) (args .at)
 
 returns-2 : tie.Need-returns-2
-returns-2 c = sym (drop-end (c .before .before .args .s .now) (c .before .before .args .at) (omega arith))
+returns-2 c =
+    let args = c .before .before .args in
+    sym (drop-end (args .s .now) (args .at) (omega arith))
 
 pub rest-spec : {M : Type 1} → statement M
 rest-spec =

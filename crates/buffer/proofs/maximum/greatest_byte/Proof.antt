@@ -43,11 +43,13 @@ greater-requires c κs = search needs
 
 returns-2 : tie.Need-returns-2
 returns-2 c =
-    let s : List ℕ = c .before .before .before .before .before .before .before .args .s .now in
+    let args = c .before .before .before .before .before .before .before .args in
+    let pass2 = c .before .before .before .pass2 in
+    let s : List ℕ = args .s .now in
     let k : length s - 32 ≤ length s / 32 * 32 = omega arith in
     let l = rest-lent s (length s - 32) in
     let m = greatest-covered s (length s / 32 * 32) (length s - 32) k in
-    c .greater .ensures ∙ cc (c .before .before .before .pass2 .ensures, c .before .pass3 .ensures)
+    c .greater .ensures ∙ cc (pass2 .ensures, c .before .pass3 .ensures)
 
 pub greatest-byte-spec : {M : Type 1} → statement M
 greatest-byte-spec =

@@ -30,7 +30,9 @@ loop-less : tie.Need-loop-less Inv-loop μ-loop
 loop-less c = omega arith
 
 loop-again : tie.Need-loop-again Inv-loop μ-loop
-loop-again c = (omega arith, rw (c .greater .ensures) (greatest-step _ _ _ (c .before .before .loop-test .taken) ∙ c .before .before .before .loop .inv .1))
+loop-again c =
+    let loop = c .before .before .before .loop in
+    (omega arith, rw (c .greater .ensures) (greatest-step _ _ _ (c .before .before .loop-test .taken) ∙ loop .inv .1))
 
 returns : tie.Need-returns Inv-loop μ-loop
 returns c = sym (greatest-end _ _ _ (c .loop-test .left)) ∙ c .before .loop .inv .1

@@ -28,8 +28,11 @@ shared-slice-read-if2-2 c = omega arith
 
 returns-2 : tie.Need-returns-2 Inv-loop μ-loop
 returns-2 c =
-    let h : c .before .before .before .before .loop .i < length (c .before .before .before .before .before .before .args .b .now) = omega arith in
-    sym (same-not _ _ _ (c .before .before .before .loop-test .taken) h (c .if2 .taken)) ∙ c .before .before .before .before .loop .inv .2
+    let args = c .before .before .before .before .before .before .args in
+    let loop = c .before .before .before .before .loop in
+    let loop-test = c .before .before .before .loop-test in
+    let h : loop .i < length (args .b .now) = omega arith in
+    sym (same-not _ _ _ (loop-test .taken) h (c .if2 .taken)) ∙ loop .inv .2
 
 add-i : tie.Need-add-i Inv-loop μ-loop
 add-i c = omega arith
@@ -39,12 +42,16 @@ loop-less c = omega arith
 
 loop-again : tie.Need-loop-again Inv-loop μ-loop
 loop-again c =
-    let h : c .before .before .before .before .loop .i < length (c .before .before .before .before .before .before .args .b .now) = omega arith in
-    (omega arith, c .before .before .before .before .loop .inv .1, sym (same-on _ _ _ (c .before .before .before .loop-test .taken) h (c .if2 .left)) ∙ c .before .before .before .before .loop .inv .2)
+    let args = c .before .before .before .before .before .before .args in
+    let loop = c .before .before .before .before .loop in
+    let loop-test = c .before .before .before .loop-test in
+    let h : loop .i < length (args .b .now) = omega arith in
+    (omega arith, loop .inv .1, sym (same-on _ _ _ (loop-test .taken) h (c .if2 .left)) ∙ loop .inv .2)
 
 returns-3 : tie.Need-returns-3 Inv-loop μ-loop
 returns-3 c =
-    let h : length (c .before .before .before .args .b .now) ≤ c .before .loop .i = omega arith in
+    let args = c .before .before .before .args in
+    let h : length (args .b .now) ≤ c .before .loop .i = omega arith in
     sym (same-ends _ _ _ (c .loop-test .left) h) ∙ c .before .loop .inv .2
 
 pub same-spec : {M : Type 1} → statement M

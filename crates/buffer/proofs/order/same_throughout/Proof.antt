@@ -38,12 +38,16 @@ loop-less c = omega arith
 
 loop-again : tie.Need-loop-again Inv-loop μ-loop
 loop-again c =
-    let h : c .before .before .before .before .loop .i < length (c .before .before .before .before .before .before .before .before .args .b .now) = omega arith in
-    (omega arith, c .before .before .before .before .loop .inv .1, rw (c .still-same .ensures) (same-turn (c .before .before .before .before .before .before .before .before .args .a .now) (c .before .before .before .before .before .before .before .before .args .b .now) _ (c .before .before .before .before .loop .same) (c .before .before .before .loop-test .taken) h ∙ c .before .before .before .before .loop .inv .2))
+    let args = c .before .before .before .before .before .before .before .before .args in
+    let loop = c .before .before .before .before .loop in
+    let loop-test = c .before .before .before .loop-test in
+    let h : loop .i < length (args .b .now) = omega arith in
+    (omega arith, loop .inv .1, rw (c .still-same .ensures) (same-turn (args .a .now) (args .b .now) _ (loop .same) (loop-test .taken) h ∙ loop .inv .2))
 
 returns-2 : tie.Need-returns-2 Inv-loop μ-loop
 returns-2 c =
-    let h : length (c .before .before .before .before .before .args .b .now) ≤ c .before .loop .i = omega arith in
+    let args = c .before .before .before .before .before .args in
+    let h : length (args .b .now) ≤ c .before .loop .i = omega arith in
     sym (same-stop _ _ _ _ (c .loop-test .left) h) ∙ c .before .loop .inv .2
 
 pub same-throughout-spec : {M : Type 1} → statement M

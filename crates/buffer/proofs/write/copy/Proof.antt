@@ -31,8 +31,11 @@ loop-less c = omega arith
 
 loop-again : tie.Need-loop-again Inv-loop μ-loop
 loop-again c =
-    let h : c .before .before .loop .i < length (c .before .before .before .args .out .now) = omega (arith, c .before .before .before .pre) in
-    (omega arith, simp length-set (c .before .before .loop .inv .1), rw (c .before .before .loop .inv .2) (copy-step _ _ _ (c .before .loop-test .taken) h))
+    let args = c .before .before .before .args in
+    let pre = c .before .before .before .pre in
+    let loop = c .before .before .loop in
+    let h : loop .i < length (args .out .now) = omega (arith, pre) in
+    (omega arith, simp length-set (loop .inv .1), rw (loop .inv .2) (copy-step _ _ _ (c .before .loop-test .taken) h))
 
 same-length : tie.Need-same-length Inv-loop μ-loop
 same-length c = c .before .loop .inv .1

@@ -28,10 +28,13 @@ same-length c = search needs
 
 returns : tie.Need-returns
 returns c =
-    let h : c .before .before .before .before .before .before .args .at ≤ length (c .before .before .before .before .before .before .args .out .now) = omega (arith, c .before .before .before .before .before .before .pre) in
+    let args = c .before .before .before .before .before .before .args in
+    let pre = c .before .before .before .before .before .before .pre in
+    let copy = c .before .before .copy in
+    let h : args .at ≤ length (args .out .now) = omega (arith, pre) in
     record {
-      place = ap (λ (n : ℕ). c .before .before .before .before .before .before .args .at + n) (c .before .before .copy .ensures .count);
-      bytes = rest-written _ _ _ _ h (c .before .before .copy .ensures .bytes);
+      place = ap (λ (n : ℕ). args .at + n) (copy .ensures .count);
+      bytes = rest-written _ _ _ _ h (copy .ensures .bytes);
     }
 
 pub push-spec : {M : Type 1} → statement M

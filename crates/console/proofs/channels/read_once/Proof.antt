@@ -25,7 +25,10 @@ same-length : tie.Need-same-length Inv-loop μ-loop
 same-length c = search needs
 
 returns : tie.Need-returns Inv-loop μ-loop
-returns c = let k = c .count .ensures .0 .0 in let b : length (c .before .before .before .before .before .read .last .1 .0) ≡ length (c .before .before .before .before .before .before .before .before .before .before .args .input .now) = search needs in (omega arith, b)
+returns c =
+    let args = c .before .before .before .before .before .before .before .before .before .before .args in
+    let read = c .before .before .before .before .before .read in
+    let k = c .count .ensures .0 .0 in let b : length (read .last .1 .0) ≡ length (args .input .now) = search needs in (omega arith, b)
 
 same-length-2 : tie.Need-same-length-2 Inv-loop μ-loop
 same-length-2 c = search needs

@@ -39,7 +39,11 @@ count-requires : tie.Need-count-requires Inv-loop μ-loop
 count-requires c κs = search needs
 
 add-done : tie.Need-add-done Inv-loop μ-loop
-add-done c = let k = c .count .ensures .0 .0 in let r = c .before .before .before .before .rest .ensures in let n = ap length r ∙ length-drop (c .before .before .before .before .before .before .before .loop .done) (c .before .before .before .before .before .before .before .before .before .args .bytes .now) in let i = c .before .before .before .before .before .before .before .loop .inv in search needs
+add-done c =
+    let args = c .before .before .before .before .before .before .before .before .before .args in
+    let loop = c .before .before .before .before .before .before .before .loop in
+    let rest = c .before .before .before .before .rest in
+    let k = c .count .ensures .0 .0 in let r = rest .ensures in let n = ap length r ∙ length-drop (loop .done) (args .bytes .now) in let i = loop .inv in search needs
 
 sub-tries : tie.Need-sub-tries Inv-loop μ-loop
 sub-tries c = search needs
@@ -48,7 +52,11 @@ loop-less : tie.Need-loop-less Inv-loop μ-loop
 loop-less c = search needs
 
 loop-again : tie.Need-loop-again Inv-loop μ-loop
-loop-again c = let k = c .count .ensures .0 .0 in let r = c .before .before .before .before .rest .ensures in let n = ap length r ∙ length-drop (c .before .before .before .before .before .before .before .loop .done) (c .before .before .before .before .before .before .before .before .before .args .bytes .now) in let i = c .before .before .before .before .before .before .before .loop .inv in omega arith
+loop-again c =
+    let args = c .before .before .before .before .before .before .before .before .before .args in
+    let loop = c .before .before .before .before .before .before .before .loop in
+    let rest = c .before .before .before .before .rest in
+    let k = c .count .ensures .0 .0 in let r = rest .ensures in let n = ap length r ∙ length-drop (loop .done) (args .bytes .now) in let i = loop .inv in omega arith
 
 returns-4 : tie.Need-returns-4 Inv-loop μ-loop
 returns-4 c = search needs

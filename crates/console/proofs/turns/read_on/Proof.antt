@@ -37,7 +37,9 @@ same-length : tie.Need-same-length
 same-length c = search needs
 
 returns : tie.Need-returns
-returns c = let g = c .before .before .before .before .before .read-piece .ensures in record { stream = refl; order = omega arith; within = rw (c .before .n .given .1) at (g .0); inputs = g .1; outs = refl }
+returns c =
+    let read-piece = c .before .before .before .before .before .read-piece in
+    let g = read-piece .ensures in record { stream = refl; order = omega arith; within = rw (c .before .n .given .1) at (g .0); inputs = g .1; outs = refl }
 
 same-length-2 : tie.Need-same-length-2
 same-length-2 c = search needs
@@ -46,13 +48,17 @@ same-length-3 : tie.Need-same-length-3
 same-length-3 c = search needs
 
 returns-2 : tie.Need-returns-2
-returns-2 c = read-stops _ _ _ _ _ _ (c .stopped .ensures) (c .before .before .before .before .before .before .before .before .before .before .before .before .read-piece .ensures .1) (search needs)
+returns-2 c =
+    let read-piece = c .before .before .before .before .before .before .before .before .before .before .before .before .read-piece in
+    read-stops _ _ _ _ _ _ (c .stopped .ensures) (read-piece .ensures .1) (search needs)
 
 same-length-4 : tie.Need-same-length-4
 same-length-4 c = search needs
 
 returns-3 : tie.Need-returns-3
-returns-3 c = read-stops _ _ _ _ _ _ (c .stopped2 .ensures) (c .before .before .before .before .before .read-piece .ensures .1) refl
+returns-3 c =
+    let read-piece = c .before .before .before .before .before .read-piece in
+    read-stops _ _ _ _ _ _ (c .stopped2 .ensures) (read-piece .ensures .1) refl
 
 pub read-on-spec : {M : Type 1} → statement M
 read-on-spec =

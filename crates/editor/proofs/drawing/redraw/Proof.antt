@@ -10,10 +10,15 @@ use Rattle.editor.proofs.drawing.redraw.Statement.{statement}
 use Rattle.editor.proofs.drawing.redraw.Tie as tie
 
 array-share-prefix-line : tie.Need-array-share-prefix-line
-array-share-prefix-line c = omega (arith, c .before .before .before .pre .0, c .before .before .before .pre .1)
+array-share-prefix-line c =
+    let pre = c .before .before .before .pre in
+    omega (arith, pre .0, pre .1)
 
 slice-aggregate-shown-part : tie.Need-slice-aggregate-shown-part
-slice-aggregate-shown-part c = sym (length-take-le _ (c .before .before .before .before .args .goes .line) (omega (arith, c .before .before .before .before .pre .0, c .before .before .before .before .pre .1)))
+slice-aggregate-shown-part c =
+    let args = c .before .before .before .before .args in
+    let pre = c .before .before .before .before .pre in
+    sym (length-take-le _ (args .goes .line) (omega (arith, pre .0, pre .1)))
 
 shown-part-requires : tie.Need-shown-part-requires
 shown-part-requires c κs = search needs
@@ -32,7 +37,11 @@ same-length c = search needs
 
 returns : tie.Need-returns
 unfolding lineOf
-returns c = redraw-fits (c .before .before .before .before .before .before .before .before .before .before .before .before .args .prompt .now) (content (lineOf (c .before .before .before .before .before .before .before .before .before .before .before .before .args .goes))) _ _ _ _ _ (c .before .before .before .before .before .before .before .before .before .before .before .before .args .screen .now) _ _ (told-as (c .before .before .before .before .before .before .before .before .before .before .before .before .args .prompt .now) _ (content (lineOf (c .before .before .before .before .before .before .before .before .before .before .before .before .args .goes))) _ (c .before .before .before .before .before .before .before .before .before .before .before .before .args .screen .now) _ _ _ (c .before .before .before .before .before .before .before .shown-part .ensures) (c .before .n .given .1) (c .before .before .before .before .before .clear-line-and-redraw .ensures))
+returns c =
+    let args = c .before .before .before .before .before .before .before .before .before .before .before .before .args in
+    let shown-part = c .before .before .before .before .before .before .before .shown-part in
+    let clear-line-and-redraw = c .before .before .before .before .before .clear-line-and-redraw in
+    redraw-fits (args .prompt .now) (content (lineOf (args .goes))) _ _ _ _ _ (args .screen .now) _ _ (told-as (args .prompt .now) _ (content (lineOf (args .goes))) _ (args .screen .now) _ _ _ (shown-part .ensures) (c .before .n .given .1) (clear-line-and-redraw .ensures))
 
 same-length-2 : tie.Need-same-length-2
 same-length-2 c = search needs
@@ -40,8 +49,12 @@ same-length-2 c = search needs
 returns-2 : tie.Need-returns-2
 unfolding lineOf
 returns-2 c =
-    let h = line-short (c .before .before .before .before .before .before .before .before .before .before .before .before .args .goes) 255 (within-limit _ (c .before .before .before .before .before .before .before .before .before .before .before .before .pre .0)) in
-    redraw-short (c .before .before .before .before .before .before .before .before .before .before .before .before .args .prompt .now) (content (lineOf (c .before .before .before .before .before .before .before .before .before .before .before .before .args .goes))) _ _ _ _ _ (c .before .before .before .before .before .before .before .before .before .before .before .before .args .screen .now) _ _ (omega (arith, c .before .before .before .before .before .before .before .before .before .before .before .before .pre .2)) (told-as (c .before .before .before .before .before .before .before .before .before .before .before .before .args .prompt .now) _ (content (lineOf (c .before .before .before .before .before .before .before .before .before .before .before .before .args .goes))) _ (c .before .before .before .before .before .before .before .before .before .before .before .before .args .screen .now) _ _ _ (c .before .before .before .before .before .before .before .shown-part .ensures) (c .before .n2 .given .1) (c .before .before .before .before .before .clear-line-and-redraw .ensures))
+    let args = c .before .before .before .before .before .before .before .before .before .before .before .before .args in
+    let pre = c .before .before .before .before .before .before .before .before .before .before .before .before .pre in
+    let shown-part = c .before .before .before .before .before .before .before .shown-part in
+    let clear-line-and-redraw = c .before .before .before .before .before .clear-line-and-redraw in
+    let h = line-short (args .goes) 255 (within-limit _ (pre .0)) in
+    redraw-short (args .prompt .now) (content (lineOf (args .goes))) _ _ _ _ _ (args .screen .now) _ _ (omega (arith, pre .2)) (told-as (args .prompt .now) _ (content (lineOf (args .goes))) _ (args .screen .now) _ _ _ (shown-part .ensures) (c .before .n2 .given .1) (clear-line-and-redraw .ensures))
 
 pub redraw-spec : {M : Type 1} → statement M
 redraw-spec =

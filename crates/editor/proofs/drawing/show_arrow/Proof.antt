@@ -8,7 +8,9 @@ use Rattle.editor.proofs.drawing.show_arrow.Statement.{statement}
 use Rattle.editor.proofs.drawing.show_arrow.Tie as tie
 
 returns : tie.Need-returns
-returns c = shows-short (arrow (c .before .before .args .byte)) _ _ _ _ (c .before .before .args .screen .now) _ (c .if1 .taken) refl
+returns c =
+    let args = c .before .before .args in
+    shows-short (arrow (args .byte)) _ _ _ _ (args .screen .now) _ (c .if1 .taken) refl
 
 slice-aggregate-push : tie.Need-slice-aggregate-push
 slice-aggregate-push c = search needs
@@ -20,7 +22,10 @@ same-length : tie.Need-same-length
 same-length c = search needs
 
 returns-2 : tie.Need-returns-2
-returns-2 c = shows-fits (arrow (c .before .before .before .before .before .before .before .args .byte)) _ _ _ _ (c .before .before .before .before .before .before .before .args .screen .now) _ (c .before .before .before .before .before .if1 .left) (c .before .before .push .ensures .bytes ∙ overAt-front _ _)
+returns-2 c =
+    let args = c .before .before .before .before .before .before .before .args in
+    let if1 = c .before .before .before .before .before .if1 in
+    shows-fits (arrow (args .byte)) _ _ _ _ (args .screen .now) _ (if1 .left) (c .before .before .push .ensures .bytes ∙ overAt-front _ _)
 
 pub show-arrow-spec : {M : Type 1} → statement M
 show-arrow-spec =

@@ -21,7 +21,9 @@ well-formed-prefix-requires c κs = search needs
 
 returns-2 : tie.Need-returns-2
 unfolding goodPrompt wellFormed
-returns-2 c = ap (λ (n : ℕ). eqb n (length (c .before .before .before .args .prompt .now))) (c .well-formed-prefix .ensures) ∙ sym (then-is _ _ _ (le-leb (length (c .before .before .before .args .prompt .now)) 128 (let l = c .before .if1 .left in omega arith)))
+returns-2 c =
+    let args = c .before .before .before .args in
+    ap (λ (n : ℕ). eqb n (length (args .prompt .now))) (c .well-formed-prefix .ensures) ∙ sym (then-is _ _ _ (le-leb (length (args .prompt .now)) 128 (let l = c .before .if1 .left in omega arith)))
 
 pub is-good-prompt-spec : {M : Type 1} → statement M
 is-good-prompt-spec = tie.close (tie.spec returns well-formed-prefix-requires returns-2)

@@ -53,7 +53,9 @@ loop-again c =
     (omega arith, sym (bad-on (s .args .digits .now) _ _ (loop-test .taken) (sym (digit-value .ensures) ∙ c .enum-told .given .1)) ∙ loop .inv .1)
 
 returns-2 : tie.Need-returns-2 Inv-loop μ-loop
-returns-2 c = sym (sym (c .before .loop .inv .1) ∙ bad-end (c .before .before .before .args .digits .now) _ (c .loop-test .left))
+returns-2 c =
+    let args = c .before .before .before .args in
+    sym (sym (c .before .loop .inv .1) ∙ bad-end (args .digits .now) _ (c .loop-test .left))
 
 pub first-bad-spec : {M : Type 1} → statement M
 first-bad-spec =

@@ -74,7 +74,8 @@ same-length c = c .before .loop .inv .1
 
 returns : tie.Need-returns Inv-loop μ-loop
 returns c =
-    let b : List ℕ = c .before .before .before .before .args .bytes .now in
+    let args = c .before .before .before .before .args in
+    let b : List ℕ = args .bytes .now in
     let l = length-hexOf b in
     record {
       count = omega arith;

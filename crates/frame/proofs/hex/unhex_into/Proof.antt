@@ -63,7 +63,8 @@ same-length c = c .before .loop .inv .1
 
 returns : tie.Need-returns Inv-loop μ-loop
 returns c =
-    let d : List ℕ = c .before .before .before .before .args .digits .now in
+    let args = c .before .before .before .before .args in
+    let d : List ℕ = args .digits .now in
     let l = length-unhex d in
     record {
       count = omega arith;

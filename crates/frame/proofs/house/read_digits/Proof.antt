@@ -24,19 +24,22 @@ first-bad-requires c κs = search needs
 returns-4 : tie.Need-returns-4
 returns-4 c =
     let first-bad = c .before .first-bad in
-    let d : List ℕ = c .before .before .before .before .before .before .args .digits .now in
+    let args = c .before .before .before .before .before .before .args in
+    let d : List ℕ = args .digits .now in
     ap NoDigit (first-bad .ensures) ∙ sym (digits-bad d _ (omega arith) (omega arith) (omega arith) (omega (arith, first-bad .ensures)))
 
 returns-5 : tie.Need-returns-5
 returns-5 c =
     let first-bad = c .before .before .first-bad in
-    let d : List ℕ = c .before .before .before .before .before .before .before .args .digits .now in
+    let args = c .before .before .before .before .before .before .before .args in
+    let d : List ℕ = args .digits .now in
     sym (digits-short d _ (omega arith) (omega arith) (omega arith) (omega (arith, first-bad .ensures)) (c .if5 .taken))
 
 returns-6 : tie.Need-returns-6
 returns-6 c =
     let first-bad = c .before .before .first-bad in
-    let d : List ℕ = c .before .before .before .before .before .before .before .args .digits .now in
+    let args = c .before .before .before .before .before .before .before .args in
+    let d : List ℕ = args .digits .now in
     sym (digits-frame d _ (omega arith) (omega arith) (omega arith) (omega (arith, first-bad .ensures)) (c .if5 .left))
 
 pub read-digits-spec : {M : Type 1} → statement M

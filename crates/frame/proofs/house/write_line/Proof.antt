@@ -27,7 +27,8 @@ hex-into-requires c κs = omega (arith, length-hexOf (c .before .before .before 
 push-byte-requires : tie.Need-push-byte-requires
 push-byte-requires c κs =
     let s = c .before .before .before .before .before .before .before .before in
-    omega (arith, length-hexOf (s .args .bytes .now), c .before .before .before .hex-into .ensures .count)
+    let hex-into = c .before .before .before .hex-into in
+    omega (arith, length-hexOf (s .args .bytes .now), hex-into .ensures .count)
 
 same-length : tie.Need-same-length
 same-length c = search needs

@@ -13,7 +13,10 @@ cast-push-byte : tie.Need-cast-push-byte
 cast-push-byte c = search needs
 
 push-byte-requires : tie.Need-push-byte-requires
-push-byte-requires c κs = omega (arith, c .before .before .before .pre, length-textOf 2 (c .before .before .before .args .t .now))
+push-byte-requires c κs =
+    let pre = c .before .before .before .pre in
+    let args = c .before .before .before .args in
+    omega (arith, pre, length-textOf 2 (args .t .now))
 
 cast-push-byte-2 : tie.Need-cast-push-byte-2
 cast-push-byte-2 c = search needs
@@ -21,7 +24,8 @@ cast-push-byte-2 c = search needs
 push-byte-requires-2 : tie.Need-push-byte-requires-2
 push-byte-requires-2 c κs =
     let s = c .before .before .before .before .before .before .before in
-    omega (arith, s .pre, length-textOf 2 (s .args .t .now), c .before .before .before .push-byte .ensures .place)
+    let push-byte = c .before .before .before .push-byte in
+    omega (arith, s .pre, length-textOf 2 (s .args .t .now), push-byte .ensures .place)
 
 push-requires : tie.Need-push-requires
 push-requires c κs =

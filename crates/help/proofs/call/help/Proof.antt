@@ -22,22 +22,37 @@ told-length-requires : tie.Need-told-length-requires
 told-length-requires c κs = search needs
 
 returns-2 : tie.Need-returns-2
-returns-2 c = too-long _ _ _ (sym (c .before .before .before .before .check-tree .ensures) ∙ c .before .before .enum-told .given .1) _ (let h = c .before .if1 .taken in omega arith) (c .told-length .ensures)
+returns-2 c =
+    let check-tree = c .before .before .before .before .check-tree in
+    too-long _ _ _ (sym (check-tree .ensures) ∙ c .before .before .enum-told .given .1) _ (let h = c .before .if1 .taken in omega arith) (c .told-length .ensures)
 
 well-formed-prefix-requires : tie.Need-well-formed-prefix-requires
 well-formed-prefix-requires c κs = search needs
 
 returns-3 : tie.Need-returns-3
-returns-3 c = ill-formed _ _ _ (sym (c .before .before .before .before .before .check-tree .ensures) ∙ c .before .before .before .enum-told .given .1) (let h = c .before .before .if1 .left in omega arith) _ (c .before .well-formed-prefix .ensures) (c .if2 .taken)
+returns-3 c =
+    let check-tree = c .before .before .before .before .before .check-tree in
+    let enum-told = c .before .before .before .enum-told in
+    ill-formed _ _ _ (sym (check-tree .ensures) ∙ enum-told .given .1) (let h = c .before .before .if1 .left in omega arith) _ (c .before .well-formed-prefix .ensures) (c .if2 .taken)
 
 reply-requires : tie.Need-reply-requires
-reply-requires c κs = (sym (c .before .before .before .before .before .before .check-tree .ensures) ∙ c .before .before .before .before .enum-told .given .1, let h = c .before .before .before .if1 .left in omega arith)
+reply-requires c κs =
+    let check-tree = c .before .before .before .before .before .before .check-tree in
+    let enum-told = c .before .before .before .before .enum-told in
+    let if1 = c .before .before .before .if1 in
+    (sym (check-tree .ensures) ∙ enum-told .given .1, let h = if1 .left in omega arith)
 
 same-length : tie.Need-same-length
 same-length c = search needs
 
 returns-4 : tie.Need-returns-4
-returns-4 c = answered _ _ _ (sym (c .before .before .before .before .before .before .before .before .before .check-tree .ensures) ∙ c .before .before .before .before .before .before .before .enum-told .given .1) (let h = c .before .before .before .before .before .before .if1 .left in omega arith) _ _ _ (c .before .before .before .before .before .well-formed-prefix .ensures) (c .before .before .before .before .if2 .left) (c .before .before .reply .ensures)
+returns-4 c =
+    let check-tree = c .before .before .before .before .before .before .before .before .before .check-tree in
+    let enum-told = c .before .before .before .before .before .before .before .enum-told in
+    let if1 = c .before .before .before .before .before .before .if1 in
+    let well-formed-prefix = c .before .before .before .before .before .well-formed-prefix in
+    let if2 = c .before .before .before .before .if2 in
+    answered _ _ _ (sym (check-tree .ensures) ∙ enum-told .given .1) (let h = if1 .left in omega arith) _ _ _ (well-formed-prefix .ensures) (if2 .left) (c .before .before .reply .ensures)
 
 pub help-spec : {M : Type 1} → statement M
 help-spec =

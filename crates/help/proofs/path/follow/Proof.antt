@@ -31,7 +31,10 @@ enum-told : tie.Need-enum-told Inv-loop μ-loop
 enum-told c = search needs
 
 returns : tie.Need-returns Inv-loop μ-loop
-returns c = stops _ _ _ _ _ _ (c .before .before .before .before .before .loop .inv) _ (c .before .before .before .rest .ensures) _ (c .before .before .next-word .ensures) (c .enum-told .given .1)
+returns c =
+    let loop = c .before .before .before .before .before .loop in
+    let rest = c .before .before .before .rest in
+    stops _ _ _ _ _ _ (loop .inv) _ (rest .ensures) _ (c .before .before .next-word .ensures) (c .enum-told .given .1)
 
 sub-part : tie.Need-sub-part Inv-loop μ-loop
 sub-part c = let o = c .before .before .before .before .before .before .loop .inv .order in omega arith
@@ -40,7 +43,11 @@ part-requires : tie.Need-part-requires Inv-loop μ-loop
 part-requires c κs = search needs
 
 sub-part-2 : tie.Need-sub-part-2 Inv-loop μ-loop
-sub-part-2 c = let t = told _ _ _ _ _ _ (c .before .before .before .before .before .before .before .loop .inv) _ (c .before .before .before .before .before .rest .ensures) _ (c .before .before .before .before .next-word .ensures) _ _ (c .before .before .from .given .1) in let k = t .some in omega arith
+sub-part-2 c =
+    let loop = c .before .before .before .before .before .before .before .loop in
+    let rest = c .before .before .before .before .before .rest in
+    let next-word = c .before .before .before .before .next-word in
+    let t = told _ _ _ _ _ _ (loop .inv) _ (rest .ensures) _ (next-word .ensures) _ _ (c .before .before .from .given .1) in let k = t .some in omega arith
 
 part-requires-2 : tie.Need-part-requires-2 Inv-loop μ-loop
 part-requires-2 c κs = search needs
@@ -56,14 +63,30 @@ enum-told-2 c = search needs
 
 add-t18 : tie.Need-add-t18 Inv-loop μ-loop
 add-t18 c =
-    let t = told _ _ _ _ _ _ (c .before .before .before .before .before .before .before .before .before .before .before .loop .inv) _ (c .before .before .before .before .before .before .before .before .before .rest .ensures) _ (c .before .before .before .before .before .before .before .before .next-word .ensures) _ _ (c .before .before .before .before .before .before .from .given .1) in let k = t .some in
-    let h = in-rest _ _ _ _ _ _ (c .before .before .before .before .before .before .before .before .before .before .before .loop .inv) _ (c .before .before .before .before .before .before .before .before .before .rest .ensures) _ (c .before .before .before .before .before .before .before .before .next-word .ensures) _ _ (c .before .before .before .before .before .before .from .given .1) in omega arith
+    let loop = c .before .before .before .before .before .before .before .before .before .before .before .loop in
+    let rest = c .before .before .before .before .before .before .before .before .before .rest in
+    let next-word = c .before .before .before .before .before .before .before .before .next-word in
+    let the-from = c .before .before .before .before .before .before .from in
+    let t = told _ _ _ _ _ _ (loop .inv) _ (rest .ensures) _ (next-word .ensures) _ _ (the-from .given .1) in let k = t .some in
+    let h = in-rest _ _ _ _ _ _ (loop .inv) _ (rest .ensures) _ (next-word .ensures) _ _ (the-from .given .1) in omega arith
 
 add-t19 : tie.Need-add-t19 Inv-loop μ-loop
-add-t19 c = let h = in-rest _ _ _ _ _ _ (c .before .before .before .before .before .before .before .before .before .before .before .loop .inv) _ (c .before .before .before .before .before .before .before .before .before .rest .ensures) _ (c .before .before .before .before .before .before .before .before .next-word .ensures) _ _ (c .before .before .before .before .before .before .from .given .1) in omega arith
+add-t19 c =
+    let loop = c .before .before .before .before .before .before .before .before .before .before .before .loop in
+    let rest = c .before .before .before .before .before .before .before .before .before .rest in
+    let next-word = c .before .before .before .before .before .before .before .before .next-word in
+    let the-from = c .before .before .before .before .before .before .from in
+    let h = in-rest _ _ _ _ _ _ (loop .inv) _ (rest .ensures) _ (next-word .ensures) _ _ (the-from .given .1) in omega arith
 
 returns-2 : tie.Need-returns-2 Inv-loop μ-loop
-returns-2 c = loses _ _ _ _ _ _ (c .before .before .before .before .before .before .before .before .before .before .before .loop .inv) _ (c .before .before .before .before .before .before .before .before .before .rest .ensures) _ (c .before .before .before .before .before .before .before .before .next-word .ensures) _ _ (c .before .before .before .before .before .before .from .given .1) _ _ (c .before .before .before .before .part .ensures) (c .before .before .before .part2 .ensures) _ (c .before .before .find-node .ensures) (c .enum-told2 .given .1)
+returns-2 c =
+    let loop = c .before .before .before .before .before .before .before .before .before .before .before .loop in
+    let rest = c .before .before .before .before .before .before .before .before .before .rest in
+    let next-word = c .before .before .before .before .before .before .before .before .next-word in
+    let the-from = c .before .before .before .before .before .before .from in
+    let part = c .before .before .before .before .part in
+    let part2 = c .before .before .before .part2 in
+    loses _ _ _ _ _ _ (loop .inv) _ (rest .ensures) _ (next-word .ensures) _ _ (the-from .given .1) _ _ (part .ensures) (part2 .ensures) _ (c .before .before .find-node .ensures) (c .enum-told2 .given .1)
 
 add-end : tie.Need-add-end Inv-loop μ-loop
 add-end c =
@@ -76,18 +99,37 @@ add-start c =
     let w = g .within in let o = g .order in omega arith
 
 add-depth : tie.Need-add-depth Inv-loop μ-loop
-add-depth c = let d = c .before .before .before .before .before .before .before .before .before .before .before .before .loop .inv .deep in let h = c .before .before .before .before .before .before .before .before .before .before .before .before .loop .inv .in-line in omega arith
+add-depth c =
+    let loop = c .before .before .before .before .before .before .before .before .before .before .before .before .loop in
+    let d = loop .inv .deep in let h = loop .inv .in-line in omega arith
 
 add-place : tie.Need-add-place Inv-loop μ-loop
-add-place c = let h = in-rest _ _ _ _ _ _ (c .before .before .before .before .before .before .before .before .before .before .before .before .loop .inv) _ (c .before .before .before .before .before .before .before .before .before .before .rest .ensures) _ (c .before .before .before .before .before .before .before .before .before .next-word .ensures) _ _ (c .before .before .before .before .before .before .before .from .given .1) in omega arith
+add-place c =
+    let loop = c .before .before .before .before .before .before .before .before .before .before .before .before .loop in
+    let rest = c .before .before .before .before .before .before .before .before .before .before .rest in
+    let next-word = c .before .before .before .before .before .before .before .before .before .next-word in
+    let the-from = c .before .before .before .before .before .before .before .from in
+    let h = in-rest _ _ _ _ _ _ (loop .inv) _ (rest .ensures) _ (next-word .ensures) _ _ (the-from .given .1) in omega arith
 
 loop-less : tie.Need-loop-less Inv-loop μ-loop
 loop-less c =
-    let t = told _ _ _ _ _ _ (c .before .before .before .before .before .before .before .before .before .before .before .before .loop .inv) _ (c .before .before .before .before .before .before .before .before .before .before .rest .ensures) _ (c .before .before .before .before .before .before .before .before .before .next-word .ensures) _ _ (c .before .before .before .before .before .before .before .from .given .1) in let k = t .some in
-    let h = in-rest _ _ _ _ _ _ (c .before .before .before .before .before .before .before .before .before .before .before .before .loop .inv) _ (c .before .before .before .before .before .before .before .before .before .before .rest .ensures) _ (c .before .before .before .before .before .before .before .before .before .next-word .ensures) _ _ (c .before .before .before .before .before .before .before .from .given .1) in omega arith
+    let loop = c .before .before .before .before .before .before .before .before .before .before .before .before .loop in
+    let rest = c .before .before .before .before .before .before .before .before .before .before .rest in
+    let next-word = c .before .before .before .before .before .before .before .before .before .next-word in
+    let the-from = c .before .before .before .before .before .before .before .from in
+    let t = told _ _ _ _ _ _ (loop .inv) _ (rest .ensures) _ (next-word .ensures) _ _ (the-from .given .1) in let k = t .some in
+    let h = in-rest _ _ _ _ _ _ (loop .inv) _ (rest .ensures) _ (next-word .ensures) _ _ (the-from .given .1) in omega arith
 
 loop-again : tie.Need-loop-again Inv-loop μ-loop
-loop-again c = goes-on _ _ _ _ _ _ (c .before .before .before .before .before .before .before .before .before .before .before .before .loop .inv) _ (c .before .before .before .before .before .before .before .before .before .before .rest .ensures) _ (c .before .before .before .before .before .before .before .before .before .next-word .ensures) _ _ (c .before .before .before .before .before .before .before .from .given .1) _ _ (c .before .before .before .before .before .part .ensures) (c .before .before .before .before .part2 .ensures) _ (c .before .before .before .find-node .ensures) _ _ (c .before .first .given .1)
+loop-again c =
+    let loop = c .before .before .before .before .before .before .before .before .before .before .before .before .loop in
+    let rest = c .before .before .before .before .before .before .before .before .before .before .rest in
+    let next-word = c .before .before .before .before .before .before .before .before .before .next-word in
+    let the-from = c .before .before .before .before .before .before .before .from in
+    let part = c .before .before .before .before .before .part in
+    let part2 = c .before .before .before .before .part2 in
+    let find-node = c .before .before .before .find-node in
+    goes-on _ _ _ _ _ _ (loop .inv) _ (rest .ensures) _ (next-word .ensures) _ _ (the-from .given .1) _ _ (part .ensures) (part2 .ensures) _ (find-node .ensures) _ _ (c .before .first .given .1)
 
 returns-3 : tie.Need-returns-3 Inv-loop μ-loop
 returns-3 c = arrives _ _ _ _ _ _ (c .before .loop .inv) (c .loop-test .left)

@@ -32,36 +32,79 @@ part-requires : tie.Need-part-requires
 part-requires c κs = search needs
 
 put-requires-3 : tie.Need-put-requires-3
-put-requires-3 c κs = let k = c .before .before .before .before .before .before .before .before .before .before .before .before .before .before .put .ensures .place in let w = c .before .before .before .before .before .before .before .before .before .before .put-words .ensures .most in let l = c .before .before .before .before .before .put2 .ensures .place in let m = take-most (c .before .before .before .before .before .before .before .before .before .before .before .before .before .before .before .before .before .before .before .before .args .texts .description) _ (drop (6 + c .before .before .before .before .before .before .before .before .before .before .before .before .before .before .before .before .before .before .before .before .args .texts .name) (c .before .before .before .before .before .before .before .before .before .before .before .before .before .before .before .before .before .before .before .before .args .s .now)) (c .before .part .ensures) in let n = c .before .before .before .before .before .before .before .before .before .before .before .before .before .before .before .before .before .before .before .before .pre .0 .description in let h = c .before .before .before .before .before .before .before .before .before .before .before .before .before .before .before .before .before .before .before .before .pre .1 in omega arith
+put-requires-3 c κs =
+    let args = c .before .before .before .before .before .before .before .before .before .before .before .before .before .before .before .before .before .before .before .before .args in
+    let pre = c .before .before .before .before .before .before .before .before .before .before .before .before .before .before .before .before .before .before .before .before .pre in
+    let put = c .before .before .before .before .before .before .before .before .before .before .before .before .before .before .put in
+    let put-words = c .before .before .before .before .before .before .before .before .before .before .put-words in
+    let put2 = c .before .before .before .before .before .put2 in
+    let k = put .ensures .place in let w = put-words .ensures .most in let l = put2 .ensures .place in let m = take-most (args .texts .description) _ (drop (6 + args .texts .name) (args .s .now)) (c .before .part .ensures) in let n = pre .0 .description in let h = pre .1 in omega arith
 
 slice-aggregate-put-3 : tie.Need-slice-aggregate-put-3
 slice-aggregate-put-3 c = search needs
 
 put-requires-4 : tie.Need-put-requires-4
-put-requires-4 c κs = let k = c .before .before .before .before .before .before .before .before .before .before .before .before .before .before .before .before .before .before .before .put .ensures .place in let w = c .before .before .before .before .before .before .before .before .before .before .before .before .before .before .before .put-words .ensures .most in let l = c .before .before .before .before .before .before .before .before .before .before .put2 .ensures .place in let o = c .before .before .before .before .put3 .ensures .place in let m = take-most (c .before .before .before .before .before .before .before .before .before .before .before .before .before .before .before .before .before .before .before .before .before .before .before .before .before .args .texts .description) _ (drop (6 + c .before .before .before .before .before .before .before .before .before .before .before .before .before .before .before .before .before .before .before .before .before .before .before .before .before .args .texts .name) (c .before .before .before .before .before .before .before .before .before .before .before .before .before .before .before .before .before .before .before .before .before .before .before .before .before .args .s .now)) (c .before .before .before .before .before .before .part .ensures) in let n = c .before .before .before .before .before .before .before .before .before .before .before .before .before .before .before .before .before .before .before .before .before .before .before .before .before .pre .0 .description in let h = c .before .before .before .before .before .before .before .before .before .before .before .before .before .before .before .before .before .before .before .before .before .before .before .before .before .pre .1 in omega arith
+put-requires-4 c κs =
+    let args = c .before .before .before .before .before .before .before .before .before .before .before .before .before .before .before .before .before .before .before .before .before .before .before .before .before .args in
+    let pre = c .before .before .before .before .before .before .before .before .before .before .before .before .before .before .before .before .before .before .before .before .before .before .before .before .before .pre in
+    let put = c .before .before .before .before .before .before .before .before .before .before .before .before .before .before .before .before .before .before .before .put in
+    let put-words = c .before .before .before .before .before .before .before .before .before .before .before .before .before .before .before .put-words in
+    let put2 = c .before .before .before .before .before .before .before .before .before .before .put2 in
+    let part = c .before .before .before .before .before .before .part in
+    let put3 = c .before .before .before .before .put3 in
+    let k = put .ensures .place in let w = put-words .ensures .most in let l = put2 .ensures .place in let o = put3 .ensures .place in let m = take-most (args .texts .description) _ (drop (6 + args .texts .name) (args .s .now)) (part .ensures) in let n = pre .0 .description in let h = pre .1 in omega arith
 
 add-put-usage : tie.Need-add-put-usage
-add-put-usage c = let a = c .before .before .before .before .before .before .before .before .before .before .before .before .before .before .before .before .before .before .before .before .before .before .before .before .before .before .before .before .before .pre .0 .name in omega arith
+add-put-usage c =
+    let pre = c .before .before .before .before .before .before .before .before .before .before .before .before .before .before .before .before .before .before .before .before .before .before .before .before .before .before .before .before .before .pre in
+    let a = pre .0 .name in omega arith
 
 add-put-usage-2 : tie.Need-add-put-usage-2
-add-put-usage-2 c = let a = c .before .before .before .before .before .before .before .before .before .before .before .before .before .before .before .before .before .before .before .before .before .before .before .before .before .before .before .before .before .before .pre .0 .name in let b = c .before .before .before .before .before .before .before .before .before .before .before .before .before .before .before .before .before .before .before .before .before .before .before .before .before .before .before .before .before .before .pre .0 .description in omega arith
+add-put-usage-2 c =
+    let pre = c .before .before .before .before .before .before .before .before .before .before .before .before .before .before .before .before .before .before .before .before .before .before .before .before .before .before .before .before .before .before .pre in
+    let a = pre .0 .name in let b = pre .0 .description in omega arith
 
 add-put-usage-3 : tie.Need-add-put-usage-3
-add-put-usage-3 c = let a = c .before .before .before .before .before .before .before .before .before .before .before .before .before .before .before .before .before .before .before .before .before .before .before .before .before .before .before .before .before .before .pre .0 .name in let b = c .before .before .before .before .before .before .before .before .before .before .before .before .before .before .before .before .before .before .before .before .before .before .before .before .before .before .before .before .before .before .pre .0 .description in omega arith
+add-put-usage-3 c =
+    let pre = c .before .before .before .before .before .before .before .before .before .before .before .before .before .before .before .before .before .before .before .before .before .before .before .before .before .before .before .before .before .before .pre in
+    let a = pre .0 .name in let b = pre .0 .description in omega arith
 
 put-usage-requires : tie.Need-put-usage-requires
 put-usage-requires c κs =
-    let k = c .before .before .before .before .before .before .before .before .before .before .before .before .before .before .before .before .before .before .before .before .before .before .before .before .before .put .ensures .place in let w = c .before .before .before .before .before .before .before .before .before .before .before .before .before .before .before .before .before .before .before .before .before .put-words .ensures .most in let l = c .before .before .before .before .before .before .before .before .before .before .before .before .before .before .before .before .put2 .ensures .place in let o = c .before .before .before .before .before .before .before .before .before .before .put3 .ensures .place in let p = c .before .before .before .before .before .put4 .ensures .place in let m = take-most (c .before .before .before .before .before .before .before .before .before .before .before .before .before .before .before .before .before .before .before .before .before .before .before .before .before .before .before .before .before .before .before .args .texts .description) _ (drop (6 + c .before .before .before .before .before .before .before .before .before .before .before .before .before .before .before .before .before .before .before .before .before .before .before .before .before .before .before .before .before .before .before .args .texts .name) (c .before .before .before .before .before .before .before .before .before .before .before .before .before .before .before .before .before .before .before .before .before .before .before .before .before .before .before .before .before .before .before .args .s .now)) (c .before .before .before .before .before .before .before .before .before .before .before .before .part .ensures) in let n = c .before .before .before .before .before .before .before .before .before .before .before .before .before .before .before .before .before .before .before .before .before .before .before .before .before .before .before .before .before .before .before .pre .0 .description in let h = c .before .before .before .before .before .before .before .before .before .before .before .before .before .before .before .before .before .before .before .before .before .before .before .before .before .before .before .before .before .before .before .pre .1 in
-    (c .before .before .before .before .before .before .before .before .before .before .before .before .before .before .before .before .before .before .before .before .before .before .before .before .before .before .before .before .before .before .before .pre .0 .other, omega arith)
+    let args = c .before .before .before .before .before .before .before .before .before .before .before .before .before .before .before .before .before .before .before .before .before .before .before .before .before .before .before .before .before .before .before .args in
+    let pre = c .before .before .before .before .before .before .before .before .before .before .before .before .before .before .before .before .before .before .before .before .before .before .before .before .before .before .before .before .before .before .before .pre in
+    let put = c .before .before .before .before .before .before .before .before .before .before .before .before .before .before .before .before .before .before .before .before .before .before .before .before .before .put in
+    let put-words = c .before .before .before .before .before .before .before .before .before .before .before .before .before .before .before .before .before .before .before .before .before .put-words in
+    let put2 = c .before .before .before .before .before .before .before .before .before .before .before .before .before .before .before .before .put2 in
+    let part = c .before .before .before .before .before .before .before .before .before .before .before .before .part in
+    let put3 = c .before .before .before .before .before .before .before .before .before .before .put3 in
+    let put4 = c .before .before .before .before .before .put4 in
+    let k = put .ensures .place in let w = put-words .ensures .most in let l = put2 .ensures .place in let o = put3 .ensures .place in let p = put4 .ensures .place in let m = take-most (args .texts .description) _ (drop (6 + args .texts .name) (args .s .now)) (part .ensures) in let n = pre .0 .description in let h = pre .1 in
+    (pre .0 .other, omega arith)
 
 same-length : tie.Need-same-length
-same-length c = c .before .before .put-usage .ensures .0 .size ∙ c .before .before .before .before .before .before .before .before .put4 .ensures .size ∙ c .before .before .before .before .before .before .before .before .before .before .before .before .before .put3 .ensures .size ∙ c .before .before .before .before .before .before .before .before .before .before .before .before .before .before .before .before .before .before .before .put2 .ensures .size ∙ c .before .before .before .before .before .before .before .before .before .before .before .before .before .before .before .before .before .before .before .before .before .before .before .before .put-words .ensures .inked .size ∙ c .before .before .before .before .before .before .before .before .before .before .before .before .before .before .before .before .before .before .before .before .before .before .before .before .before .before .before .before .put .ensures .size
+same-length c =
+    let put = c .before .before .before .before .before .before .before .before .before .before .before .before .before .before .before .before .before .before .before .before .before .before .before .before .before .before .before .before .put in
+    let put-words = c .before .before .before .before .before .before .before .before .before .before .before .before .before .before .before .before .before .before .before .before .before .before .before .before .put-words in
+    let put2 = c .before .before .before .before .before .before .before .before .before .before .before .before .before .before .before .before .before .before .before .put2 in
+    let put3 = c .before .before .before .before .before .before .before .before .before .before .before .before .before .put3 in
+    let put4 = c .before .before .before .before .before .before .before .before .put4 in
+    c .before .before .put-usage .ensures .0 .size ∙ put4 .ensures .size ∙ put3 .ensures .size ∙ put2 .ensures .size ∙ put-words .ensures .inked .size ∙ put .ensures .size
 
 returns : tie.Need-returns
 unfolding ascii aboutIn
 returns c =
-    let k = c .before .before .before .before .before .before .before .before .before .before .before .before .before .before .before .before .before .before .before .before .before .before .before .before .before .before .before .before .put .ensures .place in let w = c .before .before .before .before .before .before .before .before .before .before .before .before .before .before .before .before .before .before .before .before .before .before .before .before .put-words .ensures .most in let l = c .before .before .before .before .before .before .before .before .before .before .before .before .before .before .before .before .before .before .before .put2 .ensures .place in let o = c .before .before .before .before .before .before .before .before .before .before .before .before .before .put3 .ensures .place in let p = c .before .before .before .before .before .before .before .before .put4 .ensures .place in let u = c .before .before .put-usage .ensures .1 in let m = take-most (c .before .before .before .before .before .before .before .before .before .before .before .before .before .before .before .before .before .before .before .before .before .before .before .before .before .before .before .before .before .before .before .before .before .before .args .texts .description) _ (drop (6 + c .before .before .before .before .before .before .before .before .before .before .before .before .before .before .before .before .before .before .before .before .before .before .before .before .before .before .before .before .before .before .before .before .before .before .args .texts .name) (c .before .before .before .before .before .before .before .before .before .before .before .before .before .before .before .before .before .before .before .before .before .before .before .before .before .before .before .before .before .before .before .before .before .before .args .s .now)) (c .before .before .before .before .before .before .before .before .before .before .before .before .before .before .before .part .ensures) in let n = c .before .before .before .before .before .before .before .before .before .before .before .before .before .before .before .before .before .before .before .before .before .before .before .before .before .before .before .before .before .before .before .before .before .before .pre .0 .description in let h = c .before .before .before .before .before .before .before .before .before .before .before .before .before .before .before .before .before .before .before .before .before .before .before .before .before .before .before .before .before .before .before .before .before .before .pre .1 in
-    (about-put _ _ _ _ _ _ _ _ _ _ _ _ _ _ _ _ (c .before .before .before .before .before .before .before .before .before .before .before .before .before .before .before .before .before .before .before .before .before .before .before .before .before .before .before .before .put .ensures) (c .before .before .before .before .before .before .before .before .before .before .before .before .before .before .before .before .before .before .before .before .before .before .before .before .put-words .ensures .inked) (c .before .before .before .before .before .before .before .before .before .before .before .before .before .before .before .before .before .before .before .put2 .ensures) (rw (c .before .before .before .before .before .before .before .before .before .before .before .before .before .before .before .part .ensures) at (c .before .before .before .before .before .before .before .before .before .before .before .before .before .put3 .ensures)) (c .before .before .before .before .before .before .before .before .put4 .ensures) (c .before .before .put-usage .ensures .0), omega arith)
+    let args = c .before .before .before .before .before .before .before .before .before .before .before .before .before .before .before .before .before .before .before .before .before .before .before .before .before .before .before .before .before .before .before .before .before .before .args in
+    let pre = c .before .before .before .before .before .before .before .before .before .before .before .before .before .before .before .before .before .before .before .before .before .before .before .before .before .before .before .before .before .before .before .before .before .before .pre in
+    let put = c .before .before .before .before .before .before .before .before .before .before .before .before .before .before .before .before .before .before .before .before .before .before .before .before .before .before .before .before .put in
+    let put-words = c .before .before .before .before .before .before .before .before .before .before .before .before .before .before .before .before .before .before .before .before .before .before .before .before .put-words in
+    let put2 = c .before .before .before .before .before .before .before .before .before .before .before .before .before .before .before .before .before .before .before .put2 in
+    let part = c .before .before .before .before .before .before .before .before .before .before .before .before .before .before .before .part in
+    let put3 = c .before .before .before .before .before .before .before .before .before .before .before .before .before .put3 in
+    let put4 = c .before .before .before .before .before .before .before .before .put4 in
+    let put-usage = c .before .before .put-usage in
+    let k = put .ensures .place in let w = put-words .ensures .most in let l = put2 .ensures .place in let o = put3 .ensures .place in let p = put4 .ensures .place in let u = put-usage .ensures .1 in let m = take-most (args .texts .description) _ (drop (6 + args .texts .name) (args .s .now)) (part .ensures) in let n = pre .0 .description in let h = pre .1 in
+    (about-put _ _ _ _ _ _ _ _ _ _ _ _ _ _ _ _ (put .ensures) (put-words .ensures .inked) (put2 .ensures) (rw (part .ensures) at (put3 .ensures)) (put4 .ensures) (put-usage .ensures .0), omega arith)
 
 pub put-about-spec : {M : Type 1} → statement M
 put-about-spec =

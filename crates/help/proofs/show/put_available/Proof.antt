@@ -26,7 +26,10 @@ same-length c = search needs
 
 returns : tie.Need-returns
 unfolding availableText availableHead availableFoot ascii
-returns c = inked-three _ _ _ _ _ _ _ _ _ _ _ (c .before .before .before .before .before .before .before .before .before .before .before .put .ensures) (c .before .before .before .before .before .before .before .put-rows .ensures .inked) (c .before .before .put2 .ensures)
+returns c =
+    let put = c .before .before .before .before .before .before .before .before .before .before .before .put in
+    let put-rows = c .before .before .before .before .before .before .before .put-rows in
+    inked-three _ _ _ _ _ _ _ _ _ _ _ (put .ensures) (put-rows .ensures .inked) (c .before .before .put2 .ensures)
 
 pub put-available-spec : {M : Type 1} → statement M
 put-available-spec =

@@ -16,11 +16,18 @@ enum-known-depth : tie.Need-enum-known-depth
 enum-known-depth c = search needs
 
 returns : tie.Need-returns
-returns c = inked-nothing _ _ _ (help-none _ (c .before .before .before .before .before .args .frames .now) _ (c .before .head-of .ensures) (c .match .keys2))
+returns c =
+    let args = c .before .before .before .before .before .args in
+    inked-nothing _ _ _ (help-none _ (args .frames .now) _ (c .before .head-of .ensures) (c .match .keys2))
 
 put-about-requires : tie.Need-put-about-requires
 unfolding Bytes
-put-about-requires c κs = (node-small (c .before .before .before .before .before .before .before .before .args .frames .now) _ (λ i. c .before .before .before .before .before .before .before .shared-slice-known .given i .fits) (view _ _ (sym (c .before .before .before .before .head-of .ensures) ∙ c .before .before .depth .given .1) .texts), c .before .before .before .before .before .before .before .before .pre .1)
+put-about-requires c κs =
+    let args = c .before .before .before .before .before .before .before .before .args in
+    let pre = c .before .before .before .before .before .before .before .before .pre in
+    let shared-slice-known = c .before .before .before .before .before .before .before .shared-slice-known in
+    let head-of = c .before .before .before .before .head-of in
+    (node-small (args .frames .now) _ (λ i. shared-slice-known .given i .fits) (view _ _ (sym (head-of .ensures) ∙ c .before .before .depth .given .1) .texts), pre .1)
 
 rest-requires : tie.Need-rest-requires
 rest-requires c κs = search needs
@@ -28,14 +35,26 @@ rest-requires c κs = search needs
 put-lists-requires : tie.Need-put-lists-requires
 unfolding Bytes
 put-lists-requires c κs =
-    let l = drop-most (c .before .before .before .before .before .before .before .depth .given .0 .1 .1 .0 .size) _ (c .before .before .before .before .before .before .before .before .before .before .before .before .before .args .frames .now) (c .before .rest .ensures) in let h = c .before .before .before .before .before .before .before .before .before .before .before .before .before .pre .0 in
-    (omega arith, c .before .before .before .before .put-about .ensures .1, depth-told (c .before .before .before .before .before .before .before .before .before .before .before .before .before .args .frames .now) _ _ _ (λ i. c .before .before .before .before .before .before .before .before .before .before .before .before .shared-slice-known .given i .fits) (sym (c .before .before .before .before .before .before .before .before .before .head-of .ensures) ∙ c .before .before .before .before .before .before .before .depth .given .1))
+    let args = c .before .before .before .before .before .before .before .before .before .before .before .before .before .args in
+    let pre = c .before .before .before .before .before .before .before .before .before .before .before .before .before .pre in
+    let shared-slice-known = c .before .before .before .before .before .before .before .before .before .before .before .before .shared-slice-known in
+    let head-of = c .before .before .before .before .before .before .before .before .before .head-of in
+    let depth = c .before .before .before .before .before .before .before .depth in
+    let put-about = c .before .before .before .before .put-about in
+    let l = drop-most (depth .given .0 .1 .1 .0 .size) _ (args .frames .now) (c .before .rest .ensures) in let h = pre .0 in
+    (omega arith, put-about .ensures .1, depth-told (args .frames .now) _ _ _ (λ i. shared-slice-known .given i .fits) (sym (head-of .ensures) ∙ depth .given .1))
 
 same-length : tie.Need-same-length
 same-length c = search needs
 
 returns-2 : tie.Need-returns-2
-returns-2 c = inked-as _ _ _ _ _ _ (help-node _ (c .before .before .before .before .before .before .before .before .before .before .before .before .before .before .before .before .args .frames .now) _ _ _ (sym (c .before .before .before .before .before .before .before .before .before .before .depth .given .1) ∙ c .before .before .before .before .before .before .before .before .before .before .before .before .head-of .ensures)) (inked-both _ _ _ _ _ _ _ _ (c .before .before .before .before .before .before .before .put-about .ensures .0) (rw (c .before .before .before .before .rest .ensures) at (c .before .before .put-lists .ensures)))
+returns-2 c =
+    let args = c .before .before .before .before .before .before .before .before .before .before .before .before .before .before .before .before .args in
+    let head-of = c .before .before .before .before .before .before .before .before .before .before .before .before .head-of in
+    let depth = c .before .before .before .before .before .before .before .before .before .before .depth in
+    let put-about = c .before .before .before .before .before .before .before .put-about in
+    let rest = c .before .before .before .before .rest in
+    inked-as _ _ _ _ _ _ (help-node _ (args .frames .now) _ _ _ (sym (depth .given .1) ∙ head-of .ensures)) (inked-both _ _ _ _ _ _ _ _ (put-about .ensures .0) (rw (rest .ensures) at (c .before .before .put-lists .ensures)))
 
 pub put-help-spec : {M : Type 1} → statement M
 put-help-spec =

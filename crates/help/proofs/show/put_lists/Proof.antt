@@ -32,7 +32,10 @@ same-length c = search needs
 
 returns : tie.Need-returns
 unfolding lists ascii
-returns c = inked-three _ _ _ _ _ _ _ _ _ _ _ (c .before .before .before .before .before .before .before .before .before .before .before .before .put-titled .ensures .0) (c .before .before .before .before .before .before .before .put-titled2 .ensures .0) (c .before .before .put-titled3 .ensures .0)
+returns c =
+    let put-titled = c .before .before .before .before .before .before .before .before .before .before .before .before .put-titled in
+    let put-titled2 = c .before .before .before .before .before .before .before .put-titled2 in
+    inked-three _ _ _ _ _ _ _ _ _ _ _ (put-titled .ensures .0) (put-titled2 .ensures .0) (c .before .before .put-titled3 .ensures .0)
 
 pub put-lists-spec : {M : Type 1} → statement M
 put-lists-spec =

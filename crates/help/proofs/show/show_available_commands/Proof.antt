@@ -17,7 +17,10 @@ same-length : tie.Need-same-length
 same-length c = search needs
 
 returns-2 : tie.Need-returns-2
-returns-2 c = shown _ _ _ (c .before .before .before .before .before .available-size .ensures) _ _ (c .before .before .before .before .if1 .left) (c .before .before .put-available .ensures)
+returns-2 c =
+    let available-size = c .before .before .before .before .before .available-size in
+    let if1 = c .before .before .before .before .if1 in
+    shown _ _ _ (available-size .ensures) _ _ (if1 .left) (c .before .before .put-available .ensures)
 
 pub show-available-commands-spec : {M : Type 1} → statement M
 show-available-commands-spec =

@@ -33,33 +33,69 @@ same-length : tie.Need-same-length Inv-loop μ-loop
 same-length c = c .before .before .before .before .before .loop .inv .size
 
 returns : tie.Need-returns Inv-loop μ-loop
-returns c = stops _ _ _ _ _ _ (c .before .before .before .before .before .loop .inv) _ (c .before .before .before .rest .ensures) _ (c .before .before .next-word .ensures) (c .enum-told .given .1)
+returns c =
+    let loop = c .before .before .before .before .before .loop in
+    let rest = c .before .before .before .rest in
+    stops _ _ _ _ _ _ (loop .inv) _ (rest .ensures) _ (c .before .before .next-word .ensures) (c .enum-told .given .1)
 
 slice-aggregate-put : tie.Need-slice-aggregate-put Inv-loop μ-loop
 slice-aggregate-put c = search needs
 
 put-requires : tie.Need-put-requires Inv-loop μ-loop
-put-requires c κs = let m = c .before .before .before .before .before .before .before .before .loop .inv .most in let w = c .before .before .before .before .before .before .before .before .loop .inv .within in let h = c .before .before .before .before .before .before .before .loop-test .taken in omega (arith, c .before .before .before .before .before .before .before .before .before .before .before .pre)
+put-requires c κs =
+    let pre = c .before .before .before .before .before .before .before .before .before .before .before .pre in
+    let loop = c .before .before .before .before .before .before .before .before .loop in
+    let loop-test = c .before .before .before .before .before .before .before .loop-test in
+    let m = loop .inv .most in let w = loop .inv .within in let h = loop-test .taken in omega (arith, pre)
 
 sub-part : tie.Need-sub-part Inv-loop μ-loop
-sub-part c = let t = word-here _ _ _ _ _ _ (c .before .before .before .before .before .before .before .before .before .before .before .loop .inv) _ (c .before .before .before .before .before .before .before .before .before .rest .ensures) _ (c .before .before .before .before .before .before .before .before .next-word .ensures) _ _ (c .before .before .before .before .before .before .start .given .1) in let k = t .some in omega arith
+sub-part c =
+    let loop = c .before .before .before .before .before .before .before .before .before .before .before .loop in
+    let rest = c .before .before .before .before .before .before .before .before .before .rest in
+    let next-word = c .before .before .before .before .before .before .before .before .next-word in
+    let start = c .before .before .before .before .before .before .start in
+    let t = word-here _ _ _ _ _ _ (loop .inv) _ (rest .ensures) _ (next-word .ensures) _ _ (start .given .1) in let k = t .some in omega arith
 
 part-requires : tie.Need-part-requires Inv-loop μ-loop
 part-requires c κs = search needs
 
 put-requires-2 : tie.Need-put-requires-2 Inv-loop μ-loop
 unfolding ascii
-put-requires-2 c κs = word-counts _ _ _ _ _ _ (c .before .before .before .before .before .before .before .before .before .before .before .before .before .loop .inv) _ (c .before .before .before .before .before .before .before .before .before .before .before .rest .ensures) _ (c .before .before .before .before .before .before .before .before .before .before .next-word .ensures) _ _ (c .before .before .before .before .before .before .before .before .start .given .1) _ _ _ (c .before .part .ensures) (c .before .before .before .before .put .ensures) (c .before .before .before .before .before .before .before .before .before .before .before .before .before .before .before .before .pre)
+put-requires-2 c κs =
+    let pre = c .before .before .before .before .before .before .before .before .before .before .before .before .before .before .before .before .pre in
+    let loop = c .before .before .before .before .before .before .before .before .before .before .before .before .before .loop in
+    let rest = c .before .before .before .before .before .before .before .before .before .before .before .rest in
+    let next-word = c .before .before .before .before .before .before .before .before .before .before .next-word in
+    let start = c .before .before .before .before .before .before .before .before .start in
+    let put = c .before .before .before .before .put in
+    word-counts _ _ _ _ _ _ (loop .inv) _ (rest .ensures) _ (next-word .ensures) _ _ (start .given .1) _ _ _ (c .before .part .ensures) (put .ensures) (pre)
 
 add-place : tie.Need-add-place Inv-loop μ-loop
-add-place c = let t = word-here _ _ _ _ _ _ (c .before .before .before .before .before .before .before .before .before .before .before .before .before .before .before .before .loop .inv) _ (c .before .before .before .before .before .before .before .before .before .before .before .before .before .before .rest .ensures) _ (c .before .before .before .before .before .before .before .before .before .before .before .before .before .next-word .ensures) _ _ (c .before .before .before .before .before .before .before .before .before .before .before .start .given .1) in let k = t .fits in omega arith
+add-place c =
+    let loop = c .before .before .before .before .before .before .before .before .before .before .before .before .before .before .before .before .loop in
+    let rest = c .before .before .before .before .before .before .before .before .before .before .before .before .before .before .rest in
+    let next-word = c .before .before .before .before .before .before .before .before .before .before .before .before .before .next-word in
+    let start = c .before .before .before .before .before .before .before .before .before .before .before .start in
+    let t = word-here _ _ _ _ _ _ (loop .inv) _ (rest .ensures) _ (next-word .ensures) _ _ (start .given .1) in let k = t .fits in omega arith
 
 loop-less : tie.Need-loop-less Inv-loop μ-loop
-loop-less c = let t = word-here _ _ _ _ _ _ (c .before .before .before .before .before .before .before .before .before .before .before .before .before .before .before .before .loop .inv) _ (c .before .before .before .before .before .before .before .before .before .before .before .before .before .before .rest .ensures) _ (c .before .before .before .before .before .before .before .before .before .before .before .before .before .next-word .ensures) _ _ (c .before .before .before .before .before .before .before .before .before .before .before .start .given .1) in let k = t .fits in let m = t .some in omega arith
+loop-less c =
+    let loop = c .before .before .before .before .before .before .before .before .before .before .before .before .before .before .before .before .loop in
+    let rest = c .before .before .before .before .before .before .before .before .before .before .before .before .before .before .rest in
+    let next-word = c .before .before .before .before .before .before .before .before .before .before .before .before .before .next-word in
+    let start = c .before .before .before .before .before .before .before .before .before .before .before .start in
+    let t = word-here _ _ _ _ _ _ (loop .inv) _ (rest .ensures) _ (next-word .ensures) _ _ (start .given .1) in let k = t .fits in let m = t .some in omega arith
 
 loop-again : tie.Need-loop-again Inv-loop μ-loop
 unfolding ascii
-loop-again c = goes-on _ _ _ _ _ _ (c .before .before .before .before .before .before .before .before .before .before .before .before .before .before .before .before .loop .inv) _ (c .before .before .before .before .before .before .before .before .before .before .before .before .before .before .rest .ensures) _ (c .before .before .before .before .before .before .before .before .before .before .before .before .before .next-word .ensures) _ _ (c .before .before .before .before .before .before .before .before .before .before .before .start .given .1) _ _ _ _ _ (c .before .before .before .before .part .ensures) (c .before .before .before .before .before .before .before .put .ensures) (c .before .before .put2 .ensures)
+loop-again c =
+    let loop = c .before .before .before .before .before .before .before .before .before .before .before .before .before .before .before .before .loop in
+    let rest = c .before .before .before .before .before .before .before .before .before .before .before .before .before .before .rest in
+    let next-word = c .before .before .before .before .before .before .before .before .before .before .before .before .before .next-word in
+    let start = c .before .before .before .before .before .before .before .before .before .before .before .start in
+    let put = c .before .before .before .before .before .before .before .put in
+    let part = c .before .before .before .before .part in
+    goes-on _ _ _ _ _ _ (loop .inv) _ (rest .ensures) _ (next-word .ensures) _ _ (start .given .1) _ _ _ _ _ (part .ensures) (put .ensures) (c .before .before .put2 .ensures)
 
 same-length-2 : tie.Need-same-length-2 Inv-loop μ-loop
 same-length-2 c = c .before .loop .inv .size

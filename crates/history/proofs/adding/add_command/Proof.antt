@@ -19,7 +19,9 @@ returns c =
     addition (a .history) (a .slots .now) (a .text .now) BadState _ _ (answer-bad _ _ _ (sym (c .before .is-good .ensures) ∙ not-true (c .before .is-good .result) (c .if1 .taken))) refl refl
 
 add-tested-requires : tie.Need-add-tested-requires
-add-tested-requires c κs = sym (c .before .before .is-good .ensures) ∙ not-false (c .before .before .is-good .result) (c .before .if1 .left)
+add-tested-requires c κs =
+    let is-good = c .before .before .is-good in
+    sym (is-good .ensures) ∙ not-false (is-good .result) (c .before .if1 .left)
 
 same-length-2 : tie.Need-same-length-2
 same-length-2 c = search needs

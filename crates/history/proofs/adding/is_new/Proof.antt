@@ -15,10 +15,15 @@ is-blank-requires : tie.Need-is-blank-requires
 is-blank-requires c κs = search needs
 
 returns : tie.Need-returns
-returns c = sym (blank-not-new (c .before .before .before .before .args .text .now) (journalOf (c .before .before .before .before .args .history) (c .before .before .before .before .args .slots .now) .entries) (sym (c .before .is-blank .ensures) ∙ c .if1 .taken))
+returns c =
+    let args = c .before .before .before .before .args in
+    sym (blank-not-new (args .text .now) (journalOf (args .history) (args .slots .now) .entries) (sym (c .before .is-blank .ensures) ∙ c .if1 .taken))
 
 returns-2 : tie.Need-returns-2
-returns-2 c = sym (first-new (c .before .before .before .before .before .before .args .history) (c .before .before .before .before .before .before .args .slots .now) (c .before .before .before .before .before .before .args .text .now) (sym (c .before .before .before .is-blank .ensures) ∙ c .before .before .if1 .left) (c .if2 .taken))
+returns-2 c =
+    let args = c .before .before .before .before .before .before .args in
+    let is-blank = c .before .before .before .is-blank in
+    sym (first-new (args .history) (args .slots .now) (args .text .now) (sym (is-blank .ensures) ∙ c .before .before .if1 .left) (c .if2 .taken))
 
 sub-recall : tie.Need-sub-recall
 sub-recall c = search needs
@@ -30,7 +35,12 @@ same-requires : tie.Need-same-requires
 same-requires c κs = search needs
 
 returns-3 : tie.Need-returns-3
-returns-3 c = ap not (c .same .ensures ∙ ap (λ (e : List ℕ). sameBytes e (c .before .before .before .before .before .before .before .before .before .args .text .now)) (c .before .recall .ensures)) ∙ sym (other-new (c .before .before .before .before .before .before .before .before .before .args .history) (c .before .before .before .before .before .before .before .before .before .args .slots .now) (c .before .before .before .before .before .before .before .before .before .args .text .now) (sym (c .before .before .before .before .before .before .is-blank .ensures) ∙ c .before .before .before .before .before .if1 .left) (let n = c .before .before .before .if2 .left in omega arith))
+returns-3 c =
+    let args = c .before .before .before .before .before .before .before .before .before .args in
+    let is-blank = c .before .before .before .before .before .before .is-blank in
+    let if1 = c .before .before .before .before .before .if1 in
+    let if2 = c .before .before .before .if2 in
+    ap not (c .same .ensures ∙ ap (λ (e : List ℕ). sameBytes e (args .text .now)) (c .before .recall .ensures)) ∙ sym (other-new (args .history) (args .slots .now) (args .text .now) (sym (is-blank .ensures) ∙ if1 .left) (let n = if2 .left in omega arith))
 
 pub is-new-spec : {M : Type 1} → statement M
 is-new-spec =

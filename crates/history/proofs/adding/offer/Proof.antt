@@ -14,16 +14,21 @@ same-length : tie.Need-same-length
 same-length c = search needs
 
 returns : tie.Need-returns
-returns c = offered-old (c .before .before .before .before .before .args .history) (c .before .before .before .before .before .args .slots .now) (c .before .before .before .before .before .args .text .now) (c .before .before .before .before .before .pre .0) (sym (c .before .is-new .ensures) ∙ not-true (c .before .is-new .result) (c .if1 .taken))
+returns c =
+    let args = c .before .before .before .before .before .args in
+    let pre = c .before .before .before .before .before .pre in
+    offered-old (args .history) (args .slots .now) (args .text .now) (pre .0) (sym (c .before .is-new .ensures) ∙ not-true (c .before .is-new .result) (c .if1 .taken))
 
 mul-store : tie.Need-mul-store
 mul-store c = search needs
 
 store-requires : tie.Need-store-requires
 store-requires c κs =
-    let g = good-has (c .before .before .before .before .before .before .before .args .history) (c .before .before .before .before .before .before .before .args .slots .now) (c .before .before .before .before .before .before .before .pre .0) in
+    let args = c .before .before .before .before .before .before .before .args in
+    let pre = c .before .before .before .before .before .before .before .pre in
+    let g = good-has (args .history) (args .slots .now) (pre .0) in
     let a = g .size in
-    (c .before .before .before .before .before .before .before .pre .1 .0, omega arith)
+    (pre .1 .0, omega arith)
 
 add-more : tie.Need-add-more
 add-more c = search needs
@@ -33,26 +38,41 @@ same-length-2 c = search needs
 
 returns-2 : tie.Need-returns-2
 returns-2 c =
-    rw (c .before .before .store .ensures) (offered-more (c .before .before .before .before .before .before .before .before .before .before .args .history) (c .before .before .before .before .before .before .before .before .before .before .args .slots .now) (c .before .before .before .before .before .before .before .before .before .before .args .text .now) (c .before .before .before .before .before .before .before .before .before .before .pre .0) (sym (c .before .before .before .before .before .before .is-new .ensures) ∙ not-false (c .before .before .before .before .before .before .is-new .result) (c .before .before .before .before .before .if1 .left)) (c .before .before .before .before .if2 .taken) (c .before .before .before .before .before .before .before .before .before .before .pre .1 .0))
+    let args = c .before .before .before .before .before .before .before .before .before .before .args in
+    let pre = c .before .before .before .before .before .before .before .before .before .before .pre in
+    let is-new = c .before .before .before .before .before .before .is-new in
+    let if1 = c .before .before .before .before .before .if1 in
+    let if2 = c .before .before .before .before .if2 in
+    rw (c .before .before .store .ensures) (offered-more (args .history) (args .slots .now) (args .text .now) (pre .0) (sym (is-new .ensures) ∙ not-false (is-new .result) (if1 .left)) (if2 .taken) (pre .1 .0))
 
 drop-oldest-requires : tie.Need-drop-oldest-requires
 drop-oldest-requires c κs =
-    let g = good-has (c .before .before .before .before .before .before .before .args .history) (c .before .before .before .before .before .before .before .args .slots .now) (c .before .before .before .before .before .before .before .pre .0) in
+    let args = c .before .before .before .before .before .before .before .args in
+    let pre = c .before .before .before .before .before .before .before .pre in
+    let g = good-has (args .history) (args .slots .now) (pre .0) in
     let a = g .size in
     omega arith
 
 store-requires-2 : tie.Need-store-requires-2
 store-requires-2 c κs =
-    let g = good-has (c .before .before .before .before .before .before .before .before .before .before .before .args .history) (c .before .before .before .before .before .before .before .before .before .before .before .args .slots .now) (c .before .before .before .before .before .before .before .before .before .before .before .pre .0) in
+    let args = c .before .before .before .before .before .before .before .before .before .before .before .args in
+    let pre = c .before .before .before .before .before .before .before .before .before .before .before .pre in
+    let g = good-has (args .history) (args .slots .now) (pre .0) in
     let a = g .size in
-    (c .before .before .before .before .before .before .before .before .before .before .before .pre .1 .0, omega arith)
+    (pre .1 .0, omega arith)
 
 same-length-3 : tie.Need-same-length-3
 same-length-3 c = search needs
 
 returns-3 : tie.Need-returns-3
 returns-3 c =
-    rw (c .before .before .store2 .ensures, c .before .before .before .before .before .before .drop-oldest .ensures) (offered-full (c .before .before .before .before .before .before .before .before .before .before .before .before .before .before .args .history) (c .before .before .before .before .before .before .before .before .before .before .before .before .before .before .args .slots .now) (c .before .before .before .before .before .before .before .before .before .before .before .before .before .before .args .text .now) (c .before .before .before .before .before .before .before .before .before .before .before .before .before .before .pre .0) (sym (c .before .before .before .before .before .before .before .before .before .before .is-new .ensures) ∙ not-false (c .before .before .before .before .before .before .before .before .before .before .is-new .result) (c .before .before .before .before .before .before .before .before .before .if1 .left)) (c .before .before .before .before .before .before .before .before .if2 .left) (c .before .before .before .before .before .before .before .before .before .before .before .before .before .before .pre .1 .0))
+    let args = c .before .before .before .before .before .before .before .before .before .before .before .before .before .before .args in
+    let pre = c .before .before .before .before .before .before .before .before .before .before .before .before .before .before .pre in
+    let is-new = c .before .before .before .before .before .before .before .before .before .before .is-new in
+    let if1 = c .before .before .before .before .before .before .before .before .before .if1 in
+    let if2 = c .before .before .before .before .before .before .before .before .if2 in
+    let drop-oldest = c .before .before .before .before .before .before .drop-oldest in
+    rw (c .before .before .store2 .ensures, drop-oldest .ensures) (offered-full (args .history) (args .slots .now) (args .text .now) (pre .0) (sym (is-new .ensures) ∙ not-false (is-new .result) (if1 .left)) (if2 .left) (pre .1 .0))
 
 pub offer-spec : {M : Type 1} → statement M
 offer-spec =

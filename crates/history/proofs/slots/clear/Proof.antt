@@ -28,15 +28,18 @@ loop-less : tie.Need-loop-less Inv-loop μ-loop
 loop-less c = omega arith
 
 loop-again : tie.Need-loop-again Inv-loop μ-loop
-loop-again c = (omega arith, omega arith, simp length-set (c .before .loop .inv .2), clear-turn (c .before .before .args .out .now) (c .before .loop .out) (c .before .before .args .at) (c .before .loop .i) (omega arith) (omega (arith, c .before .before .pre .1)) (c .before .loop .inv .3))
+loop-again c =
+    let args = c .before .before .args in
+    (omega arith, omega arith, simp length-set (c .before .loop .inv .2), clear-turn (args .out .now) (c .before .loop .out) (args .at) (c .before .loop .i) (omega arith) (omega (arith, c .before .before .pre .1)) (c .before .loop .inv .3))
 
 same-length : tie.Need-same-length Inv-loop μ-loop
 same-length c = c .before .loop .inv .2
 
 returns : tie.Need-returns Inv-loop μ-loop
 returns c =
-    let e : c .before .loop .i ≡ c .before .before .args .end = omega arith in
-    c .before .loop .inv .3 ∙ ap (λ (n : ℕ). overAt (zeros (n - c .before .before .args .at)) (c .before .before .args .out .now) (c .before .before .args .at)) e
+    let args = c .before .before .args in
+    let e : c .before .loop .i ≡ args .end = omega arith in
+    c .before .loop .inv .3 ∙ ap (λ (n : ℕ). overAt (zeros (n - args .at)) (args .out .now) (args .at)) e
 
 pub clear-spec : {M : Type 1} → statement M
 clear-spec =

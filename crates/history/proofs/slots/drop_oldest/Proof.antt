@@ -36,7 +36,11 @@ loop-less : tie.Need-loop-less Inv-loop μ-loop
 loop-less c = omega arith
 
 loop-again : tie.Need-loop-again Inv-loop μ-loop
-loop-again c = (omega arith, c .before .before .loop .inv .1, simp length-set (c .before .before .loop .inv .2), move-turn (c .before .before .before .args .slots .now) (c .before .before .loop .slots) (c .before .before .loop .i) (omega (arith, c .before .before .before .pre)) (c .before .before .loop .inv .3))
+loop-again c =
+    let args = c .before .before .before .args in
+    let pre = c .before .before .before .pre in
+    let loop = c .before .before .loop in
+    (omega arith, loop .inv .1, simp length-set (loop .inv .2), move-turn (args .slots .now) (loop .slots) (loop .i) (omega (arith, pre)) (loop .inv .3))
 
 same-length : tie.Need-same-length Inv-loop μ-loop
 same-length c = c .before .loop .inv .2

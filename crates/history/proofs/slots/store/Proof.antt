@@ -24,7 +24,12 @@ same-length : tie.Need-same-length
 same-length c = search needs
 
 returns : tie.Need-returns
-returns c = c .before .before .clear .ensures ∙ slot-stored (c .before .before .before .before .before .before .before .before .before .before .before .before .before .before .args .text .now) (c .before .before .before .before .before .before .before .before .before .before .before .before .before .before .args .slots .now) _ _ (c .before .before .before .before .before .before .before .before .before .before .before .before .before .before .args .at) _ _ (c .before .before .before .before .before .before .before .before .before .before .before .before .before .before .pre .0) (c .before .before .before .before .before .before .before .before .before .before .before .before .before .before .pre .1) (c .before .before .before .before .before .before .before .before .before .before .push-byte .ensures) (c .before .before .before .before .before .before .push .ensures)
+returns c =
+    let args = c .before .before .before .before .before .before .before .before .before .before .before .before .before .before .args in
+    let pre = c .before .before .before .before .before .before .before .before .before .before .before .before .before .before .pre in
+    let push-byte = c .before .before .before .before .before .before .before .before .before .before .push-byte in
+    let push = c .before .before .before .before .before .before .push in
+    c .before .before .clear .ensures ∙ slot-stored (args .text .now) (args .slots .now) _ _ (args .at) _ _ (pre .0) (pre .1) (push-byte .ensures) (push .ensures)
 
 pub store-spec : {M : Type 1} → statement M
 store-spec =

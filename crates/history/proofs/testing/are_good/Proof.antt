@@ -23,13 +23,18 @@ is-good-slot-requires : tie.Need-is-good-slot-requires Inv-loop μ-loop
 is-good-slot-requires c κs = omega (arith, c .before .before .before .pre)
 
 returns : tie.Need-returns Inv-loop μ-loop
-returns c = sym (judged-bad _ _ _ (omega arith) (sym (c .before .is-good-slot .ensures) ∙ not-true (c .before .is-good-slot .result) (c .if1 .taken))) ∙ c .before .before .before .loop .inv .2
+returns c =
+    let loop = c .before .before .before .loop in
+    sym (judged-bad _ _ _ (omega arith) (sym (c .before .is-good-slot .ensures) ∙ not-true (c .before .is-good-slot .result) (c .if1 .taken))) ∙ loop .inv .2
 
 is-repeated-requires : tie.Need-is-repeated-requires Inv-loop μ-loop
 is-repeated-requires c κs = omega (arith, c .before .before .before .before .before .pre)
 
 returns-2 : tie.Need-returns-2 Inv-loop μ-loop
-returns-2 c = sym (judged-repeated _ _ _ (omega arith) (sym (c .before .before .before .is-good-slot .ensures) ∙ not-false (c .before .before .before .is-good-slot .result) (c .before .before .if1 .left)) (sym (c .before .is-repeated .ensures) ∙ c .if2 .taken)) ∙ c .before .before .before .before .before .loop .inv .2
+returns-2 c =
+    let loop = c .before .before .before .before .before .loop in
+    let is-good-slot = c .before .before .before .is-good-slot in
+    sym (judged-repeated _ _ _ (omega arith) (sym (is-good-slot .ensures) ∙ not-false (is-good-slot .result) (c .before .before .if1 .left)) (sym (c .before .is-repeated .ensures) ∙ c .if2 .taken)) ∙ loop .inv .2
 
 add-k : tie.Need-add-k Inv-loop μ-loop
 add-k c = omega arith
@@ -42,8 +47,11 @@ loop-less c = omega arith
 
 loop-again : tie.Need-loop-again Inv-loop μ-loop
 loop-again c =
-    let less : c .before .before .before .before .before .before .before .args .count - (c .before .before .before .before .before .loop .k + 1) ≡ c .before .before .before .before .before .before .before .args .count - c .before .before .before .before .before .loop .k - 1 = omega arith in
-    (omega arith, omega arith, rw less (judged-on (c .before .before .before .before .before .before .before .args .slots .now) (c .before .before .before .before .before .loop .at) (c .before .before .before .before .before .before .before .args .count - c .before .before .before .before .before .loop .k) (omega arith) (sym (c .before .before .before .is-good-slot .ensures) ∙ not-false (c .before .before .before .is-good-slot .result) (c .before .before .if1 .left)) (sym (c .before .is-repeated .ensures) ∙ c .if2 .left) ∙ c .before .before .before .before .before .loop .inv .2))
+    let args = c .before .before .before .before .before .before .before .args in
+    let loop = c .before .before .before .before .before .loop in
+    let is-good-slot = c .before .before .before .is-good-slot in
+    let less : args .count - (loop .k + 1) ≡ args .count - loop .k - 1 = omega arith in
+    (omega arith, omega arith, rw less (judged-on (args .slots .now) (loop .at) (args .count - loop .k) (omega arith) (sym (is-good-slot .ensures) ∙ not-false (is-good-slot .result) (c .before .before .if1 .left)) (sym (c .before .is-repeated .ensures) ∙ c .if2 .left) ∙ loop .inv .2))
 
 sub-greatest-byte : tie.Need-sub-greatest-byte Inv-loop μ-loop
 sub-greatest-byte c = omega (arith, c .before .before .before .pre)
@@ -58,7 +66,10 @@ greatest-byte-requires : tie.Need-greatest-byte-requires Inv-loop μ-loop
 greatest-byte-requires c κs = tt
 
 returns-3 : tie.Need-returns-3 Inv-loop μ-loop
-returns-3 c = judged-end (c .before .before .before .before .before .args .slots .now) (c .before .before .before .loop .at) (c .before .before .before .before .before .args .count - c .before .before .before .loop .k) _ (omega arith) (c .greatest-byte .ensures) ∙ c .before .before .before .loop .inv .2
+returns-3 c =
+    let args = c .before .before .before .before .before .args in
+    let loop = c .before .before .before .loop in
+    judged-end (args .slots .now) (loop .at) (args .count - loop .k) _ (omega arith) (c .greatest-byte .ensures) ∙ loop .inv .2
 
 pub are-good-spec : {M : Type 1} → statement M
 are-good-spec =

@@ -14,13 +14,21 @@ returns-2 : tie.Need-returns-2
 returns-2 c = sym (bad-count _ (c .before .before .before .args .slots .now) (c .before .if1 .left) (c .if2 .taken))
 
 returns-3 : tie.Need-returns-3
-returns-3 c = sym (bad-place _ (c .before .before .before .before .before .args .slots .now) (c .before .before .before .if1 .left) (c .before .before .if2 .left) (c .if3 .taken))
+returns-3 c =
+    let args = c .before .before .before .before .before .args in
+    let if1 = c .before .before .before .if1 in
+    sym (bad-place _ (args .slots .now) (if1 .left) (c .before .before .if2 .left) (c .if3 .taken))
 
 are-good-requires : tie.Need-are-good-requires
 are-good-requires c κs = search needs
 
 returns-4 : tie.Need-returns-4
-returns-4 c = c .are-good .ensures ∙ good-is (c .before .before .before .before .before .before .args .history) (c .before .before .before .before .before .before .args .slots .now) (λ i. omega (arith, c .before .before .before .before .before .shared-slice-known .given i .fits)) (c .before .before .before .before .if1 .left) (c .before .before .before .if2 .left) (c .before .if3 .left)
+returns-4 c =
+    let args = c .before .before .before .before .before .before .args in
+    let shared-slice-known = c .before .before .before .before .before .shared-slice-known in
+    let if1 = c .before .before .before .before .if1 in
+    let if2 = c .before .before .before .if2 in
+    c .are-good .ensures ∙ good-is (args .history) (args .slots .now) (λ i. omega (arith, shared-slice-known .given i .fits)) (if1 .left) (if2 .left) (c .before .if3 .left)
 
 pub is-good-spec : {M : Type 1} → statement M
 is-good-spec = tie.close (tie.spec returns returns-2 returns-3 are-good-requires returns-4)

@@ -37,7 +37,10 @@ is-usable-requires c κs =
     entry-below (args .slots .now) (args .at + 1) _ _ (c .before .top-of .ensures)
 
 returns : tie.Need-returns
-returns c = sym (slot-bad (c .before .before .before .before .before .before .args .slots .now) (c .before .before .before .before .before .before .args .at) _ (c .before .before .before .before .byte-at .ensures .byte) (sym (c .before .is-usable .ensures) ∙ not-true (c .before .is-usable .result) (c .if1 .taken)))
+returns c =
+    let args = c .before .before .before .before .before .before .args in
+    let byte-at = c .before .before .before .before .byte-at in
+    sym (slot-bad (args .slots .now) (args .at) _ (byte-at .ensures .byte) (sym (c .before .is-usable .ensures) ∙ not-true (c .before .is-usable .result) (c .if1 .taken)))
 
 sub-greatest-byte : tie.Need-sub-greatest-byte
 sub-greatest-byte c = search needs
@@ -52,7 +55,11 @@ greatest-byte-requires : tie.Need-greatest-byte-requires
 greatest-byte-requires c κs = search needs
 
 returns-2 : tie.Need-returns-2
-returns-2 c = slot-good (c .before .before .before .before .before .before .before .before .args .slots .now) (c .before .before .before .before .before .before .before .before .args .at) _ _ (c .before .before .before .before .before .before .byte-at .ensures .byte) (sym (c .before .before .before .is-usable .ensures) ∙ not-false (c .before .before .before .is-usable .result) (c .before .before .if1 .left)) (c .greatest-byte .ensures)
+returns-2 c =
+    let args = c .before .before .before .before .before .before .before .before .args in
+    let byte-at = c .before .before .before .before .before .before .byte-at in
+    let is-usable = c .before .before .before .is-usable in
+    slot-good (args .slots .now) (args .at) _ _ (byte-at .ensures .byte) (sym (is-usable .ensures) ∙ not-false (is-usable .result) (c .before .before .if1 .left)) (c .greatest-byte .ensures)
 
 pub is-good-slot-spec : {M : Type 1} → statement M
 is-good-slot-spec =

@@ -8,7 +8,9 @@ use Rattle.history.proofs.testing.is_repeated.Statement.{statement}
 use Rattle.history.proofs.testing.is_repeated.Tie as tie
 
 returns : tie.Need-returns
-returns c = rw (before-first (c .before .before .args .slots .now) (c .before .before .args .at) (c .if1 .taken)) (sym (slot-some (c .before .before .args .slots .now) (c .before .before .args .at) (omega (arith, c .before .before .pre))))
+returns c =
+    let args = c .before .before .args in
+    rw (before-first (args .slots .now) (args .at) (c .if1 .taken)) (sym (slot-some (args .slots .now) (args .at) (omega (arith, c .before .before .pre))))
 
 add-next : tie.Need-add-next
 add-next c = search needs
@@ -68,7 +70,10 @@ same-throughout-requires-2 : tie.Need-same-throughout-requires-2
 same-throughout-requires-2 c κs = search needs
 
 returns-3 : tie.Need-returns-3
-returns-3 c = c .same-throughout2 .ensures ∙ two-slots (c .before .before .before .before .before .before .before .before .before .args .slots .now) (c .before .before .before .before .before .before .before .before .before .args .at) (c .before .before .before .before .before .before .before .if1 .left)
+returns-3 c =
+    let args = c .before .before .before .before .before .before .before .before .before .args in
+    let if1 = c .before .before .before .before .before .before .before .if1 in
+    c .same-throughout2 .ensures ∙ two-slots (args .slots .now) (args .at) (if1 .left)
 
 pub is-repeated-spec : {M : Type 1} → statement M
 is-repeated-spec =

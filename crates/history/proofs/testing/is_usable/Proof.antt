@@ -31,7 +31,8 @@ well-formed-prefix-requires c κs = search needs
 returns-3 : tie.Need-returns-3
 unfolding usable wellFormed
 returns-3 c =
-    let blank = sym (c .before .before .before .is-blank .ensures) ∙ c .before .before .if1 .left in
+    let is-blank = c .before .before .before .is-blank in
+    let blank = sym (is-blank .ensures) ∙ c .before .before .if1 .left in
     sym (else-is _ _ _ blank ∙ rw (c .well-formed-prefix .ensures))
 
 pub is-usable-spec : {M : Type 1} → statement M

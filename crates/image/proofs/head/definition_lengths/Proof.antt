@@ -45,7 +45,9 @@ add-t10 : tie.Need-add-t10
 add-t10 c = omega (arith, span-least (c .before .before .byte-at2 .result))
 
 returns : tie.Need-returns
-returns c = definition-lengths-are _ _ _ _ _ _ (c .before .before .before .byte-at .ensures .byte) (c .before .before .byte-at2 .ensures .byte) (c .before .span-of .ensures) (c .byte-at3 .ensures .byte)
+returns c =
+    let byte-at = c .before .before .before .byte-at in
+    definition-lengths-are _ _ _ _ _ _ (byte-at .ensures .byte) (c .before .before .byte-at2 .ensures .byte) (c .before .span-of .ensures) (c .byte-at3 .ensures .byte)
 
 pub definition-lengths-spec : {M : Type 1} → statement M
 definition-lengths-spec =

@@ -8,13 +8,18 @@ definition-lengths-requires : tie.Need-definition-lengths-requires
 definition-lengths-requires c κs = search needs
 
 returns : tie.Need-returns
-returns c = flag-cut (c .before .before .before .before .args .s .now) _ (c .before .before .definition-lengths .ensures) (c .if1 .taken)
+returns c =
+    let args = c .before .before .before .before .args in
+    flag-cut (args .s .now) _ (c .before .before .definition-lengths .ensures) (c .if1 .taken)
 
 byte-at-requires : tie.Need-byte-at-requires
 byte-at-requires c κs = search needs
 
 returns-2 : tie.Need-returns-2
-returns-2 c = flag-whole (c .before .before .before .before .before .args .s .now) _ (c .before .before .before .definition-lengths .ensures) _ (c .before .if1 .left) (c .byte-at .ensures .byte)
+returns-2 c =
+    let args = c .before .before .before .before .before .args in
+    let definition-lengths = c .before .before .before .definition-lengths in
+    flag-whole (args .s .now) _ (definition-lengths .ensures) _ (c .before .if1 .left) (c .byte-at .ensures .byte)
 
 pub flag-head-spec : {M : Type 1} → statement M
 flag-head-spec =

@@ -21,18 +21,28 @@ flag-head-requires : tie.Need-flag-head-requires
 flag-head-requires c κs = search needs
 
 returns-2 : tie.Need-returns-2
-returns-2 c = c .node-head .ensures ∙ head-node (c .before .before .before .before .before .args .s .now) (c .before .before .before .if1 .left) (c .before .match .keys1)
+returns-2 c =
+    let args = c .before .before .before .before .before .args in
+    let if1 = c .before .before .before .if1 in
+    c .node-head .ensures ∙ head-node (args .s .now) (if1 .left) (c .before .match .keys1)
 
 returns-3 : tie.Need-returns-3
-returns-3 c = c .option-head .ensures ∙ head-option (c .before .before .before .before .before .args .s .now) (c .before .before .before .if1 .left) (c .before .match .keys2)
+returns-3 c =
+    let args = c .before .before .before .before .before .args in
+    let if1 = c .before .before .before .if1 in
+    c .option-head .ensures ∙ head-option (args .s .now) (if1 .left) (c .before .match .keys2)
 
 returns-4 : tie.Need-returns-4
-returns-4 c = c .flag-head .ensures ∙ head-flag (c .before .before .before .before .before .args .s .now) (c .before .before .before .if1 .left) (c .before .match .keys3)
+returns-4 c =
+    let args = c .before .before .before .before .before .args in
+    let if1 = c .before .before .before .if1 in
+    c .flag-head .ensures ∙ head-flag (args .s .now) (if1 .left) (c .before .match .keys3)
 
 returns-5 : tie.Need-returns-5
 returns-5 c =
+    let args = c .before .before .before .before .args in
     let r = c .match .rest in
-    head-bad (c .before .before .before .before .args .s .now) (c .before .before .if1 .left) (r .0 .0 .1) (r .0 .1) (r .1)
+    head-bad (args .s .now) (c .before .before .if1 .left) (r .0 .0 .1) (r .0 .1) (r .1)
 
 pub head-of-spec : {M : Type 1} → statement M
 head-of-spec =

@@ -8,7 +8,9 @@ node-lengths-requires : tie.Need-node-lengths-requires
 node-lengths-requires c κs = search needs
 
 returns : tie.Need-returns
-returns c = node-cut (c .before .before .before .before .args .s .now) _ (c .before .before .node-lengths .ensures) (c .if1 .taken)
+returns c =
+    let args = c .before .before .before .before .args in
+    node-cut (args .s .now) _ (c .before .before .node-lengths .ensures) (c .if1 .taken)
 
 byte-at-requires : tie.Need-byte-at-requires
 byte-at-requires c κs = search needs
@@ -26,7 +28,11 @@ add-t8 : tie.Need-add-t8
 add-t8 c = search needs
 
 returns-2 : tie.Need-returns-2
-returns-2 c = node-whole (c .before .before .before .before .before .before .before .args .s .now) _ (c .before .before .before .before .before .node-lengths .ensures) _ _ _ (c .before .before .before .if1 .left) (c .before .before .byte-at .ensures .byte) (c .before .byte-at2 .ensures .byte) (c .byte-at3 .ensures .byte)
+returns-2 c =
+    let args = c .before .before .before .before .before .before .before .args in
+    let node-lengths = c .before .before .before .before .before .node-lengths in
+    let if1 = c .before .before .before .if1 in
+    node-whole (args .s .now) _ (node-lengths .ensures) _ _ _ (if1 .left) (c .before .before .byte-at .ensures .byte) (c .before .byte-at2 .ensures .byte) (c .byte-at3 .ensures .byte)
 
 pub node-head-spec : {M : Type 1} → statement M
 node-head-spec =

@@ -36,7 +36,9 @@ add-t8 : tie.Need-add-t8
 add-t8 c = omega (arith, span-least (c .before .byte-at3 .result))
 
 returns : tie.Need-returns
-returns c = node-lengths-are _ _ _ _ _ (c .before .before .before .byte-at .ensures .byte) (c .before .before .byte-at2 .ensures .byte) (c .before .byte-at3 .ensures .byte) (c .span-of .ensures)
+returns c =
+    let byte-at = c .before .before .before .byte-at in
+    node-lengths-are _ _ _ _ _ (byte-at .ensures .byte) (c .before .before .byte-at2 .ensures .byte) (c .before .byte-at3 .ensures .byte) (c .span-of .ensures)
 
 pub node-lengths-spec : {M : Type 1} → statement M
 node-lengths-spec =

@@ -8,7 +8,9 @@ definition-lengths-requires : tie.Need-definition-lengths-requires
 definition-lengths-requires c κs = search needs
 
 returns : tie.Need-returns
-returns c = option-cut (c .before .before .before .before .args .s .now) _ (c .before .before .definition-lengths .ensures) (c .if1 .taken)
+returns c =
+    let args = c .before .before .before .before .args in
+    option-cut (args .s .now) _ (c .before .before .definition-lengths .ensures) (c .if1 .taken)
 
 byte-at-requires : tie.Need-byte-at-requires
 byte-at-requires c κs = search needs
@@ -17,7 +19,10 @@ byte-at-requires-2 : tie.Need-byte-at-requires-2
 byte-at-requires-2 c κs = search needs
 
 returns-2 : tie.Need-returns-2
-returns-2 c = option-whole (c .before .before .before .before .before .before .args .s .now) _ (c .before .before .before .before .definition-lengths .ensures) _ _ (c .before .before .if1 .left) (c .before .byte-at .ensures .byte) (c .byte-at2 .ensures .byte)
+returns-2 c =
+    let args = c .before .before .before .before .before .before .args in
+    let definition-lengths = c .before .before .before .before .definition-lengths in
+    option-whole (args .s .now) _ (definition-lengths .ensures) _ _ (c .before .before .if1 .left) (c .before .byte-at .ensures .byte) (c .byte-at2 .ensures .byte)
 
 pub option-head-spec : {M : Type 1} → statement M
 option-head-spec =

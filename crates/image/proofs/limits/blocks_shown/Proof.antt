@@ -34,8 +34,9 @@ each-shown-requires c κs = search needs
 
 returns : tie.Need-returns Inv-loop μ-loop
 returns c =
-    let t : List ℕ = c .before .before .before .before .args .t .now in
-    end-bad _ t (length t - c .before .before .before .before .args .size) _ (c .before .each-shown .ensures) (not-true _ (c .if1 .taken))
+    let args = c .before .before .before .before .args in
+    let t : List ℕ = args .t .now in
+    end-bad _ t (length t - args .size) _ (c .before .each-shown .ensures) (not-true _ (c .if1 .taken))
 
 loop-holds : tie.Need-loop-holds Inv-loop μ-loop
 loop-holds c = refl
@@ -57,23 +58,29 @@ each-shown-requires-2 c κs = search needs
 
 returns-2 : tie.Need-returns-2 Inv-loop μ-loop
 returns-2 c =
-    let t : List ℕ = c .before .before .before .before .before .before .before .before .before .args .t .now in
-    let at : ℕ = c .before .before .before .before .loop .at in
-    sym (block-bad _ t at _ (at + c .before .before .before .before .before .before .before .before .before .args .size) refl (omega arith) _ (c .before .each-shown2 .ensures) (not-true _ (c .if2 .taken))) ∙ c .before .before .before .before .loop .inv
+    let args = c .before .before .before .before .before .before .before .before .before .args in
+    let loop = c .before .before .before .before .loop in
+    let t : List ℕ = args .t .now in
+    let at : ℕ = loop .at in
+    sym (block-bad _ t at _ (at + args .size) refl (omega arith) _ (c .before .each-shown2 .ensures) (not-true _ (c .if2 .taken))) ∙ loop .inv
 
 loop-less : tie.Need-loop-less Inv-loop μ-loop
 loop-less c = omega (arith, c .before .before .before .before .before .before .before .before .before .pre .0)
 
 loop-again : tie.Need-loop-again Inv-loop μ-loop
 loop-again c =
-    let t : List ℕ = c .before .before .before .before .before .before .before .before .before .args .t .now in
-    let at : ℕ = c .before .before .before .before .loop .at in
-    sym (block-good _ t at _ (at + c .before .before .before .before .before .before .before .before .before .args .size) refl (omega arith) _ (c .before .each-shown2 .ensures) (not-false _ (c .if2 .left))) ∙ c .before .before .before .before .loop .inv
+    let args = c .before .before .before .before .before .before .before .before .before .args in
+    let loop = c .before .before .before .before .loop in
+    let t : List ℕ = args .t .now in
+    let at : ℕ = loop .at in
+    sym (block-good _ t at _ (at + args .size) refl (omega arith) _ (c .before .each-shown2 .ensures) (not-false _ (c .if2 .left))) ∙ loop .inv
 
 returns-3 : tie.Need-returns-3 Inv-loop μ-loop
 returns-3 c =
-    let t : List ℕ = c .before .before .before .before .before .before .args .t .now in
-    sym (end-good _ t (length t - c .before .before .before .before .before .before .args .size) (c .before .loop .at) _ (c .before .before .before .each-shown .ensures) (not-false _ (c .before .before .if1 .left)) (c .loop-test .left)) ∙ c .before .loop .inv
+    let args = c .before .before .before .before .before .before .args in
+    let each-shown = c .before .before .before .each-shown in
+    let t : List ℕ = args .t .now in
+    sym (end-good _ t (length t - args .size) (c .before .loop .at) _ (each-shown .ensures) (not-false _ (c .before .before .if1 .left)) (c .loop-test .left)) ∙ c .before .loop .inv
 
 pub blocks-shown-spec : {M : Type 1} → statement M
 blocks-shown-spec =

@@ -34,7 +34,10 @@ loop-less : tie.Need-loop-less Inv-loop μ-loop
 loop-less c = search needs
 
 loop-again : tie.Need-loop-again Inv-loop μ-loop
-loop-again c = (omega arith, rw (c .worse .ensures, c .before .outside .ensures) (strangest-step _ _ _ _ (c .before .before .before .loop-test .taken) ∙ c .before .before .before .before .loop .inv .1))
+loop-again c =
+    let loop = c .before .before .before .before .loop in
+    let loop-test = c .before .before .before .loop-test in
+    (omega arith, rw (c .worse .ensures, c .before .outside .ensures) (strangest-step _ _ _ _ (loop-test .taken) ∙ loop .inv .1))
 
 returns : tie.Need-returns Inv-loop μ-loop
 returns c = block-decides _ _ _ _ (c .loop-test .left) (c .before .loop .inv .1)

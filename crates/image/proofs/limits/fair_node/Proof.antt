@@ -21,7 +21,9 @@ is-name-requires c κs = search needs
 
 returns-2 : tie.Need-returns-2
 unfolding nodeIn
-returns-2 c = λ h k. node-unnamed _ h _ _ _ k (c .before .before .before .if1 .left) (seen isName _ _ _ _ (c .before .is-name .ensures) (c .before .before .part .ensures) (not-true _ (c .if2 .taken)))
+returns-2 c =
+    let if1 = c .before .before .before .if1 in
+    λ h k. node-unnamed _ h _ _ _ k (if1 .left) (seen isName _ _ _ _ (c .before .is-name .ensures) (c .before .before .part .ensures) (not-true _ (c .if2 .taken)))
 
 add-at : tie.Need-add-at
 add-at c = search needs
@@ -35,9 +37,13 @@ is-note-requires c κs = search needs
 returns-3 : tie.Need-returns-3
 unfolding nodeIn
 returns-3 c =
-    let named = seen isName _ _ _ _ (c .before .before .before .before .before .is-name .ensures) (c .before .before .before .before .before .before .part .ensures) (not-false _ (c .before .before .before .before .if2 .left)) in
+    let if1 = c .before .before .before .before .before .before .before .if1 in
+    let part = c .before .before .before .before .before .before .part in
+    let is-name = c .before .before .before .before .before .is-name in
+    let if2 = c .before .before .before .before .if2 in
+    let named = seen isName _ _ _ _ (is-name .ensures) (part .ensures) (not-false _ (if2 .left)) in
     let described = seen isNote _ _ _ _ (c .before .is-note .ensures) (c .before .before .part2 .ensures) (not-true _ (c .if3 .taken)) in
-    λ h k. node-undescribed _ h _ _ _ k (c .before .before .before .before .before .before .before .if1 .left) named described
+    λ h k. node-undescribed _ h _ _ _ k (if1 .left) named described
 
 add-is-usage : tie.Need-add-is-usage
 add-is-usage c = search needs
@@ -51,9 +57,15 @@ is-usage-requires c κs = search needs
 returns-4 : tie.Need-returns-4
 unfolding nodeIn
 returns-4 c =
-    let named = seen isName _ _ _ _ (c .before .before .before .before .before .before .before .is-name .ensures) (c .before .before .before .before .before .before .before .before .part .ensures) (not-false _ (c .before .before .before .before .before .before .if2 .left)) in
-    let described = seen isNote _ _ _ _ (c .before .before .before .is-note .ensures) (c .before .before .before .before .part2 .ensures) (not-false _ (c .before .before .if3 .left)) in
-    λ h k. c .is-usage .ensures ∙ node-by _ h _ _ _ k (c .before .before .before .before .before .before .before .before .before .if1 .left) named described
+    let if1 = c .before .before .before .before .before .before .before .before .before .if1 in
+    let part = c .before .before .before .before .before .before .before .before .part in
+    let is-name = c .before .before .before .before .before .before .before .is-name in
+    let if2 = c .before .before .before .before .before .before .if2 in
+    let part2 = c .before .before .before .before .part2 in
+    let is-note = c .before .before .before .is-note in
+    let named = seen isName _ _ _ _ (is-name .ensures) (part .ensures) (not-false _ (if2 .left)) in
+    let described = seen isNote _ _ _ _ (is-note .ensures) (part2 .ensures) (not-false _ (c .before .before .if3 .left)) in
+    λ h k. c .is-usage .ensures ∙ node-by _ h _ _ _ k (if1 .left) named described
 
 pub fair-node-spec : {M : Type 1} → statement M
 fair-node-spec =

@@ -28,7 +28,10 @@ is-name-requires c κs = search needs
 
 returns-2 : tie.Need-returns-2
 unfolding definedIn
-returns-2 c = name-bad _ _ _ _ (sym (c .before .before .before .before .is-short .ensures) ∙ not-false _ (c .before .before .before .if1 .left)) (seen isName _ _ _ _ (c .before .is-name .ensures) (c .before .before .part .ensures) (not-true _ (c .if2 .taken)))
+returns-2 c =
+    let is-short = c .before .before .before .before .is-short in
+    let if1 = c .before .before .before .if1 in
+    name-bad _ _ _ _ (sym (is-short .ensures) ∙ not-false _ (if1 .left)) (seen isName _ _ _ _ (c .before .is-name .ensures) (c .before .before .part .ensures) (not-true _ (c .if2 .taken)))
 
 add-at : tie.Need-add-at
 add-at c = search needs
@@ -42,17 +45,26 @@ is-long-requires c κs = search needs
 returns-3 : tie.Need-returns-3
 unfolding definedIn
 returns-3 c =
-    let named = seen isName _ _ _ _ (c .before .before .before .before .is-name .ensures) (c .before .before .before .before .before .part .ensures) (not-false _ (c .before .before .before .if2 .left)) in
-    long-bad _ _ _ _ (sym (c .before .before .before .before .before .before .before .is-short .ensures) ∙ not-false _ (c .before .before .before .before .before .before .if1 .left)) named (sym (c .before .is-long .ensures) ∙ not-true _ (c .if3 .taken))
+    let is-short = c .before .before .before .before .before .before .before .is-short in
+    let if1 = c .before .before .before .before .before .before .if1 in
+    let part = c .before .before .before .before .before .part in
+    let is-name = c .before .before .before .before .is-name in
+    let if2 = c .before .before .before .if2 in
+    let named = seen isName _ _ _ _ (is-name .ensures) (part .ensures) (not-false _ (if2 .left)) in
+    long-bad _ _ _ _ (sym (is-short .ensures) ∙ not-false _ (if1 .left)) named (sym (c .before .is-long .ensures) ∙ not-true _ (c .if3 .taken))
 
 span-of-requires : tie.Need-span-of-requires
 span-of-requires c κs = search needs
 
 add-part-2 : tie.Need-add-part-2
-add-part-2 c = omega (arith, span-least (c .before .before .before .before .before .before .before .before .before .before .args .texts .other))
+add-part-2 c =
+    let args = c .before .before .before .before .before .before .before .before .before .before .args in
+    omega (arith, span-least (args .texts .other))
 
 add-part-3 : tie.Need-add-part-3
-add-part-3 c = omega (arith, span-least (c .before .before .before .before .before .before .before .before .before .before .args .texts .other))
+add-part-3 c =
+    let args = c .before .before .before .before .before .before .before .before .before .before .args in
+    omega (arith, span-least (args .texts .other))
 
 part-requires-2 : tie.Need-part-requires-2
 part-requires-2 c κs = search needs
@@ -63,9 +75,16 @@ is-note-requires c κs = search needs
 returns-4 : tie.Need-returns-4
 unfolding definedIn
 returns-4 c =
-    let named = seen isName _ _ _ _ (c .before .before .before .before .before .before .before .is-name .ensures) (c .before .before .before .before .before .before .before .before .part .ensures) (not-false _ (c .before .before .before .before .before .before .if2 .left)) in
-    let long = sym (c .before .before .before .before .is-long .ensures) ∙ not-false _ (c .before .before .before .if3 .left) in
-    c .is-note .ensures ∙ ap isNote (c .before .part2 .ensures) ∙ rw (c .before .before .span-of .ensures) (definable-by _ _ _ _ (sym (c .before .before .before .before .before .before .before .before .before .before .is-short .ensures) ∙ not-false _ (c .before .before .before .before .before .before .before .before .before .if1 .left)) named long)
+    let is-short = c .before .before .before .before .before .before .before .before .before .before .is-short in
+    let if1 = c .before .before .before .before .before .before .before .before .before .if1 in
+    let part = c .before .before .before .before .before .before .before .before .part in
+    let is-name = c .before .before .before .before .before .before .before .is-name in
+    let if2 = c .before .before .before .before .before .before .if2 in
+    let is-long = c .before .before .before .before .is-long in
+    let if3 = c .before .before .before .if3 in
+    let named = seen isName _ _ _ _ (is-name .ensures) (part .ensures) (not-false _ (if2 .left)) in
+    let long = sym (is-long .ensures) ∙ not-false _ (if3 .left) in
+    c .is-note .ensures ∙ ap isNote (c .before .part2 .ensures) ∙ rw (c .before .before .span-of .ensures) (definable-by _ _ _ _ (sym (is-short .ensures) ∙ not-false _ (if1 .left)) named long)
 
 pub is-definable-spec : {M : Type 1} → statement M
 is-definable-spec =

@@ -16,7 +16,9 @@ all-shown-requires : tie.Need-all-shown-requires
 all-shown-requires c κs = search needs
 
 returns-3 : tie.Need-returns-3
-returns-3 c = c .all-shown .ensures ∙ name-by (c .before .before .before .before .args .t .now) (omega arith) (omega arith)
+returns-3 c =
+    let args = c .before .before .before .before .args in
+    c .all-shown .ensures ∙ name-by (args .t .now) (omega arith) (omega arith)
 
 pub is-name-spec : {M : Type 1} → statement M
 is-name-spec = tie.close (tie.spec returns returns-2 all-shown-requires returns-3)

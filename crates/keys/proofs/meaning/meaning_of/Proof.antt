@@ -26,13 +26,19 @@ sequenced-requires : tie.Need-sequenced-requires
 sequenced-requires c κs = search needs
 
 returns : tie.Need-returns
-returns c = c .typed .ensures ∙ ap (λ (m : Mode). meaning m (c .before .before .before .args .byte)) (sym (c .before .enum-told .given .1))
+returns c =
+    let args = c .before .before .before .args in
+    c .typed .ensures ∙ ap (λ (m : Mode). meaning m (args .byte)) (sym (c .before .enum-told .given .1))
 
 returns-2 : tie.Need-returns-2
-returns-2 c = c .escaped .ensures ∙ ap (λ (m : Mode). meaning m (c .before .before .before .args .byte)) (sym (c .before .enum-told2 .given .1))
+returns-2 c =
+    let args = c .before .before .before .args in
+    c .escaped .ensures ∙ ap (λ (m : Mode). meaning m (args .byte)) (sym (c .before .enum-told2 .given .1))
 
 returns-3 : tie.Need-returns-3
-returns-3 c = c .sequenced .ensures ∙ ap (λ (m : Mode). meaning m (c .before .before .before .args .byte)) (sym (c .before .enum-told3 .given .1))
+returns-3 c =
+    let args = c .before .before .before .args in
+    c .sequenced .ensures ∙ ap (λ (m : Mode). meaning m (args .byte)) (sym (c .before .enum-told3 .given .1))
 
 pub meaning-of-spec : {M : Type 1} → statement M
 meaning-of-spec =

@@ -28,13 +28,19 @@ returns-2 : tie.Need-returns-2
 returns-2 c = c .awaiting .ensures ∙ sym (at-esc _ (c .before .match .keys4))
 
 returns-3 : tie.Need-returns-3
-returns-3 c = c .doing2 .ensures ∙ sym (at-rest _ (λ e. c .before .before .match .rest .0 .0 .0 .0 .1 (inr e)) (λ e. c .before .before .match .rest .0 .0 .0 .0 .1 (inl e)) (λ e. c .before .before .match .rest .0 .0 .0 .1 e) (λ e. c .before .before .match .rest .0 .0 .1 e) (λ e. c .before .before .match .rest .0 .1 e) (c .before .if1 .left))
+returns-3 c =
+    let match = c .before .before .match in
+    c .doing2 .ensures ∙ sym (at-rest _ (λ e. match .rest .0 .0 .0 .0 .1 (inr e)) (λ e. match .rest .0 .0 .0 .0 .1 (inl e)) (λ e. match .rest .0 .0 .0 .1 e) (λ e. match .rest .0 .0 .1 e) (λ e. match .rest .0 .1 e) (c .before .if1 .left))
 
 returns-4 : tie.Need-returns-4
-returns-4 c = c .doing3 .ensures ∙ sym (⊎-elim (λ k. at-bs (c .before .before .args .byte) (k .keys2)) (λ k. at-del (c .before .before .args .byte) (k .keys3)) (c .before .match .came))
+returns-4 c =
+    let args = c .before .before .args in
+    c .doing3 .ensures ∙ sym (⊎-elim (λ k. at-bs (args .byte) (k .keys2)) (λ k. at-del (args .byte) (k .keys3)) (c .before .match .came))
 
 returns-5 : tie.Need-returns-5
-returns-5 c = c .doing4 .ensures ∙ sym (⊎-elim (λ k. at-tab (c .before .before .args .byte) (k .keys5)) (λ k. at-control (c .before .before .args .byte) (λ e. k .0 .rest .0 .0 .0 .0 .1 (inr e)) (λ e. k .0 .rest .0 .0 .0 .0 .1 (inl e)) (λ e. k .0 .rest .0 .0 .0 .1 e) (λ e. k .0 .rest .0 .0 .1 e) (λ e. k .0 .rest .0 .1 e) (k .1 .taken)) (c .before .match .came))
+returns-5 c =
+    let args = c .before .before .args in
+    c .doing4 .ensures ∙ sym (⊎-elim (λ k. at-tab (args .byte) (k .keys5)) (λ k. at-control (args .byte) (λ e. k .0 .rest .0 .0 .0 .0 .1 (inr e)) (λ e. k .0 .rest .0 .0 .0 .0 .1 (inl e)) (λ e. k .0 .rest .0 .0 .0 .1 e) (λ e. k .0 .rest .0 .0 .1 e) (λ e. k .0 .rest .0 .1 e) (k .1 .taken)) (c .before .match .came))
 
 pub typed-spec : {M : Type 1} → statement M
 typed-spec =

@@ -24,22 +24,40 @@ is-short-requires-2 c κs = search needs
 
 returns : tie.Need-returns
 unfolding optionIn
-returns c = rw (c .if1 .taken) at (matched-option (hasShort (c .before .before .before .before .before .before .before .args .code)) (c .before .before .before .before .before .before .before .args .s .now) _ _ _ (sym (c .before .before .before .short .given .1) ∙ c .before .before .before .before .before .head-of .ensures) _ (c .before .is-short .ensures))
+returns c =
+    let args = c .before .before .before .before .before .before .before .args in
+    let head-of = c .before .before .before .before .before .head-of in
+    let short = c .before .before .before .short in
+    rw (c .if1 .taken) at (matched-option (hasShort (args .code)) (args .s .now) _ _ _ (sym (short .given .1) ∙ head-of .ensures) _ (c .before .is-short .ensures))
 
 returns-2 : tie.Need-returns-2
 unfolding optionIn
-returns-2 c = rw (c .if1 .left) at (matched-option (hasShort (c .before .before .before .before .before .before .before .args .code)) (c .before .before .before .before .before .before .before .args .s .now) _ _ _ (sym (c .before .before .before .short .given .1) ∙ c .before .before .before .before .before .head-of .ensures) _ (c .before .is-short .ensures))
+returns-2 c =
+    let args = c .before .before .before .before .before .before .before .args in
+    let head-of = c .before .before .before .before .before .head-of in
+    let short = c .before .before .before .short in
+    rw (c .if1 .left) at (matched-option (hasShort (args .code)) (args .s .now) _ _ _ (sym (short .given .1) ∙ head-of .ensures) _ (c .before .is-short .ensures))
 
 returns-3 : tie.Need-returns-3
 unfolding flagIn
-returns-3 c = rw (c .if2 .taken) at (matched-flag (hasShort (c .before .before .before .before .before .before .before .args .code)) (c .before .before .before .before .before .before .before .args .s .now) _ _ (sym (c .before .before .before .short2 .given .1) ∙ c .before .before .before .before .before .head-of .ensures) _ (c .before .is-short2 .ensures))
+returns-3 c =
+    let args = c .before .before .before .before .before .before .before .args in
+    let head-of = c .before .before .before .before .before .head-of in
+    let short2 = c .before .before .before .short2 in
+    rw (c .if2 .taken) at (matched-flag (hasShort (args .code)) (args .s .now) _ _ (sym (short2 .given .1) ∙ head-of .ensures) _ (c .before .is-short2 .ensures))
 
 returns-4 : tie.Need-returns-4
 unfolding flagIn
-returns-4 c = rw (c .if2 .left) at (matched-flag (hasShort (c .before .before .before .before .before .before .before .args .code)) (c .before .before .before .before .before .before .before .args .s .now) _ _ (sym (c .before .before .before .short2 .given .1) ∙ c .before .before .before .before .before .head-of .ensures) _ (c .before .is-short2 .ensures))
+returns-4 c =
+    let args = c .before .before .before .before .before .before .before .args in
+    let head-of = c .before .before .before .before .before .head-of in
+    let short2 = c .before .before .before .short2 in
+    rw (c .if2 .left) at (matched-flag (hasShort (args .code)) (args .s .now) _ _ (sym (short2 .given .1) ∙ head-of .ensures) _ (c .before .is-short2 .ensures))
 
 returns-5 : tie.Need-returns-5
-returns-5 c = matched-none (hasShort (c .before .before .before .args .code)) (c .before .before .before .args .s .now) _ (c .before .head-of .ensures) (c .match .keys3)
+returns-5 c =
+    let args = c .before .before .before .args in
+    matched-none (hasShort (args .code)) (args .s .now) _ (c .before .head-of .ensures) (c .match .keys3)
 
 pub match-short-spec : {M : Type 1} → statement M
 match-short-spec =

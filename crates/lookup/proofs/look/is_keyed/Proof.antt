@@ -18,7 +18,10 @@ returns : tie.Need-returns
 returns c = keyed-name _ _ _ (same-part _ _ _ _ _ (c .before .same .ensures) (c .before .before .part .ensures) (c .if1 .taken))
 
 returns-2 : tie.Need-returns-2
-returns-2 c = keyed-none _ _ _ _ (same-part _ _ _ _ _ (c .before .before .before .same .ensures) (c .before .before .before .before .part .ensures) (c .before .before .if1 .left)) (c .if2 .taken)
+returns-2 c =
+    let part = c .before .before .before .before .part in
+    let same = c .before .before .before .same in
+    keyed-none _ _ _ _ (same-part _ _ _ _ _ (same .ensures) (part .ensures) (c .before .before .if1 .left)) (c .if2 .taken)
 
 add-part-2 : tie.Need-add-part-2
 add-part-2 c = search needs
@@ -34,7 +37,11 @@ same-requires-2 c κs = search needs
 
 returns-3 : tie.Need-returns-3
 returns-3 c =
-    let long = keyed-long _ _ _ _ (same-part _ _ _ _ _ (c .before .before .before .before .before .before .same .ensures) (c .before .before .before .before .before .before .before .part .ensures) (c .before .before .before .before .before .if1 .left)) (c .before .before .before .if2 .left) in
+    let part = c .before .before .before .before .before .before .before .part in
+    let same = c .before .before .before .before .before .before .same in
+    let if1 = c .before .before .before .before .before .if1 in
+    let if2 = c .before .before .before .if2 in
+    let long = keyed-long _ _ _ _ (same-part _ _ _ _ _ (same .ensures) (part .ensures) (if1 .left)) (if2 .left) in
     sym (same-part _ _ _ _ _ (c .same2 .ensures) (c .before .part2 .ensures) refl) ∙ long
 
 pub is-keyed-spec : {M : Type 1} → statement M

@@ -22,25 +22,37 @@ enum-known-texts c = search needs
 look-option-requires : tie.Need-look-option-requires
 unfolding Bytes
 look-option-requires c κs =
-    let e = sym (c .before .before .before .head-of .ensures) ∙ c .before .texts .given .1 in
-    definition-small 3 (c .before .before .before .before .before .before .args .s .now) _ (λ i. c .before .before .before .before .before .shared-slice-known .given i .fits) (view _ _ e .texts)
+    let args = c .before .before .before .before .before .before .args in
+    let shared-slice-known = c .before .before .before .before .before .shared-slice-known in
+    let head-of = c .before .before .before .head-of in
+    let e = sym (head-of .ensures) ∙ c .before .texts .given .1 in
+    definition-small 3 (args .s .now) _ (λ i. shared-slice-known .given i .fits) (view _ _ e .texts)
 
 enum-known-texts-2 : tie.Need-enum-known-texts-2
 enum-known-texts-2 c = search needs
 
 returns : tie.Need-returns
-returns c = looked _ _ (c .before .before .before .before .before .before .before .args .s .now) _ _ _ _ (sym (c .before .before .depth .given .1) ∙ c .before .before .before .before .head-of .ensures) refl (c .look-node .ensures _)
+returns c =
+    let args = c .before .before .before .before .before .before .before .args in
+    let head-of = c .before .before .before .before .head-of in
+    looked _ _ (args .s .now) _ _ _ _ (sym (c .before .before .depth .given .1) ∙ head-of .ensures) refl (c .look-node .ensures _)
 
 returns-2 : tie.Need-returns-2
-returns-2 c = looked _ _ (c .before .before .before .before .before .before .before .args .s .now) _ _ _ _ (sym (c .before .before .texts .given .1) ∙ c .before .before .before .before .head-of .ensures) refl (c .look-option .ensures _ _)
+returns-2 c =
+    let args = c .before .before .before .before .before .before .before .args in
+    let head-of = c .before .before .before .before .head-of in
+    looked _ _ (args .s .now) _ _ _ _ (sym (c .before .before .texts .given .1) ∙ head-of .ensures) refl (c .look-option .ensures _ _)
 
 returns-3 : tie.Need-returns-3
 returns-3 c =
     let s = c .before .before .before .before .before .before .args in
-    looked _ _ (s .s .now) _ _ _ _ (sym (c .before .texts2 .given .1) ∙ c .before .before .before .head-of .ensures) refl (flag-passed-in (s .sought) (s .key .now) _ (s .s .now) _ _)
+    let head-of = c .before .before .before .head-of in
+    looked _ _ (s .s .now) _ _ _ _ (sym (c .before .texts2 .given .1) ∙ head-of .ensures) refl (flag-passed-in (s .sought) (s .key .now) _ (s .s .now) _ _)
 
 returns-4 : tie.Need-returns-4
-returns-4 c = looked-none _ _ (c .before .before .before .before .args .s .now) _ (c .before .head-of .ensures) (c .match .keys4)
+returns-4 c =
+    let args = c .before .before .before .before .args in
+    looked-none _ _ (args .s .now) _ (c .before .head-of .ensures) (c .match .keys4)
 
 pub look-first-spec : {M : Type 1} → statement M
 look-first-spec =

@@ -32,7 +32,10 @@ enum-told c = search needs
 
 returns-2 : tie.Need-returns-2
 unfolding nodeIn
-returns-2 c = λ h. node-named _ _ _ _ h _ _ _ _ _ _ _ (c .before .before .before .before .before .sought .given .1) (c .before .before .before .if1 .left) (c .hit-or-pass .ensures) (c .before .same .ensures) (c .before .before .part .ensures)
+returns-2 c =
+    let sought = c .before .before .before .before .before .sought in
+    let if1 = c .before .before .before .if1 in
+    λ h. node-named _ _ _ _ h _ _ _ _ _ _ _ (sought .given .1) (if1 .left) (c .hit-or-pass .ensures) (c .before .same .ensures) (c .before .before .part .ensures)
 
 returns-3 : tie.Need-returns-3
 unfolding nodeIn

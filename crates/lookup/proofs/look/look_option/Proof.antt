@@ -20,7 +20,9 @@ unfolding optionIn
 returns c = λ q d. option-keyed _ _ _ q d _ _ _ _ _ (c .before .before .enum-told .given .1) (c .hit-or-pass .ensures) (c .before .is-keyed .ensures)
 
 returns-2 : tie.Need-returns-2
-returns-2 c = λ q d. option-passed-in (c .before .before .before .args .sought) (c .before .before .before .args .key .now) (c .before .before .before .args .texts .size) (c .before .before .before .args .s .now) (c .before .before .before .args .texts) q d (c .match .keys2)
+returns-2 c =
+    let args = c .before .before .before .args in
+    λ q d. option-passed-in (args .sought) (args .key .now) (args .texts .size) (args .s .now) (args .texts) q d (c .match .keys2)
 
 pub look-option-spec : {M : Type 1} → statement M
 look-option-spec =

@@ -14,13 +14,18 @@ enum-told : tie.Need-enum-told
 enum-told c = search needs
 
 returns : tie.Need-returns
-returns c = find-none (c .before .before .before .before .before .args .image .now) (c .before .before .before .before .before .args .depth) (c .before .before .before .before .before .args .name .now) _ (c .before .before .seek .ensures) (c .enum-told .given .1)
+returns c =
+    let args = c .before .before .before .before .before .args in
+    find-none (args .image .now) (args .depth) (args .name .now) _ (c .before .before .seek .ensures) (c .enum-told .given .1)
 
 subtree-end-requires : tie.Need-subtree-end-requires
 subtree-end-requires c κs = search needs
 
 returns-2 : tie.Need-returns-2
-returns-2 c = find-some (c .before .before .before .before .before .before .before .args .image .now) (c .before .before .before .before .before .before .before .args .depth) (c .before .before .before .before .before .before .before .args .name .now) _ (c .before .before .before .before .seek .ensures) _ _ (c .before .before .start .given .1) (c .subtree-end .ensures)
+returns-2 c =
+    let args = c .before .before .before .before .before .before .before .args in
+    let seek = c .before .before .before .before .seek in
+    find-some (args .image .now) (args .depth) (args .name .now) _ (seek .ensures) _ _ (c .before .before .start .given .1) (c .subtree-end .ensures)
 
 pub find-node-spec : {M : Type 1} → statement M
 find-node-spec =

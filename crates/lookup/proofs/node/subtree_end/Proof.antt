@@ -14,10 +14,15 @@ enum-known-texts : tie.Need-enum-known-texts
 enum-known-texts c = search needs
 
 returns : tie.Need-returns
-returns c = end-none (c .before .before .before .args .image .now) (c .before .before .before .args .start) (c .before .before .before .args .depth) _ (c .before .head-at .ensures) (c .match .keys2)
+returns c =
+    let args = c .before .before .before .args in
+    end-none (args .image .now) (args .start) (args .depth) _ (c .before .head-at .ensures) (c .match .keys2)
 
 add-later : tie.Need-add-later
-add-later c = omega (arith, node-fits (c .before .before .before .before .before .before .args .image .now) (c .before .before .before .before .before .before .args .start) (c .before .before .before .before .before .before .args .depth) _ _ _ (sym (c .before .before .texts .given .1) ∙ c .before .before .before .before .head-at .ensures))
+add-later c =
+    let args = c .before .before .before .before .before .before .args in
+    let head-at = c .before .before .before .before .head-at in
+    omega (arith, node-fits (args .image .now) (args .start) (args .depth) _ _ _ (sym (c .before .before .texts .given .1) ∙ head-at .ensures))
 
 part-requires : tie.Need-part-requires
 part-requires c κs = search needs
@@ -33,13 +38,22 @@ enum-told c = search needs
 
 returns-2 : tie.Need-returns-2
 returns-2 c =
-    let e = end-by (c .before .before .before .before .before .before .before .before .before .before .args .image .now) (c .before .before .before .before .before .before .before .before .before .before .args .start) (c .before .before .before .before .before .before .before .before .before .before .args .depth) _ _ _ (sym (c .before .before .before .before .before .before .texts .given .1) ∙ c .before .before .before .before .before .before .before .before .head-at .ensures) _ _ (c .before .before .before .part .ensures) (c .before .before .seek .ensures) in
-    sym (ap (orEnd (c .before .before .before .before .before .before .before .before .before .before .args .image .now)) (c .enum-told .given .1)) ∙ e
+    let args = c .before .before .before .before .before .before .before .before .before .before .args in
+    let head-at = c .before .before .before .before .before .before .before .before .head-at in
+    let texts = c .before .before .before .before .before .before .texts in
+    let part = c .before .before .before .part in
+    let e = end-by (args .image .now) (args .start) (args .depth) _ _ _ (sym (texts .given .1) ∙ head-at .ensures) _ _ (part .ensures) (c .before .before .seek .ensures) in
+    sym (ap (orEnd (args .image .now)) (c .enum-told .given .1)) ∙ e
 
 returns-3 : tie.Need-returns-3
 returns-3 c =
-    let e = end-by (c .before .before .before .before .before .before .before .before .before .before .before .args .image .now) (c .before .before .before .before .before .before .before .before .before .before .before .args .start) (c .before .before .before .before .before .before .before .before .before .before .before .args .depth) _ _ _ (sym (c .before .before .before .before .before .before .before .texts .given .1) ∙ c .before .before .before .before .before .before .before .before .before .head-at .ensures) _ _ (c .before .before .before .before .part .ensures) (c .before .before .before .seek .ensures) in
-    sym (ap (orEnd (c .before .before .before .before .before .before .before .before .before .before .before .args .image .now)) (c .before .end .given .1)) ∙ e
+    let args = c .before .before .before .before .before .before .before .before .before .before .before .args in
+    let head-at = c .before .before .before .before .before .before .before .before .before .head-at in
+    let texts = c .before .before .before .before .before .before .before .texts in
+    let part = c .before .before .before .before .part in
+    let seek = c .before .before .before .seek in
+    let e = end-by (args .image .now) (args .start) (args .depth) _ _ _ (sym (texts .given .1) ∙ head-at .ensures) _ _ (part .ensures) (seek .ensures) in
+    sym (ap (orEnd (args .image .now)) (c .before .end .given .1)) ∙ e
 
 pub subtree-end-spec : {M : Type 1} → statement M
 subtree-end-spec =

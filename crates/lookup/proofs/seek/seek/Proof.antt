@@ -30,7 +30,11 @@ enum-told : tie.Need-enum-told Inv-loop μ-loop
 enum-told c = search needs
 
 returns : tie.Need-returns Inv-loop μ-loop
-returns c = spot-hit _ _ (c .before .before .before .before .before .before .before .before .args .image .now) _ (rest-looked _ _ _ _ _ _ (c .before .before .before .rest .ensures) (c .before .before .look-first .ensures) (c .enum-told .given .1)) ∙ c .before .before .before .before .before .loop .inv
+returns c =
+    let args = c .before .before .before .before .before .before .before .before .args in
+    let loop = c .before .before .before .before .before .loop in
+    let rest = c .before .before .before .rest in
+    spot-hit _ _ (args .image .now) _ (rest-looked _ _ _ _ _ _ (rest .ensures) (c .before .before .look-first .ensures) (c .enum-told .given .1)) ∙ loop .inv
 
 enum-known-size : tie.Need-enum-known-size Inv-loop μ-loop
 enum-known-size c = search needs
@@ -38,34 +42,55 @@ enum-known-size c = search needs
 add-at : tie.Need-add-at Inv-loop μ-loop
 unfolding Bytes
 add-at c =
-    let e = rest-looked _ _ _ _ _ _ (c .before .before .before .before .rest .ensures) (c .before .before .before .look-first .ensures) (c .before .size .given .1) in
-    let p = spot-pass _ _ (c .before .before .before .before .before .before .before .before .before .args .image .now) (c .before .before .before .before .before .before .loop .at) _ (λ i. c .before .before .before .before .before .before .before .before .shared-slice-known .given i .fits) e in
+    let args = c .before .before .before .before .before .before .before .before .before .args in
+    let shared-slice-known = c .before .before .before .before .before .before .before .before .shared-slice-known in
+    let loop = c .before .before .before .before .before .before .loop in
+    let rest = c .before .before .before .before .rest in
+    let look-first = c .before .before .before .look-first in
+    let e = rest-looked _ _ _ _ _ _ (rest .ensures) (look-first .ensures) (c .before .size .given .1) in
+    let p = spot-pass _ _ (args .image .now) (loop .at) _ (λ i. shared-slice-known .given i .fits) e in
     let w = p .within in
-    let h : c .before .before .before .before .before .before .loop .at ≤ length (c .before .before .before .before .before .before .before .before .before .args .image .now) = omega arith in
+    let h : loop .at ≤ length (args .image .now) = omega arith in
     omega (arith, w h)
 
 loop-less : tie.Need-loop-less Inv-loop μ-loop
 unfolding Bytes
 loop-less c =
-    let e = rest-looked _ _ _ _ _ _ (c .before .before .before .before .rest .ensures) (c .before .before .before .look-first .ensures) (c .before .size .given .1) in
-    let p = spot-pass _ _ (c .before .before .before .before .before .before .before .before .before .args .image .now) (c .before .before .before .before .before .before .loop .at) _ (λ i. c .before .before .before .before .before .before .before .before .shared-slice-known .given i .fits) e in
+    let args = c .before .before .before .before .before .before .before .before .before .args in
+    let shared-slice-known = c .before .before .before .before .before .before .before .before .shared-slice-known in
+    let loop = c .before .before .before .before .before .before .loop in
+    let rest = c .before .before .before .before .rest in
+    let look-first = c .before .before .before .look-first in
+    let e = rest-looked _ _ _ _ _ _ (rest .ensures) (look-first .ensures) (c .before .size .given .1) in
+    let p = spot-pass _ _ (args .image .now) (loop .at) _ (λ i. shared-slice-known .given i .fits) e in
     omega (arith, p .some)
 
 loop-again : tie.Need-loop-again Inv-loop μ-loop
 unfolding Bytes
 loop-again c =
-    let e = rest-looked _ _ _ _ _ _ (c .before .before .before .before .rest .ensures) (c .before .before .before .look-first .ensures) (c .before .size .given .1) in
-    let p = spot-pass _ _ (c .before .before .before .before .before .before .before .before .before .args .image .now) (c .before .before .before .before .before .before .loop .at) _ (λ i. c .before .before .before .before .before .before .before .before .shared-slice-known .given i .fits) e in
-    sym (p .same) ∙ c .before .before .before .before .before .before .loop .inv
+    let args = c .before .before .before .before .before .before .before .before .before .args in
+    let shared-slice-known = c .before .before .before .before .before .before .before .before .shared-slice-known in
+    let loop = c .before .before .before .before .before .before .loop in
+    let rest = c .before .before .before .before .rest in
+    let look-first = c .before .before .before .look-first in
+    let e = rest-looked _ _ _ _ _ _ (rest .ensures) (look-first .ensures) (c .before .size .given .1) in
+    let p = spot-pass _ _ (args .image .now) (loop .at) _ (λ i. shared-slice-known .given i .fits) e in
+    sym (p .same) ∙ loop .inv
 
 enum-told-2 : tie.Need-enum-told-2 Inv-loop μ-loop
 enum-told-2 c = search needs
 
 returns-2 : tie.Need-returns-2 Inv-loop μ-loop
-returns-2 c = spot-stop _ _ (c .before .before .before .before .before .before .before .before .args .image .now) _ (rest-looked _ _ _ _ _ _ (c .before .before .before .rest .ensures) (c .before .before .look-first .ensures) (c .enum-told2 .given .1)) ∙ c .before .before .before .before .before .loop .inv
+returns-2 c =
+    let args = c .before .before .before .before .before .before .before .before .args in
+    let loop = c .before .before .before .before .before .loop in
+    let rest = c .before .before .before .rest in
+    spot-stop _ _ (args .image .now) _ (rest-looked _ _ _ _ _ _ (rest .ensures) (c .before .before .look-first .ensures) (c .enum-told2 .given .1)) ∙ loop .inv
 
 returns-3 : tie.Need-returns-3 Inv-loop μ-loop
-returns-3 c = spot-end _ _ (c .before .before .before .before .args .image .now) _ (c .loop-test .left) ∙ c .before .loop .inv
+returns-3 c =
+    let args = c .before .before .before .before .args in
+    spot-end _ _ (args .image .now) _ (c .loop-test .left) ∙ c .before .loop .inv
 
 pub seek-spec : {M : Type 1} → statement M
 seek-spec =

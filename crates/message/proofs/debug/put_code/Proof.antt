@@ -28,8 +28,11 @@ same-length c = search needs
 returns : tie.Need-returns
 unfolding codeText ascii
 returns c =
-    let k = c .before .before .before .before .before .before .before .before .before .before .before .put .ensures .place in let l = c .before .before .before .before .before .before .before .put-digits .ensures .1 in let m = c .before .before .put2 .ensures .place in
-    (inked-three (ascii "\\u{") _ (ascii "}") _ _ _ _ _ _ _ _ (c .before .before .before .before .before .before .before .before .before .before .before .put .ensures) (c .before .before .before .before .before .before .before .put-digits .ensures .0) (c .before .before .put2 .ensures), omega arith)
+    let put = c .before .before .before .before .before .before .before .before .before .before .before .put in
+    let put-digits = c .before .before .before .before .before .before .before .put-digits in
+    let put2 = c .before .before .put2 in
+    let k = put .ensures .place in let l = put-digits .ensures .1 in let m = put2 .ensures .place in
+    (inked-three (ascii "\\u{") _ (ascii "}") _ _ _ _ _ _ _ _ (put .ensures) (put-digits .ensures .0) (put2 .ensures), omega arith)
 
 pub put-code-spec : {M : Type 1} → statement M
 put-code-spec =

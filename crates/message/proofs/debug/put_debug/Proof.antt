@@ -57,57 +57,81 @@ same-length c = search needs
 
 returns : tie.Need-returns
 unfolding debugByte ascii
-returns c = let k = c .before .before .put .ensures .place in (inked-as _ _ _ _ _ _ (ap debugByte (sym (c .before .before .before .before .before .match .keys1))) (c .before .before .put .ensures), omega arith)
+returns c =
+    let match = c .before .before .before .before .before .match in
+    let put = c .before .before .put in
+    let k = put .ensures .place in (inked-as _ _ _ _ _ _ (ap debugByte (sym (match .keys1))) (put .ensures), omega arith)
 
 same-length-2 : tie.Need-same-length-2
 same-length-2 c = search needs
 
 returns-2 : tie.Need-returns-2
 unfolding debugByte ascii
-returns-2 c = let k = c .before .before .put2 .ensures .place in (inked-as _ _ _ _ _ _ (ap debugByte (sym (c .before .before .before .before .before .match .keys2))) (c .before .before .put2 .ensures), omega arith)
+returns-2 c =
+    let match = c .before .before .before .before .before .match in
+    let put2 = c .before .before .put2 in
+    let k = put2 .ensures .place in (inked-as _ _ _ _ _ _ (ap debugByte (sym (match .keys2))) (put2 .ensures), omega arith)
 
 same-length-3 : tie.Need-same-length-3
 same-length-3 c = search needs
 
 returns-3 : tie.Need-returns-3
 unfolding debugByte ascii
-returns-3 c = let k = c .before .before .put3 .ensures .place in (inked-as _ _ _ _ _ _ (ap debugByte (sym (c .before .before .before .before .before .match .keys3))) (c .before .before .put3 .ensures), omega arith)
+returns-3 c =
+    let match = c .before .before .before .before .before .match in
+    let put3 = c .before .before .put3 in
+    let k = put3 .ensures .place in (inked-as _ _ _ _ _ _ (ap debugByte (sym (match .keys3))) (put3 .ensures), omega arith)
 
 same-length-4 : tie.Need-same-length-4
 same-length-4 c = search needs
 
 returns-4 : tie.Need-returns-4
 unfolding debugByte ascii
-returns-4 c = let k = c .before .before .put4 .ensures .place in (inked-as _ _ _ _ _ _ (ap debugByte (sym (c .before .before .before .before .before .match .keys4))) (c .before .before .put4 .ensures), omega arith)
+returns-4 c =
+    let match = c .before .before .before .before .before .match in
+    let put4 = c .before .before .put4 in
+    let k = put4 .ensures .place in (inked-as _ _ _ _ _ _ (ap debugByte (sym (match .keys4))) (put4 .ensures), omega arith)
 
 same-length-5 : tie.Need-same-length-5
 same-length-5 c = search needs
 
 returns-5 : tie.Need-returns-5
 unfolding debugByte ascii
-returns-5 c = let k = c .before .before .put5 .ensures .place in (inked-as _ _ _ _ _ _ (ap debugByte (sym (c .before .before .before .before .before .match .keys5))) (c .before .before .put5 .ensures), omega arith)
+returns-5 c =
+    let match = c .before .before .before .before .before .match in
+    let put5 = c .before .before .put5 in
+    let k = put5 .ensures .place in (inked-as _ _ _ _ _ _ (ap debugByte (sym (match .keys5))) (put5 .ensures), omega arith)
 
 same-length-6 : tie.Need-same-length-6
 same-length-6 c = search needs
 
 returns-6 : tie.Need-returns-6
 unfolding debugByte ascii
-returns-6 c = let k = c .before .before .put6 .ensures .place in (inked-as _ _ _ _ _ _ (ap debugByte (sym (c .before .before .before .before .before .match .keys6))) (c .before .before .put6 .ensures), omega arith)
+returns-6 c =
+    let match = c .before .before .before .before .before .match in
+    let put6 = c .before .before .put6 in
+    let k = put6 .ensures .place in (inked-as _ _ _ _ _ _ (ap debugByte (sym (match .keys6))) (put6 .ensures), omega arith)
 
 same-length-7 : tie.Need-same-length-7
 same-length-7 c = search needs
 
 returns-7 : tie.Need-returns-7
 returns-7 c =
-    let k = c .before .before .put-byte .ensures .place in
-    let n = c .before .before .before .before .before .match .rest in
-    (inked-as _ _ _ _ _ _ (debug-plain _ (n .0 .0 .0 .0 .0 .0 .1) (n .0 .0 .0 .0 .0 .1) (n .0 .0 .0 .0 .1) (n .0 .0 .0 .1) (n .0 .0 .1) (n .0 .1) (n .1) (c .before .before .before .before .if1 .left)) (c .before .before .put-byte .ensures), omega arith)
+    let match = c .before .before .before .before .before .match in
+    let if1 = c .before .before .before .before .if1 in
+    let put-byte = c .before .before .put-byte in
+    let k = put-byte .ensures .place in
+    let n = match .rest in
+    (inked-as _ _ _ _ _ _ (debug-plain _ (n .0 .0 .0 .0 .0 .0 .1) (n .0 .0 .0 .0 .0 .1) (n .0 .0 .0 .0 .1) (n .0 .0 .0 .1) (n .0 .0 .1) (n .0 .1) (n .1) (if1 .left)) (put-byte .ensures), omega arith)
 
 same-length-8 : tie.Need-same-length-8
 same-length-8 c = search needs
 
 returns-8 : tie.Need-returns-8
-returns-8 c = (inked-as _ _ _ _ _ _ (⊎-elim (λ m. debug-delete _ (m .keys7)) (λ m. let n = m .0 .rest in debug-control _ (n .0 .0 .0 .0 .0 .0 .1) (n .0 .0 .0 .0 .0 .1) (n .0 .0 .0 .0 .1) (n .0 .0 .0 .1) (n .0 .0 .1) (n .0 .1) (m .1 .taken)) (c .before .before .before .before .match .came)) (c .before .before .put-code .ensures .0), c .before .before .put-code .ensures .1)
+returns-8 c =
+    let match = c .before .before .before .before .match in
+    let put-code = c .before .before .put-code in
+    (inked-as _ _ _ _ _ _ (⊎-elim (λ m. debug-delete _ (m .keys7)) (λ m. let n = m .0 .rest in debug-control _ (n .0 .0 .0 .0 .0 .0 .1) (n .0 .0 .0 .0 .0 .1) (n .0 .0 .0 .0 .1) (n .0 .0 .0 .1) (n .0 .0 .1) (n .0 .1) (m .1 .taken)) (match .came)) (put-code .ensures .0), put-code .ensures .1)
 
 pub put-debug-spec : {M : Type 1} → statement M
 put-debug-spec =

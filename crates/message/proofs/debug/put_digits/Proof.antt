@@ -17,8 +17,12 @@ same-length c = search needs
 
 returns : tie.Need-returns
 returns c =
-    let k = c .before .before .put-byte .ensures .place in let h = c .before .before .before .before .before .if1 .taken in
-    (inked-as _ _ _ _ _ _ (one-digit (c .before .before .before .before .before .before .before .args .n) _ (omega arith) (c .before .before .before .before .digit .ensures)) (c .before .before .put-byte .ensures), omega arith)
+    let args = c .before .before .before .before .before .before .before .args in
+    let if1 = c .before .before .before .before .before .if1 in
+    let digit = c .before .before .before .before .digit in
+    let put-byte = c .before .before .put-byte in
+    let k = put-byte .ensures .place in let h = if1 .taken in
+    (inked-as _ _ _ _ _ _ (one-digit (args .n) _ (omega arith) (digit .ensures)) (put-byte .ensures), omega arith)
 
 digit-requires-2 : tie.Need-digit-requires-2
 digit-requires-2 c κs = search needs
@@ -37,8 +41,14 @@ same-length-2 c = search needs
 
 returns-2 : tie.Need-returns-2
 returns-2 c =
-    let k = c .before .before .put-byte3 .ensures .place in let l = c .before .before .before .before .before .before .before .put-byte2 .ensures .place in let h = c .before .before .before .before .before .before .before .before .before .before .if1 .left in
-    (inked-as _ _ _ _ _ _ (two-digits (c .before .before .before .before .before .before .before .before .before .before .before .before .args .n) _ _ (omega arith) (c .before .before .before .before .before .before .before .before .before .digit2 .ensures) (c .before .before .before .before .digit3 .ensures)) (inked-both _ _ _ _ _ _ _ _ (c .before .before .before .before .before .before .before .put-byte2 .ensures) (c .before .before .put-byte3 .ensures)), omega arith)
+    let args = c .before .before .before .before .before .before .before .before .before .before .before .before .args in
+    let if1 = c .before .before .before .before .before .before .before .before .before .before .if1 in
+    let digit2 = c .before .before .before .before .before .before .before .before .before .digit2 in
+    let put-byte2 = c .before .before .before .before .before .before .before .put-byte2 in
+    let digit3 = c .before .before .before .before .digit3 in
+    let put-byte3 = c .before .before .put-byte3 in
+    let k = put-byte3 .ensures .place in let l = put-byte2 .ensures .place in let h = if1 .left in
+    (inked-as _ _ _ _ _ _ (two-digits (args .n) _ _ (omega arith) (digit2 .ensures) (digit3 .ensures)) (inked-both _ _ _ _ _ _ _ _ (put-byte2 .ensures) (put-byte3 .ensures)), omega arith)
 
 pub put-digits-spec : {M : Type 1} → statement M
 put-digits-spec =

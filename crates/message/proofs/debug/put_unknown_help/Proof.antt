@@ -26,7 +26,10 @@ same-length c = search needs
 
 returns : tie.Need-returns
 unfolding unknownHelp ascii
-returns c = inked-three (ascii "Error: UnknownCommand(\"") _ (ascii "\")\n") _ _ _ _ _ _ _ _ (c .before .before .before .before .before .before .before .before .before .before .before .put .ensures) (c .before .before .before .before .before .before .before .put-word .ensures .inked) (c .before .before .put2 .ensures)
+returns c =
+    let put = c .before .before .before .before .before .before .before .before .before .before .before .put in
+    let put-word = c .before .before .before .before .before .before .before .put-word in
+    inked-three (ascii "Error: UnknownCommand(\"") _ (ascii "\")\n") _ _ _ _ _ _ _ _ (put .ensures) (put-word .ensures .inked) (c .before .before .put2 .ensures)
 
 pub put-unknown-help-spec : {M : Type 1} → statement M
 put-unknown-help-spec =

@@ -19,7 +19,10 @@ shared-slice-read-put-debug : tie.Need-shared-slice-read-put-debug Inv-loop μ-l
 shared-slice-read-put-debug c = let h = c .before .loop-test .taken in omega arith
 
 put-debug-requires : tie.Need-put-debug-requires Inv-loop μ-loop
-put-debug-requires c κs = let m = c .before .before .before .loop .inv .most in let w = c .before .before .before .loop .inv .within in omega (arith, c .before .before .before .before .before .before .pre)
+put-debug-requires c κs =
+    let pre = c .before .before .before .before .before .before .pre in
+    let loop = c .before .before .before .loop in
+    let m = loop .inv .most in let w = loop .inv .within in omega (arith, pre)
 
 add-i : tie.Need-add-i Inv-loop μ-loop
 add-i c = let h = c .before .before .before .before .before .loop-test .taken in omega arith
@@ -28,7 +31,11 @@ loop-less : tie.Need-loop-less Inv-loop μ-loop
 loop-less c = let h = c .before .before .before .before .before .loop-test .taken in omega arith
 
 loop-again : tie.Need-loop-again Inv-loop μ-loop
-loop-again c = goes-on _ _ _ _ _ _ (c .before .before .before .before .before .before .loop .inv) _ _ (c .before .before .before .before .before .loop-test .taken) (c .before .before .put-debug .ensures .0) (c .before .before .put-debug .ensures .1)
+loop-again c =
+    let loop = c .before .before .before .before .before .before .loop in
+    let loop-test = c .before .before .before .before .before .loop-test in
+    let put-debug = c .before .before .put-debug in
+    goes-on _ _ _ _ _ _ (loop .inv) _ _ (loop-test .taken) (put-debug .ensures .0) (put-debug .ensures .1)
 
 same-length : tie.Need-same-length Inv-loop μ-loop
 same-length c = c .before .loop .inv .size

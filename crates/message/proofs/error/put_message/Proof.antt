@@ -71,35 +71,45 @@ same-length c = search needs
 
 returns : tie.Need-returns
 unfolding ascii
-returns c = inked-as _ _ _ _ _ _ (message-is _ _ _ (c .before .before .before .before .before .before .enum-told .given .1)) (c .before .before .put-between .ensures)
+returns c =
+    let enum-told = c .before .before .before .before .before .before .enum-told in
+    inked-as _ _ _ _ _ _ (message-is _ _ _ (enum-told .given .1)) (c .before .before .put-between .ensures)
 
 same-length-2 : tie.Need-same-length-2
 same-length-2 c = search needs
 
 returns-2 : tie.Need-returns-2
 unfolding ascii
-returns-2 c = inked-as _ _ _ _ _ _ (message-is _ _ _ (c .before .before .before .before .before .before .enum-told2 .given .1)) (c .before .before .put-between2 .ensures)
+returns-2 c =
+    let enum-told2 = c .before .before .before .before .before .before .enum-told2 in
+    inked-as _ _ _ _ _ _ (message-is _ _ _ (enum-told2 .given .1)) (c .before .before .put-between2 .ensures)
 
 same-length-3 : tie.Need-same-length-3
 same-length-3 c = search needs
 
 returns-3 : tie.Need-returns-3
 unfolding ascii
-returns-3 c = inked-as _ _ _ _ _ _ (message-is _ _ _ (c .before .before .before .before .before .before .enum-told3 .given .1)) (c .before .before .put-between3 .ensures)
+returns-3 c =
+    let enum-told3 = c .before .before .before .before .before .before .enum-told3 in
+    inked-as _ _ _ _ _ _ (message-is _ _ _ (enum-told3 .given .1)) (c .before .before .put-between3 .ensures)
 
 same-length-4 : tie.Need-same-length-4
 same-length-4 c = search needs
 
 returns-4 : tie.Need-returns-4
 unfolding ascii
-returns-4 c = inked-as _ _ _ _ _ _ (message-is _ _ _ (c .before .before .before .before .before .before .enum-told4 .given .1)) (c .before .before .put-between4 .ensures)
+returns-4 c =
+    let enum-told4 = c .before .before .before .before .before .before .enum-told4 in
+    inked-as _ _ _ _ _ _ (message-is _ _ _ (enum-told4 .given .1)) (c .before .before .put-between4 .ensures)
 
 same-length-5 : tie.Need-same-length-5
 same-length-5 c = search needs
 
 returns-5 : tie.Need-returns-5
 unfolding ascii
-returns-5 c = inked-as _ _ _ _ _ _ (message-is _ _ _ (c .before .before .before .before .before .before .enum-told5 .given .1)) (c .before .before .put-between5 .ensures)
+returns-5 c =
+    let enum-told5 = c .before .before .before .before .before .before .enum-told5 in
+    inked-as _ _ _ _ _ _ (message-is _ _ _ (enum-told5 .given .1)) (c .before .before .put-between5 .ensures)
 
 pub put-message-spec : {M : Type 1} → statement M
 put-message-spec =

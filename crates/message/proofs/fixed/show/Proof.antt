@@ -17,7 +17,9 @@ same-length : tie.Need-same-length
 same-length c = search needs
 
 returns-2 : tie.Need-returns-2
-returns-2 c = shown _ _ _ refl _ _ (c .before .before .before .before .if1 .left) (inked-fits _ _ 0 _ _ (let h = c .before .before .before .before .if1 .left in omega arith) (front-pushed _ _ _ _ (c .before .before .copy .ensures)))
+returns-2 c =
+    let if1 = c .before .before .before .before .if1 in
+    shown _ _ _ refl _ _ (if1 .left) (inked-fits _ _ 0 _ _ (let h = if1 .left in omega arith) (front-pushed _ _ _ _ (c .before .before .copy .ensures)))
 
 pub show-spec : {M : Type 1} → statement M
 show-spec = tie.close (tie.spec returns copy-requires same-length returns-2)

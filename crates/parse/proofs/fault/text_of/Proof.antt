@@ -45,16 +45,24 @@ returns-2 : tie.Need-returns-2
 returns-2 c = search needs
 
 returns-3 : tie.Need-returns-3
-returns-3 c = c .part2 .ensures ∙ sym (ap (textOf (c .before .before .before .before .before .before .before .args .words .now) (c .before .before .before .before .before .before .before .args .node .now)) (c .before .before .verdict .given .1))
+returns-3 c =
+    let args = c .before .before .before .before .before .before .before .args in
+    c .part2 .ensures ∙ sym (ap (textOf (args .words .now) (args .node .now)) (c .before .before .verdict .given .1))
 
 returns-4 : tie.Need-returns-4
-returns-4 c = c .part3 .ensures ∙ sym (ap (textOf (c .before .before .before .before .before .before .before .args .words .now) (c .before .before .before .before .before .before .before .args .node .now)) (c .before .before .verdict2 .given .1))
+returns-4 c =
+    let args = c .before .before .before .before .before .before .before .args in
+    c .part3 .ensures ∙ sym (ap (textOf (args .words .now) (args .node .now)) (c .before .before .verdict2 .given .1))
 
 returns-5 : tie.Need-returns-5
-returns-5 c = c .part4 .ensures ∙ sym (ap (textOf (c .before .before .before .before .before .before .before .args .words .now) (c .before .before .before .before .before .before .before .args .node .now)) (c .before .before .verdict3 .given .1))
+returns-5 c =
+    let args = c .before .before .before .before .before .before .before .args in
+    c .part4 .ensures ∙ sym (ap (textOf (args .words .now) (args .node .now)) (c .before .before .verdict3 .given .1))
 
 returns-6 : tie.Need-returns-6
-returns-6 c = c .part5 .ensures ∙ sym (ap (textOf (c .before .before .before .before .before .before .before .args .words .now) (c .before .before .before .before .before .before .before .args .node .now)) (c .before .before .verdict4 .given .1))
+returns-6 c =
+    let args = c .before .before .before .before .before .before .before .args in
+    c .part5 .ensures ∙ sym (ap (textOf (args .words .now) (args .node .now)) (c .before .before .verdict4 .given .1))
 
 pub text-of-spec : {M : Type 1} → statement M
 text-of-spec =

@@ -25,10 +25,14 @@ without-command-requires : tie.Need-without-command-requires
 without-command-requires c κs = search needs
 
 returns : tie.Need-returns
-returns c = absurd (no-node-first _ _ (sym (c .before .before .head-of .ensures)) (c .before .match .keys2) (c .before .before .before .before .before .before .before .pre .4))
+returns c =
+    let pre = c .before .before .before .before .before .before .before .pre in
+    absurd (no-node-first _ _ (sym (c .before .before .head-of .ensures)) (c .before .match .keys2) (pre .4))
 
 parse-args-requires : tie.Need-parse-args-requires
-parse-args-requires c κs = (search needs, search needs, c .before .before .before .before .before .before .before .before .before .pre .5 .later)
+parse-args-requires c κs =
+    let pre = c .before .before .before .before .before .before .before .before .before .pre in
+    (search needs, search needs, pre .5 .later)
 
 verdict-of-requires : tie.Need-verdict-of-requires
 verdict-of-requires c κs = search needs
@@ -37,7 +41,13 @@ same-length : tie.Need-same-length
 same-length c = search needs
 
 returns-2 : tie.Need-returns-2
-returns-2 c = λ to d. arguments-judged (c .before .before .before .before .before .before .before .before .before .before .before .before .before .args .words .now) (c .before .before .before .before .before .before .before .before .before .before .before .before .before .args .image .now) (c .before .before .before .before .before .before .before .before .before .before .before .before .before .args .rest .now) _ (c .before .before .before .before .before .before .before .before .before .before .before .before .before .args .place) to _ _ d refl (start-after _ _ _ _ (sym (c .before .before .before .before .before .before .before .before .head-of .ensures) ∙ c .before .before .before .before .before .before .texts .given .1)) (c .before .before .before .parse-args .ensures) (c .verdict-of .ensures) (c .before .before .before .before .before .before .before .before .before .before .before .before .before .pre .2) (c .before .before .before .before .before .before .before .before .before .before .before .before .before .pre .5)
+returns-2 c =
+    let args = c .before .before .before .before .before .before .before .before .before .before .before .before .before .args in
+    let pre = c .before .before .before .before .before .before .before .before .before .before .before .before .before .pre in
+    let head-of = c .before .before .before .before .before .before .before .before .head-of in
+    let texts = c .before .before .before .before .before .before .texts in
+    let parse-args = c .before .before .before .parse-args in
+    λ to d. arguments-judged (args .words .now) (args .image .now) (args .rest .now) _ (args .place) to _ _ d refl (start-after _ _ _ _ (sym (head-of .ensures) ∙ texts .given .1)) (parse-args .ensures) (c .verdict-of .ensures) (pre .2) (pre .5)
 
 pub judge-arguments-spec : {M : Type 1} → statement M
 judge-arguments-spec =

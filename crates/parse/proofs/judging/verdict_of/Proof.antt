@@ -30,22 +30,33 @@ enum-known-progress-3 c = search needs
 
 returns : tie.Need-returns
 returns c =
+    let args = c .before .before .before .before .before .before .before .before .args in
+    let enum-told = c .before .before .before .before .enum-told in
     λ path rest.
-    verdict-going (c .before .before .before .before .before .before .before .before .args .words .now) (c .before .before .before .before .before .before .before .before .args .node .now) (c .before .before .before .before .before .before .before .before .args .scan) (definitionsAt (c .before .before .before .before .before .before .before .before .args .node .now) (c .before .before .before .before .before .before .before .before .args .from)) path rest _ (c .before .before .before .before .enum-told .given .1) (sym (ap (requiredBy (c .before .before .before .before .before .before .before .before .args .node .now)) (c .enum-told2 .given .1)) ∙ c .before .before .validate-required-options .ensures)
+    verdict-going (args .words .now) (args .node .now) (args .scan) (definitionsAt (args .node .now) (args .from)) path rest _ (enum-told .given .1) (sym (ap (requiredBy (args .node .now)) (c .enum-told2 .given .1)) ∙ c .before .before .validate-required-options .ensures)
 
 returns-2 : tie.Need-returns-2
 returns-2 c =
+    let args = c .before .before .before .before .before .before .before .before .before .args in
+    let enum-told = c .before .before .before .before .before .enum-told in
+    let validate-required-options = c .before .before .before .validate-required-options in
     λ path rest.
-    verdict-going (c .before .before .before .before .before .before .before .before .before .args .words .now) (c .before .before .before .before .before .before .before .before .before .args .node .now) (c .before .before .before .before .before .before .before .before .before .args .scan) (definitionsAt (c .before .before .before .before .before .before .before .before .before .args .node .now) (c .before .before .before .before .before .before .before .before .before .args .from)) path rest _ (c .before .before .before .before .before .enum-told .given .1) (sym (ap (requiredBy (c .before .before .before .before .before .before .before .before .before .args .node .now)) (c .before .name .given .1)) ∙ c .before .before .before .validate-required-options .ensures)
+    verdict-going (args .words .now) (args .node .now) (args .scan) (definitionsAt (args .node .now) (args .from)) path rest _ (enum-told .given .1) (sym (ap (requiredBy (args .node .now)) (c .before .name .given .1)) ∙ validate-required-options .ensures)
 
 returns-3 : tie.Need-returns-3
-returns-3 c = λ path rest. verdict-by (c .before .before .before .before .before .args .words .now) (c .before .before .before .before .before .args .node .now) (c .before .before .before .before .before .args .scan) (definitionsAt (c .before .before .before .before .before .args .node .now) (c .before .before .before .before .before .args .from)) path rest _ (c .before .progress .given .1)
+returns-3 c =
+    let args = c .before .before .before .before .before .args in
+    λ path rest. verdict-by (args .words .now) (args .node .now) (args .scan) (definitionsAt (args .node .now) (args .from)) path rest _ (c .before .progress .given .1)
 
 returns-4 : tie.Need-returns-4
-returns-4 c = λ path rest. verdict-by (c .before .before .before .before .before .args .words .now) (c .before .before .before .before .before .args .node .now) (c .before .before .before .before .before .args .scan) (definitionsAt (c .before .before .before .before .before .args .node .now) (c .before .before .before .before .before .args .from)) path rest _ (c .before .progress2 .given .1)
+returns-4 c =
+    let args = c .before .before .before .before .before .args in
+    λ path rest. verdict-by (args .words .now) (args .node .now) (args .scan) (definitionsAt (args .node .now) (args .from)) path rest _ (c .before .progress2 .given .1)
 
 returns-5 : tie.Need-returns-5
-returns-5 c = λ path rest. verdict-by (c .before .before .before .before .before .args .words .now) (c .before .before .before .before .before .args .node .now) (c .before .before .before .before .before .args .scan) (definitionsAt (c .before .before .before .before .before .args .node .now) (c .before .before .before .before .before .args .from)) path rest _ (c .before .progress3 .given .1)
+returns-5 c =
+    let args = c .before .before .before .before .before .args in
+    λ path rest. verdict-by (args .words .now) (args .node .now) (args .scan) (definitionsAt (args .node .now) (args .from)) path rest _ (c .before .progress3 .given .1)
 
 pub verdict-of-spec : {M : Type 1} → statement M
 verdict-of-spec =

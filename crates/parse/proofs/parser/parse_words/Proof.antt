@@ -15,10 +15,16 @@ enum-told : tie.Need-enum-told
 enum-told c = search needs
 
 parse-command-requires : tie.Need-parse-command-requires
-parse-command-requires c κs = let good = sym (c .before .before .before .before .find-command .ensures .checked) ∙ c .before .before .enum-told .given .1 in (c .before .before .before .before .before .before .before .before .before .pre .0, c .before .before .before .before .before .before .before .before .before .pre .1, good, c .before .before .before .before .find-command .ensures .found good, c .before .before .before .before .before .before .before .before .before .pre .2)
+parse-command-requires c κs =
+    let pre = c .before .before .before .before .before .before .before .before .before .pre in
+    let find-command = c .before .before .before .before .find-command in
+    let good = sym (find-command .ensures .checked) ∙ c .before .before .enum-told .given .1 in (pre .0, pre .1, good, find-command .ensures .found good, pre .2)
 
 returns : tie.Need-returns
-returns c = words-bad (c .before .before .before .before .before .before .before .before .args .image .now) (c .before .before .before .before .before .before .before .before .args .words .now) (c .before .before .before .before .before .before .before .before .args .out .now) _ (sym (c .before .before .before .find-command .ensures .checked) ∙ c .before .checked .given .1)
+returns c =
+    let args = c .before .before .before .before .before .before .before .before .args in
+    let find-command = c .before .before .before .find-command in
+    words-bad (args .image .now) (args .words .now) (args .out .now) _ (sym (find-command .ensures .checked) ∙ c .before .checked .given .1)
 
 same-length : tie.Need-same-length
 same-length c = search needs
@@ -27,7 +33,12 @@ same-length-2 : tie.Need-same-length-2
 same-length-2 c = search needs
 
 returns-2 : tie.Need-returns-2
-returns-2 c = words-told (c .before .before .before .before .before .before .before .before .before .before .before .before .before .before .args .image .now) (c .before .before .before .before .before .before .before .before .before .before .before .before .before .before .args .words .now) (c .before .before .before .before .before .before .before .before .before .before .before .before .before .before .args .out .now) _ _ (sym (c .before .before .before .before .before .before .before .before .before .find-command .ensures .checked) ∙ c .before .before .before .before .before .before .before .enum-told .given .1) (c .before .before .before .before .parse-command .ensures)
+returns-2 c =
+    let args = c .before .before .before .before .before .before .before .before .before .before .before .before .before .before .args in
+    let find-command = c .before .before .before .before .before .before .before .before .before .find-command in
+    let enum-told = c .before .before .before .before .before .before .before .enum-told in
+    let parse-command = c .before .before .before .before .parse-command in
+    words-told (args .image .now) (args .words .now) (args .out .now) _ _ (sym (find-command .ensures .checked) ∙ enum-told .given .1) (parse-command .ensures)
 
 pub parse-words-spec : {M : Type 1} → statement M
 parse-words-spec =

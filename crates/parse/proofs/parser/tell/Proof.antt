@@ -16,21 +16,24 @@ use Rattle.parse.proofs.parser.tell.Tie as tie
 
 sub-node : tie.Need-sub-node
 sub-node c =
-    let w = c .before .before .before .before .before .pre .0 in
+    let pre = c .before .before .before .before .before .pre in
+    let w = pre .0 in
     let a = w .order in
     let b = w .inside in
     omega arith
 
 part-node-start : tie.Need-part-node-start
 part-node-start c =
-    let w = c .before .before .before .before .before .pre .0 in
+    let pre = c .before .before .before .before .before .pre in
+    let w = pre .0 in
     let a = w .order in
     let b = w .inside in
     omega arith
 
 part-node-end : tie.Need-part-node-end
 part-node-end c =
-    let w = c .before .before .before .before .before .pre .0 in
+    let pre = c .before .before .before .before .before .pre in
+    let w = pre .0 in
     let a = w .order in
     let b = w .inside in
     omega arith
@@ -49,13 +52,16 @@ text-of-requires c κs = search needs
 
 write-fault-requires : tie.Need-write-fault-requires
 write-fault-requires c κs =
-    let z = c .before .before .before .before .before .before .before .before .before .before .before .before .pre .3 in
-    let y = c .before .before .before .before .before .before .before .before .before .before .before .before .pre .4 in
-    let w = c .before .before .before .before .before .before .before .before .before .before .before .before .pre .0 .inside in
-    let m = part-most (c .before .before .before .before .before .before .before .before .before .before .before .before .args .image .now) (c .before .before .before .before .before .before .before .before .before .before .before .before .args .judged .place) in
-    let t : length (textOf (c .before .before .before .before .before .before .before .before .before .before .before .before .args .words .now) (imagePart (c .before .before .before .before .before .before .before .before .before .before .before .before .args .image .now) (c .before .before .before .before .before .before .before .before .before .before .before .before .args .judged .place)) (c .before .before .before .before .before .before .before .before .before .before .before .before .args .judged .verdict)) ≤ 32768 = text-short (c .before .before .before .before .before .before .before .before .before .before .before .before .args .words .now) (imagePart (c .before .before .before .before .before .before .before .before .before .before .before .before .args .image .now) (c .before .before .before .before .before .before .before .before .before .before .before .before .args .judged .place)) (c .before .before .before .before .before .before .before .before .before .before .before .before .args .judged .verdict) (omega arith) (omega arith) in
+    let pre = c .before .before .before .before .before .before .before .before .before .before .before .before .pre in
+    let args = c .before .before .before .before .before .before .before .before .before .before .before .before .args in
+    let dashes-of = c .before .before .before .dashes-of in
+    let z = pre .3 in
+    let y = pre .4 in
+    let w = pre .0 .inside in
+    let m = part-most (args .image .now) (args .judged .place) in
+    let t : length (textOf (args .words .now) (imagePart (args .image .now) (args .judged .place)) (args .judged .verdict)) ≤ 32768 = text-short (args .words .now) (imagePart (args .image .now) (args .judged .place)) (args .judged .verdict) (omega arith) (omega arith) in
     let e = ap length (c .before .text-of .ensures) in
-    let d = c .before .before .before .dashes-of .ensures .1 in
+    let d = dashes-of .ensures .1 in
     omega arith
 
 answer-requires : tie.Need-answer-requires
@@ -66,22 +72,39 @@ same-length c = search needs
 
 returns : tie.Need-returns
 unfolding outcomeIn
-returns c = fault-telling (c .before .before .before .before .before .before .before .before .before .before .before .before .before .before .before .before .args .words .now) (imagePart (c .before .before .before .before .before .before .before .before .before .before .before .before .before .before .before .before .args .image .now) (c .before .before .before .before .before .before .before .before .before .before .before .before .before .before .before .before .args .judged .place)) (textsIn (take (c .before .before .before .before .before .before .before .before .before .before .before .before .before .before .before .before .args .judged .place .at) (c .before .before .before .before .before .before .before .before .before .before .before .before .before .before .before .before .args .words .now))) (foundOf (c .before .before .before .before .before .before .before .before .before .before .before .before .before .before .before .before .args .words .now) (imagePart (c .before .before .before .before .before .before .before .before .before .before .before .before .before .before .before .before .args .image .now) (c .before .before .before .before .before .before .before .before .before .before .before .before .before .before .before .before .args .judged .place)) (c .before .before .before .before .before .before .before .before .before .before .before .before .before .before .before .before .args .rest .now) (c .before .before .before .before .before .before .before .before .before .before .before .before .before .before .before .before .args .judged .scan)) (c .before .before .before .before .before .before .before .before .before .before .before .before .before .before .before .before .args .out .now) _ _ _ (c .before .before .before .before .before .before .before .before .before .before .before .before .before .before .before .before .args .judged .verdict) _ _ _ (c .before .before .before .before .before .before .before .before .before .number-of .ensures) (c .before .before .before .before .before .before .before .dashes-of .ensures .0) (c .before .before .before .before .before .text-of .ensures) (c .before .before .before .before .before .before .before .before .if1 .taken) (c .before .before .before .write-fault .ensures) (c .answer .ensures)
+returns c =
+    let args = c .before .before .before .before .before .before .before .before .before .before .before .before .before .before .before .before .args in
+    let number-of = c .before .before .before .before .before .before .before .before .before .number-of in
+    let if1 = c .before .before .before .before .before .before .before .before .if1 in
+    let dashes-of = c .before .before .before .before .before .before .before .dashes-of in
+    let text-of = c .before .before .before .before .before .text-of in
+    let write-fault = c .before .before .before .write-fault in
+    fault-telling (args .words .now) (imagePart (args .image .now) (args .judged .place)) (textsIn (take (args .judged .place .at) (args .words .now))) (foundOf (args .words .now) (imagePart (args .image .now) (args .judged .place)) (args .rest .now) (args .judged .scan)) (args .out .now) _ _ _ (args .judged .verdict) _ _ _ (number-of .ensures) (dashes-of .ensures .0) (text-of .ensures) (if1 .taken) (write-fault .ensures) (c .answer .ensures)
 
 slice-aggregate-write-report : tie.Need-slice-aggregate-write-report
-slice-aggregate-write-report c = sym (length-take-le _ (c .before .before .before .before .before .before .before .before .before .before .before .before .args .words .now) (c .before .before .before .before .before .before .before .before .before .before .before .before .pre .0 .passed))
+slice-aggregate-write-report c =
+    let args = c .before .before .before .before .before .before .before .before .before .before .before .before .args in
+    let pre = c .before .before .before .before .before .before .before .before .before .before .before .before .pre in
+    sym (length-take-le _ (args .words .now) (pre .0 .passed))
 
 slice-aggregate-write-report-2 : tie.Need-slice-aggregate-write-report-2
-slice-aggregate-write-report-2 c = sym (length-take-le _ (c .before .before .before .before .before .before .before .before .before .before .before .before .before .args .rest .now) (c .before .before .before .before .before .before .before .before .before .before .before .before .before .pre .1))
+slice-aggregate-write-report-2 c =
+    let args = c .before .before .before .before .before .before .before .before .before .before .before .before .before .args in
+    let pre = c .before .before .before .before .before .before .before .before .before .before .before .before .before .pre in
+    sym (length-take-le _ (args .rest .now) (pre .1))
 
 write-report-requires : tie.Need-write-report-requires
 write-report-requires c κs =
-    let l = c .before .before .before .before .before .before .before .before .before .before .before .before .before .before .pre .2 in
-    let k = c .before .before .before .before .before .before .before .before .before .before .before .before .before .before .pre .1 in
-    let z = c .before .before .before .before .before .before .before .before .before .before .before .before .before .before .pre .3 in
-    let w = c .before .before .before .before .before .before .before .before .before .before .before .before .before .before .pre .0 .passed in
-    let g : length (take (c .before .before .before .before .before .before .before .before .before .before .before .before .before .before .args .judged .place .at) (c .before .before .before .before .before .before .before .before .before .before .before .before .before .before .args .words .now)) + length (take (c .before .before .before .before .before .before .before .before .before .before .before .before .before .before .args .judged .scan .kept) (c .before .before .before .before .before .before .before .before .before .before .before .before .before .before .args .rest .now)) < 0x8000000000000000 = rw (length-take, length-take) (omega arith) in
-    let n = c .before .before .before .before .before .before .before .before .before .before .before .before .before .before .pre .5 (sym (c .before .before .before .before .before .before .before .number-of .ensures) ∙ c .before .before .before .before .before .before .if1 .left) in
+    let pre = c .before .before .before .before .before .before .before .before .before .before .before .before .before .before .pre in
+    let args = c .before .before .before .before .before .before .before .before .before .before .before .before .before .before .args in
+    let number-of = c .before .before .before .before .before .before .before .number-of in
+    let if1 = c .before .before .before .before .before .before .if1 in
+    let l = pre .2 in
+    let k = pre .1 in
+    let z = pre .3 in
+    let w = pre .0 .passed in
+    let g : length (take (args .judged .place .at) (args .words .now)) + length (take (args .judged .scan .kept) (args .rest .now)) < 0x8000000000000000 = rw (length-take, length-take) (omega arith) in
+    let n = pre .5 (sym (number-of .ensures) ∙ if1 .left) in
     (g, n .path, n .positionals)
 
 answer-requires-2 : tie.Need-answer-requires-2
@@ -92,7 +115,12 @@ same-length-2 c = search needs
 
 returns-2 : tie.Need-returns-2
 unfolding outcomeIn foundOf
-returns-2 c = report-telling (c .before .before .before .before .before .before .before .before .before .before .before .before .before .before .before .before .before .before .args .words .now) (imagePart (c .before .before .before .before .before .before .before .before .before .before .before .before .before .before .before .before .before .before .args .image .now) (c .before .before .before .before .before .before .before .before .before .before .before .before .before .before .before .before .before .before .args .judged .place)) (textsIn (take (c .before .before .before .before .before .before .before .before .before .before .before .before .before .before .before .before .before .before .args .judged .place .at) (c .before .before .before .before .before .before .before .before .before .before .before .before .before .before .before .before .before .before .args .words .now))) (foundOf (c .before .before .before .before .before .before .before .before .before .before .before .before .before .before .before .before .before .before .args .words .now) (imagePart (c .before .before .before .before .before .before .before .before .before .before .before .before .before .before .before .before .before .before .args .image .now) (c .before .before .before .before .before .before .before .before .before .before .before .before .before .before .before .before .before .before .args .judged .place)) (c .before .before .before .before .before .before .before .before .before .before .before .before .before .before .before .before .before .before .args .rest .now) (c .before .before .before .before .before .before .before .before .before .before .before .before .before .before .before .before .before .before .args .judged .scan)) (c .before .before .before .before .before .before .before .before .before .before .before .before .before .before .before .before .before .before .args .out .now) _ _ _ (c .before .before .before .before .before .before .before .before .before .before .before .before .before .before .before .before .before .before .args .judged .verdict) _ (c .before .before .before .before .before .before .before .before .before .before .before .number-of .ensures) (c .before .before .before .before .before .before .before .before .before .before .if1 .left) (c .before .before .before .write-report .ensures) (c .answer2 .ensures)
+returns-2 c =
+    let args = c .before .before .before .before .before .before .before .before .before .before .before .before .before .before .before .before .before .before .args in
+    let number-of = c .before .before .before .before .before .before .before .before .before .before .before .number-of in
+    let if1 = c .before .before .before .before .before .before .before .before .before .before .if1 in
+    let write-report = c .before .before .before .write-report in
+    report-telling (args .words .now) (imagePart (args .image .now) (args .judged .place)) (textsIn (take (args .judged .place .at) (args .words .now))) (foundOf (args .words .now) (imagePart (args .image .now) (args .judged .place)) (args .rest .now) (args .judged .scan)) (args .out .now) _ _ _ (args .judged .verdict) _ (number-of .ensures) (if1 .left) (write-report .ensures) (c .answer2 .ensures)
 
 pub tell-spec : {M : Type 1} → statement M
 tell-spec =

@@ -11,7 +11,9 @@ has-requires : tie.Need-has-requires
 has-requires c κs = search needs
 
 returns : tie.Need-returns
-returns c = sym (then-is _ _ _ (eq-eqb (c .before .before .before .before .before .args .required) 1 (c .before .if1 .taken)) ∙ sym (ap not (c .has .ensures)))
+returns c =
+    let args = c .before .before .before .before .before .args in
+    sym (then-is _ _ _ (eq-eqb (args .required) 1 (c .before .if1 .taken)) ∙ sym (ap not (c .has .ensures)))
 
 returns-2 : tie.Need-returns-2
 returns-2 c = sym (else-is _ _ _ (ne-eqb (c .before .before .before .before .args .required) 1 (c .if1 .left)))

@@ -33,7 +33,11 @@ part-requires c κs = search needs
 add-next : tie.Need-add-next Inv-loop μ-loop
 add-next c =
     let a = c .before .before .before .before .before .before .before .before .before .before .args in
-    let s = option-step (a .node .now) (c .before .before .before .before .before .before .before .loop .at) (mapOf (a .words .now) (a .node .now) (a .options)) _ _ _ (c .before .before .before .before .before .before .loop-test .taken) (sym (c .before .before .before .before .before .head-at .ensures) ∙ c .before .before .before .required .given .1) in
+    let loop = c .before .before .before .before .before .before .before .loop in
+    let loop-test = c .before .before .before .before .before .before .loop-test in
+    let head-at = c .before .before .before .before .before .head-at in
+    let required = c .before .before .before .required in
+    let s = option-step (a .node .now) (loop .at) (mapOf (a .words .now) (a .node .now) (a .options)) _ _ _ (loop-test .taken) (sym (head-at .ensures) ∙ required .given .1) in
     let w = s .within in
     omega arith
 
@@ -46,7 +50,11 @@ add-t17 c = search needs
 loop-less : tie.Need-loop-less Inv-loop μ-loop
 loop-less c =
     let a = c .before .before .before .before .before .before .before .before .before .before .before .before .args in
-    let s = option-step (a .node .now) (c .before .before .before .before .before .before .before .before .before .loop .at) (mapOf (a .words .now) (a .node .now) (a .options)) _ _ _ (c .before .before .before .before .before .before .before .before .loop-test .taken) (sym (c .before .before .before .before .before .before .before .head-at .ensures) ∙ c .before .before .before .before .before .required .given .1) in
+    let loop = c .before .before .before .before .before .before .before .before .before .loop in
+    let loop-test = c .before .before .before .before .before .before .before .before .loop-test in
+    let head-at = c .before .before .before .before .before .before .before .head-at in
+    let required = c .before .before .before .before .before .required in
+    let s = option-step (a .node .now) (loop .at) (mapOf (a .words .now) (a .node .now) (a .options)) _ _ _ (loop-test .taken) (sym (head-at .ensures) ∙ required .given .1) in
     let w = s .within in
     let o = s .some in
     omega arith
@@ -55,14 +63,23 @@ loop-less c =
 loop-again : tie.Need-loop-again Inv-loop μ-loop
 loop-again c =
     let a = c .before .before .before .before .before .before .before .before .before .before .before .before .args in
+    let loop = c .before .before .before .before .before .before .before .before .before .loop in
+    let loop-test = c .before .before .before .before .before .before .before .before .loop-test in
+    let head-at = c .before .before .before .before .before .before .before .head-at in
+    let required = c .before .before .before .before .before .required in
+    let part = c .before .before .before .part in
     let m = mapOf (a .words .now) (a .node .now) (a .options) in
-    let e = option-missing (a .node .now) (c .before .before .before .before .before .before .before .before .before .loop .at) m _ _ _ _ _ (sym (c .before .before .before .before .before .before .before .head-at .ensures) ∙ c .before .before .before .before .before .required .given .1) (c .before .before .before .part .ensures) (c .before .is-missing .ensures) (c .if1 .taken) in
-    searched-told (a .node .now) m (a .from) _ (c .before .before .before .before .before .before .before .before .before .loop .at) (c .before .before .before .before .before .before .before .before .before .loop .inv) _ _ (c .before .before .before .before .before .before .before .before .loop-test .taken) e (omega arith)
+    let e = option-missing (a .node .now) (loop .at) m _ _ _ _ _ (sym (head-at .ensures) ∙ required .given .1) (part .ensures) (c .before .is-missing .ensures) (c .if1 .taken) in
+    searched-told (a .node .now) m (a .from) _ (loop .at) (loop .inv) _ _ (loop-test .taken) e (omega arith)
 
 loop-less-2 : tie.Need-loop-less-2 Inv-loop μ-loop
 loop-less-2 c =
     let a = c .before .before .before .before .before .before .before .before .before .before .before .before .args in
-    let s = option-step (a .node .now) (c .before .before .before .before .before .before .before .before .before .loop .at) (mapOf (a .words .now) (a .node .now) (a .options)) _ _ _ (c .before .before .before .before .before .before .before .before .loop-test .taken) (sym (c .before .before .before .before .before .before .before .head-at .ensures) ∙ c .before .before .before .before .before .required .given .1) in
+    let loop = c .before .before .before .before .before .before .before .before .before .loop in
+    let loop-test = c .before .before .before .before .before .before .before .before .loop-test in
+    let head-at = c .before .before .before .before .before .before .before .head-at in
+    let required = c .before .before .before .before .before .required in
+    let s = option-step (a .node .now) (loop .at) (mapOf (a .words .now) (a .node .now) (a .options)) _ _ _ (loop-test .taken) (sym (head-at .ensures) ∙ required .given .1) in
     let w = s .within in
     let o = s .some in
     omega arith
@@ -70,9 +87,14 @@ loop-less-2 c =
 loop-again-2 : tie.Need-loop-again-2 Inv-loop μ-loop
 loop-again-2 c =
     let a = c .before .before .before .before .before .before .before .before .before .before .before .before .args in
+    let loop = c .before .before .before .before .before .before .before .before .before .loop in
+    let loop-test = c .before .before .before .before .before .before .before .before .loop-test in
+    let head-at = c .before .before .before .before .before .before .before .head-at in
+    let required = c .before .before .before .before .before .required in
+    let part = c .before .before .before .part in
     let m = mapOf (a .words .now) (a .node .now) (a .options) in
-    let e = option-there (a .node .now) (c .before .before .before .before .before .before .before .before .before .loop .at) m _ _ _ _ _ (sym (c .before .before .before .before .before .before .before .head-at .ensures) ∙ c .before .before .before .before .before .required .given .1) (c .before .before .before .part .ensures) (c .before .is-missing .ensures) (c .if1 .left) in
-    searched-on (a .node .now) m (a .from) _ (c .before .before .before .before .before .before .before .before .before .loop .at) (c .before .before .before .before .before .before .before .before .before .loop .inv) _ (c .before .before .before .before .before .before .before .before .loop-test .taken) e
+    let e = option-there (a .node .now) (loop .at) m _ _ _ _ _ (sym (head-at .ensures) ∙ required .given .1) (part .ensures) (c .before .is-missing .ensures) (c .if1 .left) in
+    searched-on (a .node .now) m (a .from) _ (loop .at) (loop .inv) _ (loop-test .taken) e
 
 enum-known-texts : tie.Need-enum-known-texts Inv-loop μ-loop
 enum-known-texts c = search needs
@@ -80,14 +102,20 @@ enum-known-texts c = search needs
 add-at : tie.Need-add-at Inv-loop μ-loop
 add-at c =
     let a = c .before .before .before .before .before .before .before .before .before .args in
-    let s = flag-step (a .node .now) (c .before .before .before .before .before .before .loop .at) (mapOf (a .words .now) (a .node .now) (a .options)) _ _ (c .before .before .before .before .before .loop-test .taken) (sym (c .before .before .before .before .head-at .ensures) ∙ c .before .before .texts .given .1) in
+    let loop = c .before .before .before .before .before .before .loop in
+    let loop-test = c .before .before .before .before .before .loop-test in
+    let head-at = c .before .before .before .before .head-at in
+    let s = flag-step (a .node .now) (loop .at) (mapOf (a .words .now) (a .node .now) (a .options)) _ _ (loop-test .taken) (sym (head-at .ensures) ∙ c .before .before .texts .given .1) in
     let w = s .within in
     omega arith
 
 loop-less-3 : tie.Need-loop-less-3 Inv-loop μ-loop
 loop-less-3 c =
     let a = c .before .before .before .before .before .before .before .before .before .args in
-    let s = flag-step (a .node .now) (c .before .before .before .before .before .before .loop .at) (mapOf (a .words .now) (a .node .now) (a .options)) _ _ (c .before .before .before .before .before .loop-test .taken) (sym (c .before .before .before .before .head-at .ensures) ∙ c .before .before .texts .given .1) in
+    let loop = c .before .before .before .before .before .before .loop in
+    let loop-test = c .before .before .before .before .before .loop-test in
+    let head-at = c .before .before .before .before .head-at in
+    let s = flag-step (a .node .now) (loop .at) (mapOf (a .words .now) (a .node .now) (a .options)) _ _ (loop-test .taken) (sym (head-at .ensures) ∙ c .before .before .texts .given .1) in
     let w = s .within in
     let o = s .some in
     omega arith
@@ -95,14 +123,18 @@ loop-less-3 c =
 loop-again-3 : tie.Need-loop-again-3 Inv-loop μ-loop
 loop-again-3 c =
     let a = c .before .before .before .before .before .before .before .before .before .args in
+    let loop = c .before .before .before .before .before .before .loop in
+    let loop-test = c .before .before .before .before .before .loop-test in
+    let head-at = c .before .before .before .before .head-at in
     let m = mapOf (a .words .now) (a .node .now) (a .options) in
-    searched-on (a .node .now) m (a .from) _ (c .before .before .before .before .before .before .loop .at) (c .before .before .before .before .before .before .loop .inv) _ (c .before .before .before .before .before .loop-test .taken) (flag-passed (a .node .now) (c .before .before .before .before .before .before .loop .at) m _ _ (sym (c .before .before .before .before .head-at .ensures) ∙ c .before .before .texts .given .1))
+    searched-on (a .node .now) m (a .from) _ (loop .at) (loop .inv) _ (loop-test .taken) (flag-passed (a .node .now) (loop .at) m _ _ (sym (head-at .ensures) ∙ c .before .before .texts .given .1))
 
 returns : tie.Need-returns Inv-loop μ-loop
 returns c =
     let a = c .before .before .before .before .before .before .args in
+    let loop = c .before .before .before .loop in
     let m = mapOf (a .words .now) (a .node .now) (a .options) in
-    searched-stop (a .node .now) m (a .from) _ (c .before .before .before .loop .at) (c .before .before .before .loop .inv) (c .before .before .loop-test .taken) (definitions-stop (a .node .now) (c .before .before .before .loop .at) _ (sym (c .before .head-at .ensures)) (c .match .keys3))
+    searched-stop (a .node .now) m (a .from) _ (loop .at) (loop .inv) (c .before .before .loop-test .taken) (definitions-stop (a .node .now) (loop .at) _ (sym (c .before .head-at .ensures)) (c .match .keys3))
 
 returns-2 : tie.Need-returns-2 Inv-loop μ-loop
 returns-2 c =

@@ -19,13 +19,22 @@ well-formed-prefix-requires : tie.Need-well-formed-prefix-requires
 well-formed-prefix-requires c κs = search needs
 
 returns-3 : tie.Need-returns-3
-returns-3 c = sym (item-broken _ _ _ (c .before .before .before .before .if1 .left) (c .before .well-formed-prefix .ensures) (c .if3 .taken))
+returns-3 c =
+    let if1 = c .before .before .before .before .if1 in
+    sym (item-broken _ _ _ (if1 .left) (c .before .well-formed-prefix .ensures) (c .if3 .taken))
 
 quoted-size-requires : tie.Need-quoted-size-requires
-quoted-size-requires c κs = ((reaches-end (c .before .before .before .before .before .before .args .word .now) _ (c .before .well-formed-prefix .ensures) (c .if3 .left), sym (c .before .before .before .is-plain .ensures) ∙ c .before .before .if2 .left), c .before .before .before .before .before .before .pre)
+quoted-size-requires c κs =
+    let args = c .before .before .before .before .before .before .args in
+    let pre = c .before .before .before .before .before .before .pre in
+    let is-plain = c .before .before .before .is-plain in
+    ((reaches-end (args .word .now) _ (c .before .well-formed-prefix .ensures) (c .if3 .left), sym (is-plain .ensures) ∙ c .before .before .if2 .left), pre)
 
 returns-4 : tie.Need-returns-4
-returns-4 c = sym (item-good _ _ _ (c .before .before .before .before .before .if1 .left) (reaches-end (c .before .before .before .before .before .before .before .args .word .now) _ (c .before .before .well-formed-prefix .ensures) (c .before .if3 .left)) (c .quoted-size .ensures))
+returns-4 c =
+    let args = c .before .before .before .before .before .before .before .args in
+    let if1 = c .before .before .before .before .before .if1 in
+    sym (item-good _ _ _ (if1 .left) (reaches-end (args .word .now) _ (c .before .before .well-formed-prefix .ensures) (c .before .if3 .left)) (c .quoted-size .ensures))
 
 pub item-of-spec : {M : Type 1} → statement M
 item-of-spec =

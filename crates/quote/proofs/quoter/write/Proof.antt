@@ -32,49 +32,89 @@ same-length : tie.Need-same-length Inv-loop μ-loop
 same-length c = c .before .before .before .loop .inv .0
 
 returns : tie.Need-returns Inv-loop μ-loop
-returns c = absurd (rest-bad (c .before .before .before .before .before .before .args .words .now) (c .before .before .before .loop .n) (c .before .before .before .loop .at) (c .before .before .before .loop .inv .2) (c .before .before .loop-test .taken) (item-none _ _ (sym (c .before .read-frame .ensures)) (c .match .keys2)))
+returns c =
+    let args = c .before .before .before .before .before .before .args in
+    let loop = c .before .before .before .loop in
+    absurd (rest-bad (args .words .now) (loop .n) (loop .at) (loop .inv .2) (c .before .before .loop-test .taken) (item-none _ _ (sym (c .before .read-frame .ensures)) (c .match .keys2)))
 
 add-start : tie.Need-add-start Inv-loop μ-loop
-add-start c = let f = word-within (c .before .before .before .before .before .before .before .before .args .words .now) (c .before .before .before .before .before .loop .at) _ (fine-word _ _ _ (c .before .before .before .before .before .loop .inv .2) (sym (c .before .before .before .read-frame .ensures) ∙ c .before .length .given .1)) in omega arith
+add-start c =
+    let args = c .before .before .before .before .before .before .before .before .args in
+    let loop = c .before .before .before .before .before .loop in
+    let read-frame = c .before .before .before .read-frame in
+    let f = word-within (args .words .now) (loop .at) _ (fine-word _ _ _ (loop .inv .2) (sym (read-frame .ensures) ∙ c .before .length .given .1)) in omega arith
 
 add-end : tie.Need-add-end Inv-loop μ-loop
-add-end c = let f = word-within (c .before .before .before .before .before .before .before .before .args .words .now) (c .before .before .before .before .before .loop .at) _ (fine-word _ _ _ (c .before .before .before .before .before .loop .inv .2) (sym (c .before .before .before .read-frame .ensures) ∙ c .before .length .given .1)) in omega arith
+add-end c =
+    let args = c .before .before .before .before .before .before .before .before .args in
+    let loop = c .before .before .before .before .before .loop in
+    let read-frame = c .before .before .before .read-frame in
+    let f = word-within (args .words .now) (loop .at) _ (fine-word _ _ _ (loop .inv .2) (sym (read-frame .ensures) ∙ c .before .length .given .1)) in omega arith
 
 sub-push-word : tie.Need-sub-push-word Inv-loop μ-loop
 sub-push-word c = omega arith
 
 part-push-word-start : tie.Need-part-push-word-start Inv-loop μ-loop
-part-push-word-start c = let f = word-within (c .before .before .before .before .before .before .before .before .args .words .now) (c .before .before .before .before .before .loop .at) _ (fine-word _ _ _ (c .before .before .before .before .before .loop .inv .2) (sym (c .before .before .before .read-frame .ensures) ∙ c .before .length .given .1)) in omega arith
+part-push-word-start c =
+    let args = c .before .before .before .before .before .before .before .before .args in
+    let loop = c .before .before .before .before .before .loop in
+    let read-frame = c .before .before .before .read-frame in
+    let f = word-within (args .words .now) (loop .at) _ (fine-word _ _ _ (loop .inv .2) (sym (read-frame .ensures) ∙ c .before .length .given .1)) in omega arith
 
 part-push-word-end : tie.Need-part-push-word-end Inv-loop μ-loop
-part-push-word-end c = let f = word-within (c .before .before .before .before .before .before .before .before .args .words .now) (c .before .before .before .before .before .loop .at) _ (fine-word _ _ _ (c .before .before .before .before .before .loop .inv .2) (sym (c .before .before .before .read-frame .ensures) ∙ c .before .length .given .1)) in omega arith
+part-push-word-end c =
+    let args = c .before .before .before .before .before .before .before .before .args in
+    let loop = c .before .before .before .before .before .loop in
+    let read-frame = c .before .before .before .read-frame in
+    let f = word-within (args .words .now) (loop .at) _ (fine-word _ _ _ (loop .inv .2) (sym (read-frame .ensures) ∙ c .before .length .given .1)) in omega arith
 
 push-word-requires : tie.Need-push-word-requires Inv-loop μ-loop
 push-word-requires c κs =
-    let e = fine-word _ _ _ (c .before .before .before .before .before .before .before .loop .inv .2) (sym (c .before .before .before .before .before .read-frame .ensures) ∙ c .before .before .before .length .given .1) in
-    let r = word-room (lineOf (c .before .before .before .before .before .before .before .before .before .before .args .words .now)) (c .before .before .before .before .before .before .before .before .before .before .args .words .now) (c .before .before .before .before .before .before .before .before .before .before .args .out .now) _ (c .before .before .before .before .before .before .before .loop .n) (c .before .before .before .before .before .before .before .loop .at) _ _ (c .before .before .before .before .before .before .before .loop .inv .3) (c .before .before .before .before .before .before .before .loop .inv .2) e (c .before .before .before .before .before .before .before .before .before .before .pre .1) in
-    (word-formed (c .before .before .before .before .before .before .before .before .before .before .args .words .now) (c .before .before .before .before .before .before .before .loop .at) _ e, omega (arith, r, c .before .before .before .before .before .before .before .loop .inv .0))
+    let args = c .before .before .before .before .before .before .before .before .before .before .args in
+    let pre = c .before .before .before .before .before .before .before .before .before .before .pre in
+    let loop = c .before .before .before .before .before .before .before .loop in
+    let read-frame = c .before .before .before .before .before .read-frame in
+    let length = c .before .before .before .length in
+    let e = fine-word _ _ _ (loop .inv .2) (sym (read-frame .ensures) ∙ length .given .1) in
+    let r = word-room (lineOf (args .words .now)) (args .words .now) (args .out .now) _ (loop .n) (loop .at) _ _ (loop .inv .3) (loop .inv .2) e (pre .1) in
+    (word-formed (args .words .now) (loop .at) _ e, omega (arith, r, loop .inv .0))
 
 add-n : tie.Need-add-n Inv-loop μ-loop
-add-n c = omega (arith, c .before .before .before .before .before .before .before .before .before .before .loop .inv .1, c .before .before .before .before .before .before .before .before .before .loop-test .taken)
+add-n c =
+    let loop = c .before .before .before .before .before .before .before .before .before .before .loop in
+    let loop-test = c .before .before .before .before .before .before .before .before .before .loop-test in
+    omega (arith, loop .inv .1, loop-test .taken)
 
 loop-less : tie.Need-loop-less Inv-loop μ-loop
-loop-less c = let f = word-within (c .before .before .before .before .before .before .before .before .before .before .before .before .before .args .words .now) (c .before .before .before .before .before .before .before .before .before .before .loop .at) _ (fine-word _ _ _ (c .before .before .before .before .before .before .before .before .before .before .loop .inv .2) (sym (c .before .before .before .before .before .before .before .before .read-frame .ensures) ∙ c .before .before .before .before .before .before .length .given .1)) in omega arith
+loop-less c =
+    let args = c .before .before .before .before .before .before .before .before .before .before .before .before .before .args in
+    let loop = c .before .before .before .before .before .before .before .before .before .before .loop in
+    let read-frame = c .before .before .before .before .before .before .before .before .read-frame in
+    let length = c .before .before .before .before .before .before .length in
+    let f = word-within (args .words .now) (loop .at) _ (fine-word _ _ _ (loop .inv .2) (sym (read-frame .ensures) ∙ length .given .1)) in omega arith
 
 loop-again : tie.Need-loop-again Inv-loop μ-loop
 loop-again c =
-    let e = fine-word _ _ _ (c .before .before .before .before .before .before .before .before .before .before .loop .inv .2) (sym (c .before .before .before .before .before .before .before .before .read-frame .ensures) ∙ c .before .before .before .before .before .before .length .given .1) in (
-      c .before .before .push-word .kept .1 .1 .0 ∙ c .before .before .before .before .before .before .before .before .before .before .loop .inv .0,
-      omega (arith, c .before .before .before .before .before .before .before .before .before .before .loop .inv .1),
-      fine-turn (c .before .before .before .before .before .before .before .before .before .before .before .before .before .args .words .now) (c .before .before .before .before .before .before .before .before .before .before .loop .n) (c .before .before .before .before .before .before .before .before .before .before .loop .at) (c .before .before .before .before .before .before .before .before .before .before .loop .inv .2) _ e,
-      word-turn (lineOf (c .before .before .before .before .before .before .before .before .before .before .before .before .before .args .words .now)) (c .before .before .before .before .before .before .before .before .before .before .before .before .before .args .words .now) (c .before .before .before .before .before .before .before .before .before .before .before .before .before .args .out .now) _ (c .before .before .before .before .before .before .before .before .before .before .loop .n) (c .before .before .before .before .before .before .before .before .before .before .loop .at) _ _ (c .before .before .before .before .before .before .before .before .before .before .loop .inv .3) (c .before .before .before .before .before .before .before .before .before .before .loop .inv .2) e (c .before .before .before .before .before .before .before .before .before .before .before .before .before .pre .1) _ _ (c .before .before .push-word .ensures),
+    let args = c .before .before .before .before .before .before .before .before .before .before .before .before .before .args in
+    let pre = c .before .before .before .before .before .before .before .before .before .before .before .before .before .pre in
+    let loop = c .before .before .before .before .before .before .before .before .before .before .loop in
+    let read-frame = c .before .before .before .before .before .before .before .before .read-frame in
+    let length = c .before .before .before .before .before .before .length in
+    let push-word = c .before .before .push-word in
+    let e = fine-word _ _ _ (loop .inv .2) (sym (read-frame .ensures) ∙ length .given .1) in (
+      push-word .kept .1 .1 .0 ∙ loop .inv .0,
+      omega (arith, loop .inv .1),
+      fine-turn (args .words .now) (loop .n) (loop .at) (loop .inv .2) _ e,
+      word-turn (lineOf (args .words .now)) (args .words .now) (args .out .now) _ (loop .n) (loop .at) _ _ (loop .inv .3) (loop .inv .2) e (pre .1) _ _ (push-word .ensures),
     )
 
 same-length-2 : tie.Need-same-length-2 Inv-loop μ-loop
 same-length-2 c = c .before .loop .inv .0
 
 returns-2 : tie.Need-returns-2 Inv-loop μ-loop
-returns-2 c = laying-end _ _ _ _ _ _ (c .before .loop .inv .3) (rest-end (c .before .before .before .before .args .words .now) (c .before .loop .n) (c .before .loop .at) (c .loop-test .left)) .bytes ∙ overAt-front _ _
+returns-2 c =
+    let args = c .before .before .before .before .args in
+    laying-end _ _ _ _ _ _ (c .before .loop .inv .3) (rest-end (args .words .now) (c .before .loop .n) (c .before .loop .at) (c .loop-test .left)) .bytes ∙ overAt-front _ _
 
 pub write-spec : {M : Type 1} → statement M
 write-spec =

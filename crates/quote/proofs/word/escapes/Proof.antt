@@ -28,7 +28,10 @@ enum-known-code : tie.Need-enum-known-code Inv-loop μ-loop
 enum-known-code c = c .match .keys1
 
 returns : tie.Need-returns Inv-loop μ-loop
-returns c = absurd (formed-on (c .before .before .before .before .before .args .word .now) (c .before .before .before .loop .at) _ (c .before .before .before .loop .inv .3) (sym (c .before .decode .ensures)) (c .match .keys2) (c .before .before .loop-test .taken))
+returns c =
+    let args = c .before .before .before .before .before .args in
+    let loop = c .before .before .before .loop in
+    absurd (formed-on (args .word .now) (loop .at) _ (loop .inv .3) (sym (c .before .decode .ensures)) (c .match .keys2) (c .before .before .loop-test .taken))
 
 is-special-requires : tie.Need-is-special-requires Inv-loop μ-loop
 is-special-requires c κs = tt
@@ -37,31 +40,46 @@ add-n : tie.Need-add-n Inv-loop μ-loop
 add-n c = omega (arith, c .before .before .before .before .before .before .before .loop .inv)
 
 add-at : tie.Need-add-at Inv-loop μ-loop
-add-at c = let f = character-fits (c .before .before .before .before .before .before .before .before .before .args .word .now) (c .before .before .before .before .before .before .before .loop .at) _ _ (sym (c .before .before .before .before .before .decode .ensures) ∙ c .before .before .before .code .given .1) in omega arith
+add-at c =
+    let args = c .before .before .before .before .before .before .before .before .before .args in
+    let loop = c .before .before .before .before .before .before .before .loop in
+    let decode = c .before .before .before .before .before .decode in
+    let code = c .before .before .before .code in
+    let f = character-fits (args .word .now) (loop .at) _ _ (sym (decode .ensures) ∙ code .given .1) in omega arith
 
 loop-less : tie.Need-loop-less Inv-loop μ-loop
 loop-less c =
-    let f = character-fits (c .before .before .before .before .before .before .before .before .before .args .word .now) (c .before .before .before .before .before .before .before .loop .at) _ _ (sym (c .before .before .before .before .before .decode .ensures) ∙ c .before .before .before .code .given .1) in
-    let g = character-some (drop (c .before .before .before .before .before .before .before .loop .at) (c .before .before .before .before .before .before .before .before .before .args .word .now)) _ _ (sym (c .before .before .before .before .before .decode .ensures) ∙ c .before .before .before .code .given .1) in omega arith
+    let args = c .before .before .before .before .before .before .before .before .before .args in
+    let loop = c .before .before .before .before .before .before .before .loop in
+    let decode = c .before .before .before .before .before .decode in
+    let code = c .before .before .before .code in
+    let f = character-fits (args .word .now) (loop .at) _ _ (sym (decode .ensures) ∙ code .given .1) in
+    let g = character-some (drop (loop .at) (args .word .now)) _ _ (sym (decode .ensures) ∙ code .given .1) in omega arith
 
 loop-again : tie.Need-loop-again Inv-loop μ-loop
 loop-again c =
-    let d = sym (c .before .before .before .before .before .decode .ensures) ∙ c .before .before .before .code .given .1 in
-    let f = character-fits (c .before .before .before .before .before .before .before .before .before .args .word .now) (c .before .before .before .before .before .before .before .loop .at) _ _ d in
-    let g = character-some (drop (c .before .before .before .before .before .before .before .loop .at) (c .before .before .before .before .before .before .before .before .before .args .word .now)) _ _ d in
-    let i = c .before .before .before .before .before .before .before .loop .inv in
-    let w = prefix-turn (c .before .before .before .before .before .before .before .before .before .args .word .now) (c .before .before .before .before .before .before .before .loop .at) _ _ _ d (i .3) in
+    let args = c .before .before .before .before .before .before .before .before .before .args in
+    let loop = c .before .before .before .before .before .before .before .loop in
+    let decode = c .before .before .before .before .before .decode in
+    let code = c .before .before .before .code in
+    let d = sym (decode .ensures) ∙ code .given .1 in
+    let f = character-fits (args .word .now) (loop .at) _ _ d in
+    let g = character-some (drop (loop .at) (args .word .now)) _ _ d in
+    let i = loop .inv in
+    let w = prefix-turn (args .word .now) (loop .at) _ _ _ d (i .3) in
     ⊎-elim
     (λ t.
-    let m = specials-more (c .before .before .before .before .before .before .before .before .before .args .word .now) (c .before .before .before .before .before .before .before .loop .at) _ _ d (sym (c .before .is-special .ensures) ∙ t .0 .taken) in
+    let m = specials-more (args .word .now) (loop .at) _ _ d (sym (c .before .is-special .ensures) ∙ t .0 .taken) in
     (f, omega arith, omega arith, w))
     (λ t.
-    let m = specials-same (c .before .before .before .before .before .before .before .before .before .args .word .now) (c .before .before .before .before .before .before .before .loop .at) _ _ d (sym (c .before .is-special .ensures) ∙ t .0 .left) in
+    let m = specials-same (args .word .now) (loop .at) _ _ d (sym (c .before .is-special .ensures) ∙ t .0 .left) in
     (f, omega arith, omega arith, w))
     (c .if1 .came)
 
 returns-2 : tie.Need-returns-2 Inv-loop μ-loop
-returns-2 c = let z = specials-none _ (codes-end (c .before .before .before .args .word .now) (c .before .loop .at) (c .loop-test .left)) in (omega (arith, z, c .before .loop .inv), omega (arith, c .before .loop .inv))
+returns-2 c =
+    let args = c .before .before .before .args in
+    let z = specials-none _ (codes-end (args .word .now) (c .before .loop .at) (c .loop-test .left)) in (omega (arith, z, c .before .loop .inv), omega (arith, c .before .loop .inv))
 
 pub escapes-spec : {M : Type 1} → statement M
 escapes-spec =

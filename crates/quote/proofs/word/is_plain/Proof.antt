@@ -21,16 +21,28 @@ quiet-at-requires : tie.Need-quiet-at-requires Inv-loop μ-loop
 quiet-at-requires c κs = tt
 
 returns : tie.Need-returns Inv-loop μ-loop
-returns c = sym (plain-stop (c .before .before .before .before .before .args .word .now) (c .before .before .before .loop .at) _ (c .before .before .loop-test .taken) (c .before .quiet-at .ensures) (c .if1 .taken)) ∙ c .before .before .before .loop .inv
+returns c =
+    let args = c .before .before .before .before .before .args in
+    let loop = c .before .before .before .loop in
+    sym (plain-stop (args .word .now) (loop .at) _ (c .before .before .loop-test .taken) (c .before .quiet-at .ensures) (c .if1 .taken)) ∙ loop .inv
 
 add-at : tie.Need-add-at Inv-loop μ-loop
-add-at c = let f = quiet-fits (c .before .before .before .before .before .args .word .now) (c .before .before .before .loop .at) _ (c .before .quiet-at .ensures) (c .if1 .left) in omega arith
+add-at c =
+    let args = c .before .before .before .before .before .args in
+    let loop = c .before .before .before .loop in
+    let f = quiet-fits (args .word .now) (loop .at) _ (c .before .quiet-at .ensures) (c .if1 .left) in omega arith
 
 loop-less : tie.Need-loop-less Inv-loop μ-loop
-loop-less c = let f = quiet-fits (c .before .before .before .before .before .args .word .now) (c .before .before .before .loop .at) _ (c .before .quiet-at .ensures) (c .if1 .left) in omega (arith, f, c .if1 .left)
+loop-less c =
+    let args = c .before .before .before .before .before .args in
+    let loop = c .before .before .before .loop in
+    let f = quiet-fits (args .word .now) (loop .at) _ (c .before .quiet-at .ensures) (c .if1 .left) in omega (arith, f, c .if1 .left)
 
 loop-again : tie.Need-loop-again Inv-loop μ-loop
-loop-again c = plain-turn (c .before .before .before .before .before .args .word .now) (c .before .before .before .loop .at) _ (c .before .quiet-at .ensures) (c .if1 .left) ∙ c .before .before .before .loop .inv
+loop-again c =
+    let args = c .before .before .before .before .before .args in
+    let loop = c .before .before .before .loop in
+    plain-turn (args .word .now) (loop .at) _ (c .before .quiet-at .ensures) (c .if1 .left) ∙ loop .inv
 
 returns-2 : tie.Need-returns-2 Inv-loop μ-loop
 returns-2 c = sym (plain-end (c .before .before .before .args .word .now) _ (c .loop-test .left)) ∙ c .before .loop .inv

@@ -32,10 +32,17 @@ same-length : tie.Need-same-length Inv-loop μ-loop
 same-length c = c .before .before .before .loop .inv .0
 
 returns : tie.Need-returns Inv-loop μ-loop
-returns c = absurd (formed-on (c .before .before .before .before .before .before .args .word .now) (c .before .before .before .loop .at) _ (c .before .before .before .loop .inv .2) (sym (c .before .decode .ensures)) (c .match .keys2) (c .before .before .loop-test .taken))
+returns c =
+    let args = c .before .before .before .before .before .before .args in
+    let loop = c .before .before .before .loop in
+    absurd (formed-on (args .word .now) (loop .at) _ (loop .inv .2) (sym (c .before .decode .ensures)) (c .match .keys2) (c .before .before .loop-test .taken))
 
 add-end : tie.Need-add-end Inv-loop μ-loop
-add-end c = let f = character-fits (c .before .before .before .before .before .before .before .before .args .word .now) (c .before .before .before .before .before .loop .at) _ _ (sym (c .before .before .before .decode .ensures) ∙ c .before .code .given .1) in omega arith
+add-end c =
+    let args = c .before .before .before .before .before .before .before .before .args in
+    let loop = c .before .before .before .before .before .loop in
+    let decode = c .before .before .before .decode in
+    let f = character-fits (args .word .now) (loop .at) _ _ (sym (decode .ensures) ∙ c .before .code .given .1) in omega arith
 
 sub-push-character : tie.Need-sub-push-character Inv-loop μ-loop
 sub-push-character c = omega arith
@@ -44,28 +51,50 @@ part-push-character-start : tie.Need-part-push-character-start Inv-loop μ-loop
 part-push-character-start c = omega arith
 
 part-push-character-end : tie.Need-part-push-character-end Inv-loop μ-loop
-part-push-character-end c = let f = character-fits (c .before .before .before .before .before .before .before .before .args .word .now) (c .before .before .before .before .before .loop .at) _ _ (sym (c .before .before .before .decode .ensures) ∙ c .before .code .given .1) in omega arith
+part-push-character-end c =
+    let args = c .before .before .before .before .before .before .before .before .args in
+    let loop = c .before .before .before .before .before .loop in
+    let decode = c .before .before .before .decode in
+    let f = character-fits (args .word .now) (loop .at) _ _ (sym (decode .ensures) ∙ c .before .code .given .1) in omega arith
 
 push-character-requires : tie.Need-push-character-requires Inv-loop μ-loop
-push-character-requires c κs = let r = character-room (c .before .before .before .before .before .before .before .before .before .before .args .word .now) (c .before .before .before .before .before .before .before .before .before .before .args .out .now) _ _ (c .before .before .before .before .before .before .before .loop .at) _ _ _ (c .before .before .before .before .before .before .before .loop .inv .1) (sym (c .before .before .before .before .before .decode .ensures) ∙ c .before .before .before .code .given .1) (c .before .before .before .before .before .before .before .before .before .before .pre .1) in omega (arith, r, c .before .before .before .before .before .before .before .loop .inv .0)
+push-character-requires c κs =
+    let args = c .before .before .before .before .before .before .before .before .before .before .args in
+    let pre = c .before .before .before .before .before .before .before .before .before .before .pre in
+    let loop = c .before .before .before .before .before .before .before .loop in
+    let decode = c .before .before .before .before .before .decode in
+    let code = c .before .before .before .code in
+    let r = character-room (args .word .now) (args .out .now) _ _ (loop .at) _ _ _ (loop .inv .1) (sym (decode .ensures) ∙ code .given .1) (pre .1) in omega (arith, r, loop .inv .0)
 
 loop-less : tie.Need-loop-less Inv-loop μ-loop
 loop-less c =
-    let f = character-fits (c .before .before .before .before .before .before .before .before .before .before .before .before .before .args .word .now) (c .before .before .before .before .before .before .before .before .before .before .loop .at) _ _ (sym (c .before .before .before .before .before .before .before .before .decode .ensures) ∙ c .before .before .before .before .before .before .code .given .1) in
-    let g = character-some (drop (c .before .before .before .before .before .before .before .before .before .before .loop .at) (c .before .before .before .before .before .before .before .before .before .before .before .before .before .args .word .now)) _ _ (sym (c .before .before .before .before .before .before .before .before .decode .ensures) ∙ c .before .before .before .before .before .before .code .given .1) in omega arith
+    let args = c .before .before .before .before .before .before .before .before .before .before .before .before .before .args in
+    let loop = c .before .before .before .before .before .before .before .before .before .before .loop in
+    let decode = c .before .before .before .before .before .before .before .before .decode in
+    let code = c .before .before .before .before .before .before .code in
+    let f = character-fits (args .word .now) (loop .at) _ _ (sym (decode .ensures) ∙ code .given .1) in
+    let g = character-some (drop (loop .at) (args .word .now)) _ _ (sym (decode .ensures) ∙ code .given .1) in omega arith
 
 loop-again : tie.Need-loop-again Inv-loop μ-loop
-loop-again c = (
-  c .before .before .push-character .kept .1 .1 .0 ∙ c .before .before .before .before .before .before .before .before .before .before .loop .inv .0,
-  character-turn (c .before .before .before .before .before .before .before .before .before .before .before .before .before .args .word .now) (c .before .before .before .before .before .before .before .before .before .before .before .before .before .args .out .now) _ _ (c .before .before .before .before .before .before .before .before .before .before .loop .at) _ _ _ (c .before .before .before .before .before .before .before .before .before .before .loop .inv .1) (sym (c .before .before .before .before .before .before .before .before .decode .ensures) ∙ c .before .before .before .before .before .before .code .given .1) (c .before .before .before .before .before .before .before .before .before .before .before .before .before .pre .1) _ _ (c .before .before .push-character .ensures),
-  prefix-turn (c .before .before .before .before .before .before .before .before .before .before .before .before .before .args .word .now) (c .before .before .before .before .before .before .before .before .before .before .loop .at) _ _ _ (sym (c .before .before .before .before .before .before .before .before .decode .ensures) ∙ c .before .before .before .before .before .before .code .given .1) (c .before .before .before .before .before .before .before .before .before .before .loop .inv .2),
-)
+loop-again c =
+    let args = c .before .before .before .before .before .before .before .before .before .before .before .before .before .args in
+    let pre = c .before .before .before .before .before .before .before .before .before .before .before .before .before .pre in
+    let loop = c .before .before .before .before .before .before .before .before .before .before .loop in
+    let decode = c .before .before .before .before .before .before .before .before .decode in
+    let code = c .before .before .before .before .before .before .code in
+    let push-character = c .before .before .push-character in (
+      push-character .kept .1 .1 .0 ∙ loop .inv .0,
+      character-turn (args .word .now) (args .out .now) _ _ (loop .at) _ _ _ (loop .inv .1) (sym (decode .ensures) ∙ code .given .1) (pre .1) _ _ (push-character .ensures),
+      prefix-turn (args .word .now) (loop .at) _ _ _ (sym (decode .ensures) ∙ code .given .1) (loop .inv .2),
+    )
 
 same-length-2 : tie.Need-same-length-2 Inv-loop μ-loop
 same-length-2 c = c .before .loop .inv .0
 
 returns-2 : tie.Need-returns-2 Inv-loop μ-loop
-returns-2 c = laying-end _ _ _ _ _ _ (c .before .loop .inv .1) (escaped-none _ (codes-end (c .before .before .before .before .args .word .now) _ (c .loop-test .left)))
+returns-2 c =
+    let args = c .before .before .before .before .args in
+    laying-end _ _ _ _ _ _ (c .before .loop .inv .1) (escaped-none _ (codes-end (args .word .now) _ (c .loop-test .left)))
 
 pub push-escaped-spec : {M : Type 1} → statement M
 push-escaped-spec =

@@ -10,7 +10,9 @@ ordinary-at-requires : tie.Need-ordinary-at-requires
 ordinary-at-requires c κs = search needs
 
 returns : tie.Need-returns
-returns c = quiet-ordinary (c .before .before .before .args .word .now) (c .before .before .before .args .at) _ (c .before .ordinary-at .ensures) (c .if1 .taken)
+returns c =
+    let args = c .before .before .before .args in
+    quiet-ordinary (args .word .now) (args .at) _ (c .before .ordinary-at .ensures) (c .if1 .taken)
 
 decode-requires : tie.Need-decode-requires
 decode-requires c κs = search needs
@@ -25,10 +27,16 @@ calls-for-quotes-requires : tie.Need-calls-for-quotes-requires
 calls-for-quotes-requires c κs = search needs
 
 returns-3 : tie.Need-returns-3
-returns-3 c = sym (quiet-is _ _ _ true (sym (c .before .before .before .before .before .decode .ensures) ∙ c .before .before .before .code .given .1) (sym (c .before .calls-for-quotes .ensures) ∙ c .if2 .taken))
+returns-3 c =
+    let decode = c .before .before .before .before .before .decode in
+    let code = c .before .before .before .code in
+    sym (quiet-is _ _ _ true (sym (decode .ensures) ∙ code .given .1) (sym (c .before .calls-for-quotes .ensures) ∙ c .if2 .taken))
 
 returns-4 : tie.Need-returns-4
-returns-4 c = sym (quiet-is _ _ _ false (sym (c .before .before .before .before .before .decode .ensures) ∙ c .before .before .before .code .given .1) (sym (c .before .calls-for-quotes .ensures) ∙ c .if2 .left))
+returns-4 c =
+    let decode = c .before .before .before .before .before .decode in
+    let code = c .before .before .before .code in
+    sym (quiet-is _ _ _ false (sym (decode .ensures) ∙ code .given .1) (sym (c .before .calls-for-quotes .ensures) ∙ c .if2 .left))
 
 pub quiet-at-spec : {M : Type 1} → statement M
 quiet-at-spec =

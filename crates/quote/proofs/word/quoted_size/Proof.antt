@@ -15,7 +15,9 @@ add-result-2 : tie.Need-add-result-2
 add-result-2 c = search needs
 
 returns : tie.Need-returns
-returns c = let q = quoted-length (c .before .before .args .word .now) (c .before .before .pre .0 .0) (c .before .before .pre .0 .1) in omega (arith, q, c .escapes .ensures .0)
+returns c =
+    let pre = c .before .before .pre in
+    let q = quoted-length (c .before .before .args .word .now) (pre .0 .0) (pre .0 .1) in omega (arith, q, c .escapes .ensures .0)
 
 pub quoted-size-spec : {M : Type 1} → statement M
 quoted-size-spec = tie.close (tie.spec escapes-requires add-result add-result-2 returns)

@@ -25,34 +25,41 @@ next-at-requires c κs = search needs
 
 returns : tie.Need-returns Inv-loop μ-loop
 returns c =
-    let s : List ℕ = c .before .before .before .before .before .args .image .now in
-    let p : ℕ = c .before .before .before .loop .place in
+    let args = c .before .before .before .before .before .args in
+    let loop = c .before .before .before .loop in
+    let s : List ℕ = args .image .now in
+    let p : ℕ = loop .place in
     let none = frames-none s p (sym (c .before .next-at .ensures) ∙ c .if1 .taken) (omega arith) in
-    omega (arith, none, c .before .before .before .loop .inv .1)
+    omega (arith, none, loop .inv .1)
 
 add-n : tie.Need-add-n Inv-loop μ-loop
 add-n c = omega arith
 
 loop-less : tie.Need-loop-less Inv-loop μ-loop
 loop-less c =
-    let s : List ℕ = c .before .before .before .before .before .args .image .now in
-    let p : ℕ = c .before .before .before .loop .place in
+    let args = c .before .before .before .before .before .args in
+    let loop = c .before .before .before .loop in
+    let s : List ℕ = args .image .now in
+    let p : ℕ = loop .place in
     let e : c .before .next-at .result ≡ nextPlace s p = c .before .next-at .ensures in
     let on = next-on s p in
     omega (arith, e, on, c .if1 .left)
 
 loop-again : tie.Need-loop-again Inv-loop μ-loop
 loop-again c =
-    let s : List ℕ = c .before .before .before .before .before .args .image .now in
-    let p : ℕ = c .before .before .before .loop .place in
+    let args = c .before .before .before .before .before .args in
+    let loop = c .before .before .before .loop in
+    let s : List ℕ = args .image .now in
+    let p : ℕ = loop .place in
     let e : c .before .next-at .result ≡ nextPlace s p = c .before .next-at .ensures in
     let on = next-on s p in
     let more = frames-on s p (λ k. c .if1 .left (e ∙ k)) in
-    (omega (arith, e, on, c .if1 .left), rw e (omega (arith, more, c .before .before .before .loop .inv .1)))
+    (omega (arith, e, on, c .if1 .left), rw e (omega (arith, more, loop .inv .1)))
 
 returns-2 : tie.Need-returns-2 Inv-loop μ-loop
 returns-2 c =
-    let s : List ℕ = c .before .before .before .args .image .now in
+    let args = c .before .before .before .args in
+    let s : List ℕ = args .image .now in
     let none = frames-end s (c .before .loop .place) (omega arith) in
     omega (arith, none, c .before .loop .inv .1)
 

@@ -16,7 +16,8 @@ size-of-requires c κs = search needs
 add-result : tie.Need-add-result
 unfolding nextPlace
 add-result c =
-    let w = next-within (c .before .before .before .args .image .now) (c .before .before .before .args .at) in
+    let args = c .before .before .before .args in
+    let w = next-within (args .image .now) (args .at) in
     let e = c .size-of .ensures ∙ ap sizeFirst (c .before .head-at .ensures) in
     omega (arith, w, e)
 

@@ -12,7 +12,9 @@ returns : tie.Need-returns
 returns c = search needs
 
 finish-requires : tie.Need-finish-requires
-finish-requires c κs = let l = c .before .before .before .before .before .pre .0 (sym (c .before .before .is-busy .ensures) ∙ c .before .if1 .left) in (omega arith, c .before .before .before .before .before .pre .1)
+finish-requires c κs =
+    let pre = c .before .before .before .before .before .pre in
+    let l = pre .0 (sym (c .before .before .is-busy .ensures) ∙ c .before .if1 .left) in (omega arith, pre .1)
 
 part-requires : tie.Need-part-requires
 part-requires c κs = search needs

@@ -26,28 +26,47 @@ part-requires : tie.Need-part-requires Inv-loop μ-loop
 part-requires c κs = search needs
 
 take-piece-requires : tie.Need-take-piece-requires Inv-loop μ-loop
-take-piece-requires c κs = (c .before .before .before .before .before .before .before .before .loop .inv .0, omega arith)
+take-piece-requires c κs =
+    let loop = c .before .before .before .before .before .before .before .before .loop in
+    (loop .inv .0, omega arith)
 
 beyond-requires : tie.Need-beyond-requires Inv-loop μ-loop
-beyond-requires c κs = (c .before .before .before .before .before .before .before .before .before .before .before .before .before .before .before .before .before .before .loop-test .taken, c .before .before .before .before .before .before .before .before .before .before .before .before .before .before .before .before .before .before .before .before .before .before .before .before .before .before .before .pre .3)
+beyond-requires c κs =
+    let pre = c .before .before .before .before .before .before .before .before .before .before .before .before .before .before .before .before .before .before .before .before .before .before .before .before .before .before .before .pre in
+    let loop-test = c .before .before .before .before .before .before .before .before .before .before .before .before .before .before .before .before .before .before .loop-test in
+    (loop-test .taken, pre .3)
 
 loop-less : tie.Need-loop-less Inv-loop μ-loop
 loop-less c = let l = c .beyond .ensures in omega arith
 
 loop-again : tie.Need-loop-again Inv-loop μ-loop
-loop-again c = (c .before .before .before .before .before .before .before .before .before .before .before .take-piece .ensures, c .beyond .ensures .1, search needs, search needs, c .before .before .before .before .before .before .before .before .before .before .before .before .before .before .before .before .before .before .before .before .loop .inv .4)
+loop-again c =
+    let loop = c .before .before .before .before .before .before .before .before .before .before .before .before .before .before .before .before .before .before .before .before .loop in
+    let take-piece = c .before .before .before .before .before .before .before .before .before .before .before .take-piece in
+    (take-piece .ensures, c .beyond .ensures .1, search needs, search needs, loop .inv .4)
 
 end-requires : tie.Need-end-requires Inv-loop μ-loop
-end-requires c κs = let k = c .before .before .before .before .loop .inv in let m = c .before .before .before .before .before .before .before .before .before .before .before .before .pre .4 in let o = k .2 in (λ e. let r = reads-so _ e in k .0 .early (r .0) (r .1), omega arith)
+end-requires c κs =
+    let pre = c .before .before .before .before .before .before .before .before .before .before .before .before .pre in
+    let loop = c .before .before .before .before .loop in
+    let k = loop .inv in let m = pre .4 in let o = k .2 in (λ e. let r = reads-so _ e in k .0 .early (r .0) (r .1), omega arith)
 
 same-length : tie.Need-same-length Inv-loop μ-loop
-same-length c = c .before .before .before .before .before .before .before .before .before .loop .inv .0 .ready .whole ∙ sym (c .before .before .before .before .before .before .before .before .before .before .before .before .before .before .before .before .before .pre .0)
+same-length c =
+    let pre = c .before .before .before .before .before .before .before .before .before .before .before .before .before .before .before .before .before .pre in
+    let loop = c .before .before .before .before .before .before .before .before .before .loop in
+    loop .inv .0 .ready .whole ∙ sym (pre .0)
 
 same-length-2 : tie.Need-same-length-2 Inv-loop μ-loop
-same-length-2 c = c .before .before .before .before .before .before .before .before .before .loop .inv .0 .ready .room ∙ sym (c .before .before .before .before .before .before .before .before .before .before .before .before .before .before .before .before .before .pre .1)
+same-length-2 c =
+    let pre = c .before .before .before .before .before .before .before .before .before .before .before .before .before .before .before .before .before .pre in
+    let loop = c .before .before .before .before .before .before .before .before .before .loop in
+    loop .inv .0 .ready .room ∙ sym (pre .1)
 
 same-length-3 : tie.Need-same-length-3 Inv-loop μ-loop
-same-length-3 c = let i = c .before .before .before .before .before .before .before .before .before .loop .inv in i .0 .ready .slot ∙ sym (i .4)
+same-length-3 c =
+    let loop = c .before .before .before .before .before .before .before .before .before .loop in
+    let i = loop .inv in i .0 .ready .slot ∙ sym (i .4)
 
 same-length-4 : tie.Need-same-length-4 Inv-loop μ-loop
 same-length-4 c = search needs

@@ -14,19 +14,30 @@ abbrev μ-loop : tie.MeasureT-loop
 μ-loop piece line₀ image₀ slots₀ out₀ answer₀ here₀ turns₀ line image slots out answer here turns = turns
 
 loop-holds : tie.Need-loop-holds Inv-loop μ-loop
-loop-holds c = (c .before .before .before .before .before .before .pre .0, c .before .before .before .before .before .before .pre .1, refl, refl)
+loop-holds c =
+    let pre = c .before .before .before .before .before .before .pre in
+    (pre .0, pre .1, refl, refl)
 
 is-done-requires : tie.Need-is-done-requires Inv-loop μ-loop
 is-done-requires c κs = search needs
 
 same-length : tie.Need-same-length Inv-loop μ-loop
-same-length c = c .before .before .before .loop .inv .0 .ready .whole ∙ sym (c .before .before .before .before .before .before .before .before .before .before .pre .0 .ready .whole)
+same-length c =
+    let pre = c .before .before .before .before .before .before .before .before .before .before .pre in
+    let loop = c .before .before .before .loop in
+    loop .inv .0 .ready .whole ∙ sym (pre .0 .ready .whole)
 
 same-length-2 : tie.Need-same-length-2 Inv-loop μ-loop
-same-length-2 c = c .before .before .before .loop .inv .0 .ready .room ∙ sym (c .before .before .before .before .before .before .before .before .before .before .pre .0 .ready .room)
+same-length-2 c =
+    let pre = c .before .before .before .before .before .before .before .before .before .before .pre in
+    let loop = c .before .before .before .loop in
+    loop .inv .0 .ready .room ∙ sym (pre .0 .ready .room)
 
 same-length-3 : tie.Need-same-length-3 Inv-loop μ-loop
-same-length-3 c = c .before .before .before .loop .inv .0 .ready .slot ∙ sym (c .before .before .before .before .before .before .before .before .before .before .pre .0 .ready .slot)
+same-length-3 c =
+    let pre = c .before .before .before .before .before .before .before .before .before .before .pre in
+    let loop = c .before .before .before .loop in
+    loop .inv .0 .ready .slot ∙ sym (pre .0 .ready .slot)
 
 same-length-4 : tie.Need-same-length-4 Inv-loop μ-loop
 same-length-4 c = c .before .before .before .loop .inv .2
@@ -38,7 +49,9 @@ returns : tie.Need-returns Inv-loop μ-loop
 returns c = c .before .before .before .loop .inv .0
 
 turn-requires : tie.Need-turn-requires Inv-loop μ-loop
-turn-requires c κs = (c .before .before .before .before .before .before .before .before .loop .inv .0, c .before .before .before .before .before .before .before .before .loop .inv .1)
+turn-requires c κs =
+    let loop = c .before .before .before .before .before .before .before .before .loop in
+    (loop .inv .0, loop .inv .1)
 
 sub-turns : tie.Need-sub-turns Inv-loop μ-loop
 sub-turns c = search needs
@@ -47,16 +60,24 @@ loop-less : tie.Need-loop-less Inv-loop μ-loop
 loop-less c = search needs
 
 loop-again : tie.Need-loop-again Inv-loop μ-loop
-loop-again c = (c .before .before .before .before .before .before .before .before .before .before .turn .ensures .0, c .before .before .before .before .before .before .before .before .before .before .turn .ensures .1, search needs, search needs)
+loop-again c =
+    let turn = c .before .before .before .before .before .before .before .before .before .before .turn in
+    (turn .ensures .0, turn .ensures .1, search needs, search needs)
 
 same-length-6 : tie.Need-same-length-6 Inv-loop μ-loop
-same-length-6 c = c .before .loop .inv .0 .ready .whole ∙ sym (c .before .before .before .before .before .before .before .before .pre .0 .ready .whole)
+same-length-6 c =
+    let pre = c .before .before .before .before .before .before .before .before .pre in
+    c .before .loop .inv .0 .ready .whole ∙ sym (pre .0 .ready .whole)
 
 same-length-7 : tie.Need-same-length-7 Inv-loop μ-loop
-same-length-7 c = c .before .loop .inv .0 .ready .room ∙ sym (c .before .before .before .before .before .before .before .before .pre .0 .ready .room)
+same-length-7 c =
+    let pre = c .before .before .before .before .before .before .before .before .pre in
+    c .before .loop .inv .0 .ready .room ∙ sym (pre .0 .ready .room)
 
 same-length-8 : tie.Need-same-length-8 Inv-loop μ-loop
-same-length-8 c = c .before .loop .inv .0 .ready .slot ∙ sym (c .before .before .before .before .before .before .before .before .pre .0 .ready .slot)
+same-length-8 c =
+    let pre = c .before .before .before .before .before .before .before .before .pre in
+    c .before .loop .inv .0 .ready .slot ∙ sym (pre .0 .ready .slot)
 
 same-length-9 : tie.Need-same-length-9 Inv-loop μ-loop
 same-length-9 c = c .before .loop .inv .2

@@ -12,7 +12,12 @@ step-requires : tie.Need-step-requires
 step-requires c κs = search needs
 
 add-t20 : tie.Need-add-t20
-add-t20 c = let w = within _ _ _ _ (c .before .before .before .before .before .before .before .before .before .before .before .before .before .before .before .before .before .before .before .before .before .before .before .before .pre .1) (c .before .before .before .before .before .before .before .before .before .before .before .before .before .before .before .before .rest .ensures) (c .before .before .before .before .before .before .before .before .before .before .before .step .ensures .took) in let g = c .before .before .before .before .before .before .before .before .before .before .before .before .before .before .before .before .before .before .before .before .before .before .before .before .good .1 in omega arith
+add-t20 c =
+    let pre = c .before .before .before .before .before .before .before .before .before .before .before .before .before .before .before .before .before .before .before .before .before .before .before .before .pre in
+    let good = c .before .before .before .before .before .before .before .before .before .before .before .before .before .before .before .before .before .before .before .before .before .before .before .before .good in
+    let rest = c .before .before .before .before .before .before .before .before .before .before .before .before .before .before .before .before .rest in
+    let step = c .before .before .before .before .before .before .before .before .before .before .before .step in
+    let w = within _ _ _ _ (pre .1) (rest .ensures) (step .ensures .took) in let g = good .1 in omega arith
 
 part-requires : tie.Need-part-requires
 part-requires c κs = search needs
@@ -36,7 +41,11 @@ same-length-5 : tie.Need-same-length-5
 same-length-5 c = search needs
 
 returns : tie.Need-returns
-returns c = (c .before .before .before .before .before .before .before .before .before .before .before .before .before .before .before .before .before .step .ensures .sound, within _ _ _ _ (c .before .before .before .before .before .before .before .before .before .before .before .before .before .before .before .before .before .before .before .before .before .before .before .before .before .before .before .before .before .before .pre .1) (c .before .before .before .before .before .before .before .before .before .before .before .before .before .before .before .before .before .before .before .before .before .before .rest .ensures) (c .before .before .before .before .before .before .before .before .before .before .before .before .before .before .before .before .before .step .ensures .took))
+returns c =
+    let pre = c .before .before .before .before .before .before .before .before .before .before .before .before .before .before .before .before .before .before .before .before .before .before .before .before .before .before .before .before .before .before .pre in
+    let rest = c .before .before .before .before .before .before .before .before .before .before .before .before .before .before .before .before .before .before .before .before .before .before .rest in
+    let step = c .before .before .before .before .before .before .before .before .before .before .before .before .before .before .before .before .before .step in
+    (step .ensures .sound, within _ _ _ _ (pre .1) (rest .ensures) (step .ensures .took))
 
 pub turn-spec : {M : Type 1} → statement M
 turn-spec =

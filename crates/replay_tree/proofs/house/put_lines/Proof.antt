@@ -46,7 +46,12 @@ loop-less : tie.Need-loop-less Inv-loop μ-loop
 loop-less c = search needs
 
 loop-again : tie.Need-loop-again Inv-loop μ-loop
-loop-again c = (part-fits (c .before .before .before .before .before .before .before .before .before .before .before .before .before .before .before .args .image .now) _ (c .before .before .before .before .before .before .before .before .before .before .before .before .loop .at) (c .before .before .before .before .before .before .before .before .before .before .size-at .result) (c .before .before .before .before .before .before .before .before .before .part .ensures) (search needs), search needs)
+loop-again c =
+    let args = c .before .before .before .before .before .before .before .before .before .before .before .before .before .before .before .args in
+    let loop = c .before .before .before .before .before .before .before .before .before .before .before .before .loop in
+    let size-at = c .before .before .before .before .before .before .before .before .before .before .size-at in
+    let part = c .before .before .before .before .before .before .before .before .before .part in
+    (part-fits (args .image .now) _ (loop .at) (size-at .result) (part .ensures) (search needs), search needs)
 
 same-length-2 : tie.Need-same-length-2 Inv-loop μ-loop
 same-length-2 c = search needs

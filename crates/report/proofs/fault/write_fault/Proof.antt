@@ -19,7 +19,9 @@ add-t12 : tie.Need-add-t12
 add-t12 c = search needs
 
 returns : tie.Need-returns
-returns c = no-room _ (c .before .before .before .args .out .now) _ (length-fault (c .before .before .before .args .dashes) (c .before .before .before .args .text .now)) (c .if1 .taken)
+returns c =
+    let args = c .before .before .before .args in
+    no-room _ (args .out .now) _ (length-fault (args .dashes) (args .text .now)) (c .if1 .taken)
 
 push-byte-requires : tie.Need-push-byte-requires
 push-byte-requires c κs = search needs
@@ -49,10 +51,17 @@ write-dashes-requires : tie.Need-write-dashes-requires
 write-dashes-requires c κs = search needs
 
 add-part : tie.Need-add-part
-add-part c = omega (arith, c .before .before .write-dashes .ensures .count, length-replicate {A = ℕ} (c .before .before .before .before .before .before .before .before .before .before .before .before .before .before .before .before .before .before .before .args .dashes) 0x2D, c .before .before .before .before .before .before .before .before .before .before .before .before .before .before .before .before .before .before .before .pre)
+add-part c =
+    let args = c .before .before .before .before .before .before .before .before .before .before .before .before .before .before .before .before .before .before .before .args in
+    let pre = c .before .before .before .before .before .before .before .before .before .before .before .before .before .before .before .before .before .before .before .pre in
+    omega (arith, c .before .before .write-dashes .ensures .count, length-replicate {A = ℕ} (args .dashes) 0x2D, pre)
 
 push-requires : tie.Need-push-requires
-push-requires c κs = omega (arith, c .before .before .before .write-dashes .ensures .count, length-replicate {A = ℕ} (c .before .before .before .before .before .before .before .before .before .before .before .before .before .before .before .before .before .before .before .before .args .dashes) 0x2D, c .before .before .before .before .before .before .before .before .before .before .before .before .before .before .before .before .before .if1 .left)
+push-requires c κs =
+    let args = c .before .before .before .before .before .before .before .before .before .before .before .before .before .before .before .before .before .before .before .before .args in
+    let if1 = c .before .before .before .before .before .before .before .before .before .before .before .before .before .before .before .before .before .if1 in
+    let write-dashes = c .before .before .before .write-dashes in
+    omega (arith, write-dashes .ensures .count, length-replicate {A = ℕ} (args .dashes) 0x2D, if1 .left)
 
 add-t10 : tie.Need-add-t10
 add-t10 c = search needs
@@ -63,8 +72,13 @@ same-length c = search needs
 returns-2 : tie.Need-returns-2
 returns-2 c =
     let a = c .before .before .before .before .before .before .before .before .before .before .before .before .before .before .before .before .before .before .before .before .before .before .before .args in
-    let w = fault-written (a .dashes) _ (a .text .now) (a .out .now) refl (c .before .before .before .before .before .before .before .before .before .before .before .before .before .before .before .before .before .before .before .before .if1 .left) _ _ _ _ _ _ _ _ _ _ (c .before .before .before .before .before .before .before .before .before .before .before .before .before .before .before .before .before .before .push-byte .ensures) (c .before .before .before .before .before .before .before .before .before .before .before .before .before .before .push-byte2 .ensures) (c .before .before .before .before .before .before .before .before .before .before .push-byte3 .ensures) (c .before .before .before .before .before .before .write-dashes .ensures) (c .before .before .push .ensures) in
-    reported _ (a .out .now) _ _ (length-fault (a .dashes) (a .text .now)) (c .before .before .before .before .before .before .before .before .before .before .before .before .before .before .before .before .before .before .before .before .if1 .left) w
+    let if1 = c .before .before .before .before .before .before .before .before .before .before .before .before .before .before .before .before .before .before .before .before .if1 in
+    let push-byte = c .before .before .before .before .before .before .before .before .before .before .before .before .before .before .before .before .before .before .push-byte in
+    let push-byte2 = c .before .before .before .before .before .before .before .before .before .before .before .before .before .before .push-byte2 in
+    let push-byte3 = c .before .before .before .before .before .before .before .before .before .before .push-byte3 in
+    let write-dashes = c .before .before .before .before .before .before .write-dashes in
+    let w = fault-written (a .dashes) _ (a .text .now) (a .out .now) refl (if1 .left) _ _ _ _ _ _ _ _ _ _ (push-byte .ensures) (push-byte2 .ensures) (push-byte3 .ensures) (write-dashes .ensures) (c .before .before .push .ensures) in
+    reported _ (a .out .now) _ _ (length-fault (a .dashes) (a .text .now)) (if1 .left) w
 
 pub write-fault-spec : {M : Type 1} → statement M
 write-fault-spec =

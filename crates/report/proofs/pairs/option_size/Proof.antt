@@ -10,16 +10,24 @@ long-text-size-requires : tie.Need-long-text-size-requires
 long-text-size-requires c κs = search needs
 
 add-result : tie.Need-add-result
-add-result c = omega (arith, c .long-text-size .ensures, length-textOf 2 (c .before .before .before .args .key .now), c .before .before .before .pre)
+add-result c =
+    let args = c .before .before .before .args in
+    let pre = c .before .before .before .pre in
+    omega (arith, c .long-text-size .ensures, length-textOf 2 (args .key .now), pre)
 
 long-text-size-requires-2 : tie.Need-long-text-size-requires-2
 long-text-size-requires-2 c κs = search needs
 
 add-result-2 : tie.Need-add-result-2
-add-result-2 c = omega (arith, c .before .long-text-size .ensures, c .long-text-size2 .ensures, length-textOf 2 (c .before .before .before .before .args .key .now), length-textOf 2 (c .before .before .before .before .args .value .now), c .before .before .before .before .pre)
+add-result-2 c =
+    let args = c .before .before .before .before .args in
+    let pre = c .before .before .before .before .pre in
+    omega (arith, c .before .long-text-size .ensures, c .long-text-size2 .ensures, length-textOf 2 (args .key .now), length-textOf 2 (args .value .now), pre)
 
 returns : tie.Need-returns
-returns c = omega (arith, c .before .long-text-size .ensures, c .long-text-size2 .ensures, length-option (c .before .before .before .before .args .key .now) (c .before .before .before .before .args .value .now))
+returns c =
+    let args = c .before .before .before .before .args in
+    omega (arith, c .before .long-text-size .ensures, c .long-text-size2 .ensures, length-option (args .key .now) (args .value .now))
 
 pub option-size-spec : {M : Type 1} → statement M
 option-size-spec =

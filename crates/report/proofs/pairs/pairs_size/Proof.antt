@@ -37,13 +37,16 @@ value-requires : tie.Need-value-requires Inv-loop μ-loop
 value-requires c κs = search needs
 
 pair-size-requires : tie.Need-pair-size-requires Inv-loop μ-loop
-pair-size-requires c κs = pair-short (c .before .before .before .before .before .before .before .before .args .words .now) (c .before .before .before .before .before .before .before .before .args .image .now) _ _ _ (c .before .key .ensures) (c .value .ensures)
+pair-size-requires c κs =
+    let args = c .before .before .before .before .before .before .before .before .args in
+    pair-short (args .words .now) (args .image .now) _ _ _ (c .before .key .ensures) (c .value .ensures)
 
 add-size : tie.Need-add-size Inv-loop μ-loop
 add-size c =
     let a = c .before .before .before .before .before .before .before .before .before .args in
-    let h : c .before .before .before .before .before .loop .i < sizeOf (a .t3) = omega arith in
-    let p = pair-counted (pairFrame (a .valued)) (a .words .now) (a .image .now) (a .t3) (c .before .before .before .before .before .loop .i) h _ _ (c .before .before .key .ensures) (c .before .value .ensures) _ _ _ (c .pair-size .ensures) (c .before .before .before .before .before .loop .inv .1) in
+    let loop = c .before .before .before .before .before .loop in
+    let h : loop .i < sizeOf (a .t3) = omega arith in
+    let p = pair-counted (pairFrame (a .valued)) (a .words .now) (a .image .now) (a .t3) (loop .i) h _ _ (c .before .before .key .ensures) (c .before .value .ensures) _ _ _ (c .pair-size .ensures) (loop .inv .1) in
     let m = pairs-most (a .words .now) (a .image .now) (a .t3) (a .valued) in
     omega arith
 
@@ -56,8 +59,9 @@ loop-less c = search needs
 loop-again : tie.Need-loop-again Inv-loop μ-loop
 loop-again c =
     let a = c .before .before .before .before .before .before .before .before .before .args in
-    let h : c .before .before .before .before .before .loop .i < sizeOf (a .t3) = omega arith in
-    (omega arith, pair-counted (pairFrame (a .valued)) (a .words .now) (a .image .now) (a .t3) (c .before .before .before .before .before .loop .i) h _ _ (c .before .before .key .ensures) (c .before .value .ensures) _ _ _ (c .pair-size .ensures) (c .before .before .before .before .before .loop .inv .1))
+    let loop = c .before .before .before .before .before .loop in
+    let h : loop .i < sizeOf (a .t3) = omega arith in
+    (omega arith, pair-counted (pairFrame (a .valued)) (a .words .now) (a .image .now) (a .t3) (loop .i) h _ _ (c .before .before .key .ensures) (c .before .value .ensures) _ _ _ (c .pair-size .ensures) (loop .inv .1))
 
 returns : tie.Need-returns Inv-loop μ-loop
 returns c =

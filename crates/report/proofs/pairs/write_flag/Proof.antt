@@ -4,7 +4,9 @@ use Rattle.report.proofs.pairs.write_flag.Statement.{statement}
 use Rattle.report.proofs.pairs.write_flag.Tie as tie
 
 write-frame-requires : tie.Need-write-frame-requires
-write-frame-requires c κs = (c .before .before .before .pre .0, c .before .before .before .pre .1 _)
+write-frame-requires c κs =
+    let pre = c .before .before .before .pre in
+    (pre .0, pre .1 _)
 
 same-length : tie.Need-same-length
 same-length c = search needs

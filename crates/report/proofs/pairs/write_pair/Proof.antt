@@ -6,10 +6,15 @@ use Rattle.report.proofs.pairs.write_pair.Statement.{statement}
 use Rattle.report.proofs.pairs.write_pair.Tie as tie
 
 write-option-requires : tie.Need-write-option-requires
-write-option-requires c κs = (c .before .before .before .before .before .pre .0, rw (c .before .if1 .taken) at (c .before .before .before .before .before .pre .1))
+write-option-requires c κs =
+    let pre = c .before .before .before .before .before .pre in
+    (pre .0, rw (c .before .if1 .taken) at (pre .1))
 
 write-flag-requires : tie.Need-write-flag-requires
-write-flag-requires c κs = (c .before .before .before .before .before .pre .0 .0, flag-any _ (c .before .before .before .before .before .args .value .now) (c .before .before .before .before .before .args .out .now) (rw (c .before .if1 .left) at (c .before .before .before .before .before .pre .1)))
+write-flag-requires c κs =
+    let pre = c .before .before .before .before .before .pre in
+    let args = c .before .before .before .before .before .args in
+    (pre .0 .0, flag-any _ (args .value .now) (args .out .now) (rw (c .before .if1 .left) at (pre .1)))
 
 same-length : tie.Need-same-length
 same-length c = search needs

@@ -35,10 +35,16 @@ value-requires : tie.Need-value-requires Inv-loop μ-loop
 value-requires c κs = search needs
 
 sub-write-pair : tie.Need-sub-write-pair Inv-loop μ-loop
-sub-write-pair c = omega (arith, c .before .before .before .before .loop .inv .1 .count, c .before .before .before .before .loop .inv .1 .same, c .before .before .before .before .before .before .before .before .before .pre)
+sub-write-pair c =
+    let pre = c .before .before .before .before .before .before .before .before .before .pre in
+    let loop = c .before .before .before .before .loop in
+    omega (arith, loop .inv .1 .count, loop .inv .1 .same, pre)
 
 part-write-pair-start : tie.Need-part-write-pair-start Inv-loop μ-loop
-part-write-pair-start c = omega (arith, c .before .before .before .before .loop .inv .1 .count, c .before .before .before .before .loop .inv .1 .same, c .before .before .before .before .before .before .before .before .before .pre)
+part-write-pair-start c =
+    let pre = c .before .before .before .before .before .before .before .before .before .pre in
+    let loop = c .before .before .before .before .loop in
+    omega (arith, loop .inv .1 .count, loop .inv .1 .same, pre)
 
 part-write-pair-end : tie.Need-part-write-pair-end Inv-loop μ-loop
 part-write-pair-end c = search needs
@@ -46,14 +52,21 @@ part-write-pair-end c = search needs
 write-pair-requires : tie.Need-write-pair-requires Inv-loop μ-loop
 write-pair-requires c κs =
     let a = c .before .before .before .before .before .before .before .before .before .before .args in
-    let h : c .before .before .before .before .before .loop .i < sizeOf (a .t3) = omega arith in
-    (pair-short (a .words .now) (a .image .now) _ _ _ (c .before .before .key .ensures) (c .before .value .ensures), pair-lent (pairFrame (a .valued)) (a .words .now) (a .image .now) (a .t3) (c .before .before .before .before .before .loop .i) h _ _ (c .before .before .key .ensures) (c .before .value .ensures) (a .out .now) _ _ (c .before .before .before .before .before .loop .inv .1) (c .before .before .before .before .before .before .before .before .before .before .pre))
+    let pre = c .before .before .before .before .before .before .before .before .before .before .pre in
+    let loop = c .before .before .before .before .before .loop in
+    let key = c .before .before .key in
+    let h : loop .i < sizeOf (a .t3) = omega arith in
+    (pair-short (a .words .now) (a .image .now) _ _ _ (key .ensures) (c .before .value .ensures), pair-lent (pairFrame (a .valued)) (a .words .now) (a .image .now) (a .t3) (loop .i) h _ _ (key .ensures) (c .before .value .ensures) (a .out .now) _ _ (loop .inv .1) (pre))
 
 add-o : tie.Need-add-o Inv-loop μ-loop
 add-o c =
     let a = c .before .before .before .before .before .before .before .before .before .before .before .before .before .args in
-    let h : c .before .before .before .before .before .before .before .before .loop .i < sizeOf (a .t3) = omega arith in
-    let r = pair-room (pairFrame (a .valued)) (a .words .now) (a .image .now) (a .t3) (c .before .before .before .before .before .before .before .before .loop .i) h _ _ (c .before .before .before .before .before .key .ensures) (c .before .before .before .before .value .ensures) (a .out .now) _ _ (c .before .before .before .before .before .before .before .before .loop .inv .1) (c .before .before .before .before .before .before .before .before .before .before .before .before .before .pre) in
+    let pre = c .before .before .before .before .before .before .before .before .before .before .before .before .before .pre in
+    let loop = c .before .before .before .before .before .before .before .before .loop in
+    let key = c .before .before .before .before .before .key in
+    let value = c .before .before .before .before .value in
+    let h : loop .i < sizeOf (a .t3) = omega arith in
+    let r = pair-room (pairFrame (a .valued)) (a .words .now) (a .image .now) (a .t3) (loop .i) h _ _ (key .ensures) (value .ensures) (a .out .now) _ _ (loop .inv .1) (pre) in
     omega (arith, r, c .before .before .write-pair .ensures .count)
 
 add-i : tie.Need-add-i Inv-loop μ-loop
@@ -65,8 +78,12 @@ loop-less c = search needs
 loop-again : tie.Need-loop-again Inv-loop μ-loop
 loop-again c =
     let a = c .before .before .before .before .before .before .before .before .before .before .before .before .before .args in
-    let h : c .before .before .before .before .before .before .before .before .loop .i < sizeOf (a .t3) = omega arith in
-    (omega arith, pair-written (pairFrame (a .valued)) (a .words .now) (a .image .now) (a .t3) (c .before .before .before .before .before .before .before .before .loop .i) h _ _ (c .before .before .before .before .before .key .ensures) (c .before .before .before .before .value .ensures) (a .out .now) _ _ (c .before .before .before .before .before .before .before .before .loop .inv .1) (c .before .before .before .before .before .before .before .before .before .before .before .before .before .pre) _ _ (c .before .before .write-pair .ensures))
+    let pre = c .before .before .before .before .before .before .before .before .before .before .before .before .before .pre in
+    let loop = c .before .before .before .before .before .before .before .before .loop in
+    let key = c .before .before .before .before .before .key in
+    let value = c .before .before .before .before .value in
+    let h : loop .i < sizeOf (a .t3) = omega arith in
+    (omega arith, pair-written (pairFrame (a .valued)) (a .words .now) (a .image .now) (a .t3) (loop .i) h _ _ (key .ensures) (value .ensures) (a .out .now) _ _ (loop .inv .1) (pre) _ _ (c .before .before .write-pair .ensures))
 
 same-length : tie.Need-same-length Inv-loop μ-loop
 same-length c = c .before .loop .inv .1 .same

@@ -29,8 +29,9 @@ add-result-2 c = search needs
 returns : tie.Need-returns
 returns c =
     let a = c .before .before .before .before .before .before .before .before .args in
+    let words-size = c .before .before .before .words-size in
     let l = report-length (a .words .now) (a .image .now) (a .path .now) (a .options) (a .flags) (a .rest .now) in
-    omega (arith, l, c .before .before .before .words-size .ensures .0 0x11, c .before .before .words-size2 .ensures .0 0x14, c .before .options-size .ensures .0, c .flags-size .ensures .0)
+    omega (arith, l, words-size .ensures .0 0x11, c .before .before .words-size2 .ensures .0 0x14, c .before .options-size .ensures .0, c .flags-size .ensures .0)
 
 pub report-size-spec : {M : Type 1} → statement M
 report-size-spec =

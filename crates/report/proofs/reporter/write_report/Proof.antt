@@ -8,7 +8,9 @@ report-size-requires : tie.Need-report-size-requires
 report-size-requires c κs = search needs
 
 returns : tie.Need-returns
-returns c = no-room _ (c .before .before .before .before .before .before .before .args .out .now) _ (c .before .report-size .ensures) (c .if1 .taken)
+returns c =
+    let args = c .before .before .before .before .before .before .before .args in
+    no-room _ (args .out .now) _ (c .before .report-size .ensures) (c .if1 .taken)
 
 write-frames-requires : tie.Need-write-frames-requires
 write-frames-requires c κs = search needs
@@ -17,7 +19,11 @@ same-length : tie.Need-same-length
 same-length c = search needs
 
 returns-2 : tie.Need-returns-2
-returns-2 c = reported _ (c .before .before .before .before .before .before .before .before .before .before .before .args .out .now) _ _ (c .before .before .before .before .before .report-size .ensures) (c .before .before .before .before .if1 .left) (c .before .before .write-frames .ensures)
+returns-2 c =
+    let args = c .before .before .before .before .before .before .before .before .before .before .before .args in
+    let report-size = c .before .before .before .before .before .report-size in
+    let if1 = c .before .before .before .before .if1 in
+    reported _ (args .out .now) _ _ (report-size .ensures) (if1 .left) (c .before .before .write-frames .ensures)
 
 pub write-report-spec : {M : Type 1} → statement M
 write-report-spec =

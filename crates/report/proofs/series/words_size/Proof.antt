@@ -29,29 +29,47 @@ enum-known-length c = search needs
 returns : tie.Need-returns Inv-loop μ-loop
 returns c =
     let l = c .before .before .before .loop in
-    absurd (words-begin 0 (c .before .before .before .before .before .args .words .now) (l .at) _ (c .before .before .before .before .before .pre) (l .inv .1 0) (c .before .before .loop-test .taken) (c .before .read-frame .ensures) (c .match .keys2))
+    let args = c .before .before .before .before .before .args in
+    let pre = c .before .before .before .before .before .pre in
+    absurd (words-begin 0 (args .words .now) (l .at) _ (pre) (l .inv .1 0) (c .before .before .loop-test .taken) (c .before .read-frame .ensures) (c .match .keys2))
 
 add-at : tie.Need-add-at Inv-loop μ-loop
-add-at c = let w = word-within (c .before .before .before .before .before .before .before .args .words .now) (c .before .before .before .before .before .loop .at) _ _ (sym (c .before .before .before .read-frame .ensures) ∙ c .before .length .given .1) in omega arith
+add-at c =
+    let args = c .before .before .before .before .before .before .before .args in
+    let loop = c .before .before .before .before .before .loop in
+    let read-frame = c .before .before .before .read-frame in
+    let w = word-within (args .words .now) (loop .at) _ _ (sym (read-frame .ensures) ∙ c .before .length .given .1) in omega arith
 
 add-at-2 : tie.Need-add-at-2 Inv-loop μ-loop
-add-at-2 c = let w = word-within (c .before .before .before .before .before .before .before .args .words .now) (c .before .before .before .before .before .loop .at) _ _ (sym (c .before .before .before .read-frame .ensures) ∙ c .before .length .given .1) in omega arith
+add-at-2 c =
+    let args = c .before .before .before .before .before .before .before .args in
+    let loop = c .before .before .before .before .before .loop in
+    let read-frame = c .before .before .before .read-frame in
+    let w = word-within (args .words .now) (loop .at) _ _ (sym (read-frame .ensures) ∙ c .before .length .given .1) in omega arith
 
 loop-less : tie.Need-loop-less Inv-loop μ-loop
-loop-less c = let w = word-within (c .before .before .before .before .before .before .before .args .words .now) (c .before .before .before .before .before .loop .at) _ _ (sym (c .before .before .before .read-frame .ensures) ∙ c .before .length .given .1) in omega arith
+loop-less c =
+    let args = c .before .before .before .before .before .before .before .args in
+    let loop = c .before .before .before .before .before .loop in
+    let read-frame = c .before .before .before .read-frame in
+    let w = word-within (args .words .now) (loop .at) _ _ (sym (read-frame .ensures) ∙ c .before .length .given .1) in omega arith
 
 loop-again : tie.Need-loop-again Inv-loop μ-loop
 loop-again c =
-    let words = c .before .before .before .before .before .before .before .args .words .now in
-    let l = c .before .before .before .before .before .loop in
-    let e = sym (c .before .before .before .read-frame .ensures) ∙ c .before .length .given .1 in
+    let args = c .before .before .before .before .before .before .before .args in
+    let loop = c .before .before .before .before .before .loop in
+    let read-frame = c .before .before .before .read-frame in
+    let words = args .words .now in
+    let l = loop in
+    let e = sym (read-frame .ensures) ∙ c .before .length .given .1 in
     let w = word-within words (l .at) _ _ e in
     (omega arith, λ kind. word-counted words (l .at) _ _ e kind _ (l .inv .1 kind))
 
 returns-2 : tie.Need-returns-2 Inv-loop μ-loop
 returns-2 c =
     let l = c .before .loop in
-    (λ kind. count-end _ _ _ (words-end kind (c .before .before .before .args .words .now) (l .at) (c .loop-test .left)) (l .inv .1 kind), l .inv .0)
+    let args = c .before .before .before .args in
+    (λ kind. count-end _ _ _ (words-end kind (args .words .now) (l .at) (c .loop-test .left)) (l .inv .1 kind), l .inv .0)
 
 pub words-size-spec : {M : Type 1} → statement M
 words-size-spec =

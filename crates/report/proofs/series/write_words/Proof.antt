@@ -30,13 +30,23 @@ same-length c = c .before .before .before .loop .inv .same
 returns : tie.Need-returns Inv-loop μ-loop
 returns c =
     let l = c .before .before .before .loop in
-    absurd (words-begin (c .before .before .before .before .before .before .args .kind) (c .before .before .before .before .before .before .args .words .now) (l .at) _ (c .before .before .before .before .before .before .pre .1) (l .inv .count) (c .before .before .loop-test .taken) (c .before .read-frame .ensures) (c .match .keys2))
+    let args = c .before .before .before .before .before .before .args in
+    let pre = c .before .before .before .before .before .before .pre in
+    absurd (words-begin (args .kind) (args .words .now) (l .at) _ (pre .1) (l .inv .count) (c .before .before .loop-test .taken) (c .before .read-frame .ensures) (c .match .keys2))
 
 add-start : tie.Need-add-start Inv-loop μ-loop
-add-start c = let w = word-within (c .before .before .before .before .before .before .before .before .args .words .now) (c .before .before .before .before .before .loop .at) _ _ (sym (c .before .before .before .read-frame .ensures) ∙ c .before .length .given .1) in omega arith
+add-start c =
+    let args = c .before .before .before .before .before .before .before .before .args in
+    let loop = c .before .before .before .before .before .loop in
+    let read-frame = c .before .before .before .read-frame in
+    let w = word-within (args .words .now) (loop .at) _ _ (sym (read-frame .ensures) ∙ c .before .length .given .1) in omega arith
 
 add-end : tie.Need-add-end Inv-loop μ-loop
-add-end c = let w = word-within (c .before .before .before .before .before .before .before .before .args .words .now) (c .before .before .before .before .before .loop .at) _ _ (sym (c .before .before .before .read-frame .ensures) ∙ c .before .length .given .1) in omega arith
+add-end c =
+    let args = c .before .before .before .before .before .before .before .before .args in
+    let loop = c .before .before .before .before .before .loop in
+    let read-frame = c .before .before .before .read-frame in
+    let w = word-within (args .words .now) (loop .at) _ _ (sym (read-frame .ensures) ∙ c .before .length .given .1) in omega arith
 
 sub-write-frame : tie.Need-sub-write-frame Inv-loop μ-loop
 sub-write-frame c = search needs
@@ -45,13 +55,23 @@ part-write-frame-start : tie.Need-part-write-frame-start Inv-loop μ-loop
 part-write-frame-start c = search needs
 
 part-write-frame-end : tie.Need-part-write-frame-end Inv-loop μ-loop
-part-write-frame-end c = let w = word-within (c .before .before .before .before .before .before .before .before .args .words .now) (c .before .before .before .before .before .loop .at) _ _ (sym (c .before .before .before .read-frame .ensures) ∙ c .before .length .given .1) in omega arith
+part-write-frame-end c =
+    let args = c .before .before .before .before .before .before .before .before .args in
+    let loop = c .before .before .before .before .before .loop in
+    let read-frame = c .before .before .before .read-frame in
+    let w = word-within (args .words .now) (loop .at) _ _ (sym (read-frame .ensures) ∙ c .before .length .given .1) in omega arith
 
 sub-write-frame-2 : tie.Need-sub-write-frame-2 Inv-loop μ-loop
-sub-write-frame-2 c = omega (arith, c .before .before .before .before .before .before .loop .inv .count, c .before .before .before .before .before .before .loop .inv .same, c .before .before .before .before .before .before .before .before .before .pre .0)
+sub-write-frame-2 c =
+    let pre = c .before .before .before .before .before .before .before .before .before .pre in
+    let loop = c .before .before .before .before .before .before .loop in
+    omega (arith, loop .inv .count, loop .inv .same, pre .0)
 
 part-write-frame-start-2 : tie.Need-part-write-frame-start-2 Inv-loop μ-loop
-part-write-frame-start-2 c = omega (arith, c .before .before .before .before .before .before .loop .inv .count, c .before .before .before .before .before .before .loop .inv .same, c .before .before .before .before .before .before .before .before .before .pre .0)
+part-write-frame-start-2 c =
+    let pre = c .before .before .before .before .before .before .before .before .before .pre in
+    let loop = c .before .before .before .before .before .before .loop in
+    omega (arith, loop .inv .count, loop .inv .same, pre .0)
 
 part-write-frame-end-2 : tie.Need-part-write-frame-end-2 Inv-loop μ-loop
 part-write-frame-end-2 c = search needs
@@ -59,33 +79,53 @@ part-write-frame-end-2 c = search needs
 write-frame-requires : tie.Need-write-frame-requires Inv-loop μ-loop
 write-frame-requires c κs =
     let a = c .before .before .before .before .before .before .before .before .before .before .args in
-    let e = sym (c .before .before .before .before .before .read-frame .ensures) ∙ c .before .before .before .length .given .1 in
-    (word-short (a .words .now) (c .before .before .before .before .before .before .before .loop .at) _ _ e (λ i. omega (arith, c .before .before .before .before .before .before .before .before .before .shared-slice-known .given i .fits)), word-lent (a .kind) (a .words .now) (a .out .now) (c .before .before .before .before .before .before .before .loop .at) (c .before .before .before .before .before .before .before .loop .out) (c .before .before .before .before .before .before .before .loop .inv) (c .before .before .before .before .before .before .before .before .before .before .pre .0) _ _ e)
+    let pre = c .before .before .before .before .before .before .before .before .before .before .pre in
+    let shared-slice-known = c .before .before .before .before .before .before .before .before .before .shared-slice-known in
+    let loop = c .before .before .before .before .before .before .before .loop in
+    let read-frame = c .before .before .before .before .before .read-frame in
+    let length = c .before .before .before .length in
+    let e = sym (read-frame .ensures) ∙ length .given .1 in
+    (word-short (a .words .now) (loop .at) _ _ e (λ i. omega (arith, shared-slice-known .given i .fits)), word-lent (a .kind) (a .words .now) (a .out .now) (loop .at) (loop .out) (loop .inv) (pre .0) _ _ e)
 
 add-at : tie.Need-add-at Inv-loop μ-loop
 add-at c =
-    let e = sym (c .before .before .before .before .before .before .before .before .read-frame .ensures) ∙ c .before .before .before .before .before .before .length .given .1 in
-    let w = word-within (c .before .before .before .before .before .before .before .before .before .before .before .before .before .args .words .now) (c .before .before .before .before .before .before .before .before .before .before .loop .at) _ _ e in
-    let s = c .before .before .write-frame .ensures .count ∙ word-size (c .before .before .before .before .before .before .before .before .before .before .before .before .before .args .words .now) (c .before .before .before .before .before .before .before .before .before .before .loop .at) _ _ e (c .before .before .before .before .before .before .before .before .before .before .before .before .before .args .kind) in
+    let args = c .before .before .before .before .before .before .before .before .before .before .before .before .before .args in
+    let loop = c .before .before .before .before .before .before .before .before .before .before .loop in
+    let read-frame = c .before .before .before .before .before .before .before .before .read-frame in
+    let length = c .before .before .before .before .before .before .length in
+    let e = sym (read-frame .ensures) ∙ length .given .1 in
+    let w = word-within (args .words .now) (loop .at) _ _ e in
+    let s = c .before .before .write-frame .ensures .count ∙ word-size (args .words .now) (loop .at) _ _ e (args .kind) in
     omega arith
 
 loop-less : tie.Need-loop-less Inv-loop μ-loop
 loop-less c =
-    let e = sym (c .before .before .before .before .before .before .before .before .read-frame .ensures) ∙ c .before .before .before .before .before .before .length .given .1 in
-    let s = c .before .before .write-frame .ensures .count ∙ word-size (c .before .before .before .before .before .before .before .before .before .before .before .before .before .args .words .now) (c .before .before .before .before .before .before .before .before .before .before .loop .at) _ _ e (c .before .before .before .before .before .before .before .before .before .before .before .before .before .args .kind) in
-    omega (arith, s, c .before .before .before .before .before .before .before .before .before .loop-test .taken)
+    let args = c .before .before .before .before .before .before .before .before .before .before .before .before .before .args in
+    let loop = c .before .before .before .before .before .before .before .before .before .before .loop in
+    let loop-test = c .before .before .before .before .before .before .before .before .before .loop-test in
+    let read-frame = c .before .before .before .before .before .before .before .before .read-frame in
+    let length = c .before .before .before .before .before .before .length in
+    let e = sym (read-frame .ensures) ∙ length .given .1 in
+    let s = c .before .before .write-frame .ensures .count ∙ word-size (args .words .now) (loop .at) _ _ e (args .kind) in
+    omega (arith, s, loop-test .taken)
 
 loop-again : tie.Need-loop-again Inv-loop μ-loop
 loop-again c =
     let a = c .before .before .before .before .before .before .before .before .before .before .before .before .before .args in
-    let e = sym (c .before .before .before .before .before .before .before .before .read-frame .ensures) ∙ c .before .before .before .before .before .before .length .given .1 in
-    word-written (a .kind) (a .words .now) (a .out .now) (c .before .before .before .before .before .before .before .before .before .before .loop .at) (c .before .before .before .before .before .before .before .before .before .before .loop .out) (c .before .before .before .before .before .before .before .before .before .before .loop .inv) (c .before .before .before .before .before .before .before .before .before .before .before .before .before .pre .0) _ _ e _ _ (c .before .before .write-frame .ensures)
+    let pre = c .before .before .before .before .before .before .before .before .before .before .before .before .before .pre in
+    let loop = c .before .before .before .before .before .before .before .before .before .before .loop in
+    let read-frame = c .before .before .before .before .before .before .before .before .read-frame in
+    let length = c .before .before .before .before .before .before .length in
+    let e = sym (read-frame .ensures) ∙ length .given .1 in
+    word-written (a .kind) (a .words .now) (a .out .now) (loop .at) (loop .out) (loop .inv) (pre .0) _ _ e _ _ (c .before .before .write-frame .ensures)
 
 same-length-2 : tie.Need-same-length-2 Inv-loop μ-loop
 same-length-2 c = c .before .loop .inv .same
 
 returns-2 : tie.Need-returns-2 Inv-loop μ-loop
-returns-2 c = ahead-end _ _ _ _ _ (c .before .loop .inv) (words-end (c .before .before .before .before .args .kind) (c .before .before .before .before .args .words .now) (c .before .loop .at) (c .loop-test .left))
+returns-2 c =
+    let args = c .before .before .before .before .args in
+    ahead-end _ _ _ _ _ (c .before .loop .inv) (words-end (args .kind) (args .words .now) (c .before .loop .at) (c .loop-test .left))
 
 pub write-words-spec : {M : Type 1} → statement M
 write-words-spec =

@@ -27,27 +27,50 @@ same-length : tie.Need-same-length Inv-loop μ-loop
 same-length c = c .before .before .before .before .loop .inv .size
 
 returns : tie.Need-returns Inv-loop μ-loop
-returns c = stops _ _ _ _ _ _ _ (c .before .before .before .before .loop .inv) _ _ (c .before .before .rest .ensures) (c .before .listed-size .ensures) (c .if1 .taken)
+returns c =
+    let loop = c .before .before .before .before .loop in
+    stops _ _ _ _ _ _ _ (loop .inv) _ _ (c .before .before .rest .ensures) (c .before .listed-size .ensures) (c .if1 .taken)
 
 put-row-requires : tie.Need-put-row-requires Inv-loop μ-loop
 unfolding Bytes
-put-row-requires c κs = row-counts _ _ _ _ _ _ _ (c .before .before .before .before .before .loop .inv) _ _ (c .before .before .before .rest .ensures) (c .before .before .listed-size .ensures) (λ i. c .before .before .before .before .before .before .before .shared-slice-known .given i .fits) (c .before .if1 .left) (c .before .before .before .before .before .before .before .before .pre)
+put-row-requires c κs =
+    let pre = c .before .before .before .before .before .before .before .before .pre in
+    let shared-slice-known = c .before .before .before .before .before .before .before .shared-slice-known in
+    let loop = c .before .before .before .before .before .loop in
+    let rest = c .before .before .before .rest in
+    row-counts _ _ _ _ _ _ _ (loop .inv) _ _ (rest .ensures) (c .before .before .listed-size .ensures) (λ i. shared-slice-known .given i .fits) (c .before .if1 .left) (pre)
 
 add-place : tie.Need-add-place Inv-loop μ-loop
 unfolding Bytes
 add-place c =
-    let g = goes-on _ _ _ _ _ _ _ (c .before .before .before .before .before .before .before .before .loop .inv) _ _ (c .before .before .before .before .before .before .rest .ensures) (c .before .before .before .before .before .listed-size .ensures) (λ i. c .before .before .before .before .before .before .before .before .before .before .shared-slice-known .given i .fits) (c .before .before .before .before .if1 .left) _ _ (c .before .before .put-row .ensures) in
+    let shared-slice-known = c .before .before .before .before .before .before .before .before .before .before .shared-slice-known in
+    let loop = c .before .before .before .before .before .before .before .before .loop in
+    let rest = c .before .before .before .before .before .before .rest in
+    let listed-size = c .before .before .before .before .before .listed-size in
+    let if1 = c .before .before .before .before .if1 in
+    let g = goes-on _ _ _ _ _ _ _ (loop .inv) _ _ (rest .ensures) (listed-size .ensures) (λ i. shared-slice-known .given i .fits) (if1 .left) _ _ (c .before .before .put-row .ensures) in
     let w = g .1 .within in omega arith
 
 loop-less : tie.Need-loop-less Inv-loop μ-loop
 unfolding Bytes
 loop-less c =
-    let g = goes-on _ _ _ _ _ _ _ (c .before .before .before .before .before .before .before .before .loop .inv) _ _ (c .before .before .before .before .before .before .rest .ensures) (c .before .before .before .before .before .listed-size .ensures) (λ i. c .before .before .before .before .before .before .before .before .before .before .shared-slice-known .given i .fits) (c .before .before .before .before .if1 .left) _ _ (c .before .before .put-row .ensures) in
+    let shared-slice-known = c .before .before .before .before .before .before .before .before .before .before .shared-slice-known in
+    let loop = c .before .before .before .before .before .before .before .before .loop in
+    let rest = c .before .before .before .before .before .before .rest in
+    let listed-size = c .before .before .before .before .before .listed-size in
+    let if1 = c .before .before .before .before .if1 in
+    let g = goes-on _ _ _ _ _ _ _ (loop .inv) _ _ (rest .ensures) (listed-size .ensures) (λ i. shared-slice-known .given i .fits) (if1 .left) _ _ (c .before .before .put-row .ensures) in
     let m = g .0 in let w = g .1 .within in omega arith
 
 loop-again : tie.Need-loop-again Inv-loop μ-loop
 unfolding Bytes
-loop-again c = goes-on _ _ _ _ _ _ _ (c .before .before .before .before .before .before .before .before .loop .inv) _ _ (c .before .before .before .before .before .before .rest .ensures) (c .before .before .before .before .before .listed-size .ensures) (λ i. c .before .before .before .before .before .before .before .before .before .before .shared-slice-known .given i .fits) (c .before .before .before .before .if1 .left) _ _ (c .before .before .put-row .ensures) .1
+loop-again c =
+    let shared-slice-known = c .before .before .before .before .before .before .before .before .before .before .shared-slice-known in
+    let loop = c .before .before .before .before .before .before .before .before .loop in
+    let rest = c .before .before .before .before .before .before .rest in
+    let listed-size = c .before .before .before .before .before .listed-size in
+    let if1 = c .before .before .before .before .if1 in
+    goes-on _ _ _ _ _ _ _ (loop .inv) _ _ (rest .ensures) (listed-size .ensures) (λ i. shared-slice-known .given i .fits) (if1 .left) _ _ (c .before .before .put-row .ensures) .1
 
 same-length-2 : tie.Need-same-length-2 Inv-loop μ-loop
 same-length-2 c = c .before .loop .inv .size

@@ -26,9 +26,13 @@ same-length c = search needs
 
 returns-2 : tie.Need-returns-2
 returns-2 c =
-    let k = c .before .before .before .before .before .before .put .ensures .place in
-    let m = c .before .before .put-rows .ensures .most in
-    (inked-as _ _ _ _ _ _ (titled-some _ _ (λ z. c .before .before .before .before .before .before .before .before .if1 .left (c .before .before .before .before .before .before .before .before .before .rows-size .ensures ∙ z))) (inked-both _ _ _ _ _ _ _ _ (c .before .before .before .before .before .before .put .ensures) (c .before .before .put-rows .ensures .inked)), omega arith)
+    let rows-size = c .before .before .before .before .before .before .before .before .before .rows-size in
+    let if1 = c .before .before .before .before .before .before .before .before .if1 in
+    let put = c .before .before .before .before .before .before .put in
+    let put-rows = c .before .before .put-rows in
+    let k = put .ensures .place in
+    let m = put-rows .ensures .most in
+    (inked-as _ _ _ _ _ _ (titled-some _ _ (λ z. if1 .left (rows-size .ensures ∙ z))) (inked-both _ _ _ _ _ _ _ _ (put .ensures) (put-rows .ensures .inked)), omega arith)
 
 pub put-titled-spec : {M : Type 1} → statement M
 put-titled-spec =

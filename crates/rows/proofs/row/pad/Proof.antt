@@ -17,16 +17,25 @@ array-share-prefix-spaces : tie.Need-array-share-prefix-spaces
 array-share-prefix-spaces c = search needs
 
 slice-aggregate-put : tie.Need-slice-aggregate-put
-slice-aggregate-put c = sym (ap length (blanks-some (c .before .before .before .args .width) (c .before .before .before .args .used) (c .before .before .before .pre .0)) ∙ blanks-length (c .before .before .before .args .width) (c .before .before .before .args .used))
+slice-aggregate-put c =
+    let args = c .before .before .before .args in
+    let pre = c .before .before .before .pre in
+    sym (ap length (blanks-some (args .width) (args .used) (pre .0)) ∙ blanks-length (args .width) (args .used))
 
 put-requires : tie.Need-put-requires
-put-requires c κs = counts-as _ _ (c .before .before .before .before .args .at) (sym (blanks-some (c .before .before .before .before .args .width) (c .before .before .before .before .args .used) (c .before .before .before .before .pre .0))) (c .before .before .before .before .pre .1)
+put-requires c κs =
+    let args = c .before .before .before .before .args in
+    let pre = c .before .before .before .before .pre in
+    counts-as _ _ (args .at) (sym (blanks-some (args .width) (args .used) (pre .0))) (pre .1)
 
 same-length : tie.Need-same-length
 same-length c = search needs
 
 returns-2 : tie.Need-returns-2
-returns-2 c = inked-as _ _ _ _ _ _ (blanks-some (c .before .before .before .before .before .before .before .args .width) (c .before .before .before .before .before .before .before .args .used) (c .before .before .before .before .before .before .before .pre .0)) (c .before .before .put .ensures)
+returns-2 c =
+    let args = c .before .before .before .before .before .before .before .args in
+    let pre = c .before .before .before .before .before .before .before .pre in
+    inked-as _ _ _ _ _ _ (blanks-some (args .width) (args .used) (pre .0)) (c .before .before .put .ensures)
 
 pub pad-spec : {M : Type 1} → statement M
 pad-spec =

@@ -13,11 +13,18 @@ slice-aggregate-put c = search needs
 
 put-requires : tie.Need-put-requires
 unfolding ascii
-put-requires c κs = entry-1 (ascii "  ") (labelIn (c .before .before .before .before .args .s .now) (c .before .before .before .before .args .p) (c .before .before .before .before .args .short) (c .before .before .before .before .args .texts)) _ 20 _ (c .before .before .before .before .pre .1)
+put-requires c κs =
+    let args = c .before .before .before .before .args in
+    let pre = c .before .before .before .before .pre in
+    entry-1 (ascii "  ") (labelIn (args .s .now) (args .p) (args .short) (args .texts)) _ 20 _ (pre .1)
 
 put-label-requires : tie.Need-put-label-requires
 unfolding ascii
-put-label-requires c κs = ((c .before .before .before .before .before .before .before .before .pre .0 .0, c .before .before .before .before .before .before .before .before .pre .0 .1 .small, c .before .before .before .before .before .before .before .before .pre .0 .2), entry-2 (ascii "  ") (labelIn (c .before .before .before .before .before .before .before .before .args .s .now) (c .before .before .before .before .before .before .before .before .args .p) (c .before .before .before .before .before .before .before .before .args .short) (c .before .before .before .before .before .before .before .before .args .texts)) _ 20 _ (c .before .before .before .before .before .before .before .before .pre .1) _ _ _ (c .before .before .before .put .ensures))
+put-label-requires c κs =
+    let pre = c .before .before .before .before .before .before .before .before .pre in
+    let args = c .before .before .before .before .before .before .before .before .args in
+    let put = c .before .before .before .put in
+    ((pre .0 .0, pre .0 .1 .small, pre .0 .2), entry-2 (ascii "  ") (labelIn (args .s .now) (args .p) (args .short) (args .texts)) _ 20 _ (pre .1) _ _ _ (put .ensures))
 
 sub-part : tie.Need-sub-part
 sub-part c = search needs
@@ -31,9 +38,13 @@ sub-put-note c = search needs
 put-note-requires : tie.Need-put-note-requires
 unfolding ascii
 put-note-requires c κs =
-    let e = c .before .part .ensures ∙ note-place (c .before .before .before .before .before .before .before .before .before .before .before .before .before .before .args .p) (c .before .before .before .before .before .before .before .before .before .before .before .before .before .before .args .s .now) (c .before .before .before .before .before .before .before .before .before .before .before .before .before .before .args .texts) (c .before .before .before .before .before .before .before .before .before .before .before .before .before .before .pre .0 .1) in
-    let k = c .before .before .before .before .before .put-label .ensures .place in
-    (omega arith, rw e (entry-3 (ascii "  ") (labelIn (c .before .before .before .before .before .before .before .before .before .before .before .before .before .before .args .s .now) (c .before .before .before .before .before .before .before .before .before .before .before .before .before .before .args .p) (c .before .before .before .before .before .before .before .before .before .before .before .before .before .before .args .short) (c .before .before .before .before .before .before .before .before .before .before .before .before .before .before .args .texts)) _ 20 _ (c .before .before .before .before .before .before .before .before .before .before .before .before .before .before .pre .1) _ _ _ _ _ _ (c .before .before .before .before .before .before .before .before .before .put .ensures) (c .before .before .before .before .before .put-label .ensures) (omega arith)))
+    let args = c .before .before .before .before .before .before .before .before .before .before .before .before .before .before .args in
+    let pre = c .before .before .before .before .before .before .before .before .before .before .before .before .before .before .pre in
+    let put = c .before .before .before .before .before .before .before .before .before .put in
+    let put-label = c .before .before .before .before .before .put-label in
+    let e = c .before .part .ensures ∙ note-place (args .p) (args .s .now) (args .texts) (pre .0 .1) in
+    let k = put-label .ensures .place in
+    (omega arith, rw e (entry-3 (ascii "  ") (labelIn (args .s .now) (args .p) (args .short) (args .texts)) _ 20 _ (pre .1) _ _ _ _ _ _ (put .ensures) (put-label .ensures) (omega arith)))
 
 same-length : tie.Need-same-length
 same-length c = search needs
@@ -41,9 +52,14 @@ same-length c = search needs
 returns : tie.Need-returns
 unfolding ascii
 returns c =
-    let e = c .before .before .before .before .part .ensures ∙ note-place (c .before .before .before .before .before .before .before .before .before .before .before .before .before .before .before .before .before .args .p) (c .before .before .before .before .before .before .before .before .before .before .before .before .before .before .before .before .before .args .s .now) (c .before .before .before .before .before .before .before .before .before .before .before .before .before .before .before .before .before .args .texts) (c .before .before .before .before .before .before .before .before .before .before .before .before .before .before .before .before .before .pre .0 .1) in
-    let k = c .before .before .before .before .before .before .before .before .put-label .ensures .place in
-    rw (← e) (entry-put (ascii "  ") _ _ _ 20 _ _ _ _ _ _ _ _ (c .before .before .before .before .before .before .before .before .before .before .before .before .put .ensures) (c .before .before .before .before .before .before .before .before .put-label .ensures) (omega arith) (c .before .before .put-note .ensures))
+    let args = c .before .before .before .before .before .before .before .before .before .before .before .before .before .before .before .before .before .args in
+    let pre = c .before .before .before .before .before .before .before .before .before .before .before .before .before .before .before .before .before .pre in
+    let put = c .before .before .before .before .before .before .before .before .before .before .before .before .put in
+    let put-label = c .before .before .before .before .before .before .before .before .put-label in
+    let part = c .before .before .before .before .part in
+    let e = part .ensures ∙ note-place (args .p) (args .s .now) (args .texts) (pre .0 .1) in
+    let k = put-label .ensures .place in
+    rw (← e) (entry-put (ascii "  ") _ _ _ 20 _ _ _ _ _ _ _ _ (put .ensures) (put-label .ensures) (omega arith) (c .before .before .put-note .ensures))
 
 pub put-definition-spec : {M : Type 1} → statement M
 put-definition-spec =

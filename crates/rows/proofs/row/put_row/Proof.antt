@@ -18,8 +18,12 @@ enum-known-depth c = search needs
 node-row-requires : tie.Need-node-row-requires
 unfolding Bytes nodeIn
 node-row-requires c κs =
-    let e = sym (c .before .before .before .before .head-of .ensures) ∙ c .before .before .depth .given .1 in
-    (node-small (c .before .before .before .before .before .before .before .args .s .now) _ (λ i. c .before .before .before .before .before .before .shared-slice-known .given i .fits) (view _ _ e .texts), λ h. counts-as _ _ (c .before .before .before .before .before .before .before .args .at) (sym (row-read (c .before .before .before .before .before .before .before .args .listing) (c .before .before .before .before .before .before .before .args .s .now) _ _ _ _ refl (sym e) refl) ∙ row-handler (c .before .before .before .before .before .before .before .args .listing) _ h _ _ _ _) (c .before .before .before .before .before .before .before .pre))
+    let args = c .before .before .before .before .before .before .before .args in
+    let pre = c .before .before .before .before .before .before .before .pre in
+    let shared-slice-known = c .before .before .before .before .before .before .shared-slice-known in
+    let head-of = c .before .before .before .before .head-of in
+    let e = sym (head-of .ensures) ∙ c .before .before .depth .given .1 in
+    (node-small (args .s .now) _ (λ i. shared-slice-known .given i .fits) (view _ _ e .texts), λ h. counts-as _ _ (args .at) (sym (row-read (args .listing) (args .s .now) _ _ _ _ refl (sym e) refl) ∙ row-handler (args .listing) _ h _ _ _ _) (pre))
 
 enum-known-required : tie.Need-enum-known-required
 enum-known-required c = search needs
@@ -28,14 +32,22 @@ enum-told : tie.Need-enum-told
 enum-told c = search needs
 
 returns : tie.Need-returns
-returns c = inked-nothing _ _ _ (option-unlisted (c .before .before .before .before .before .before .before .args .listing) (c .before .before .before .before .before .before .before .args .s .now) _ _ _ (c .match2 .keys2) ∙ row-read (c .before .before .before .before .before .before .before .args .listing) (c .before .before .before .before .before .before .before .args .s .now) _ _ _ _ refl (sym (c .before .before .required .given .1) ∙ c .before .before .before .before .head-of .ensures) refl)
+returns c =
+    let args = c .before .before .before .before .before .before .before .args in
+    let head-of = c .before .before .before .before .head-of in
+    inked-nothing _ _ _ (option-unlisted (args .listing) (args .s .now) _ _ _ (c .match2 .keys2) ∙ row-read (args .listing) (args .s .now) _ _ _ _ refl (sym (c .before .before .required .given .1) ∙ head-of .ensures) refl)
 
 put-option-requires : tie.Need-put-option-requires
 unfolding Bytes
 put-option-requires c κs =
-    let e = sym (c .before .before .before .before .before .before .head-of .ensures) ∙ c .before .before .before .before .required .given .1 in
-    let t = option-told (c .before .before .before .before .before .before .before .before .before .args .s .now) (λ i. c .before .before .before .before .before .before .before .before .shared-slice-known .given i .fits) _ _ _ e in
-    (t .0, t .1, counts-as _ _ (c .before .before .before .before .before .before .before .before .before .args .at) (sym (row-read (c .before .before .before .before .before .before .before .before .before .args .listing) (c .before .before .before .before .before .before .before .before .before .args .s .now) _ _ _ _ (c .before .enum-told .given .1) (sym e) refl)) (c .before .before .before .before .before .before .before .before .before .pre))
+    let args = c .before .before .before .before .before .before .before .before .before .args in
+    let pre = c .before .before .before .before .before .before .before .before .before .pre in
+    let shared-slice-known = c .before .before .before .before .before .before .before .before .shared-slice-known in
+    let head-of = c .before .before .before .before .before .before .head-of in
+    let required = c .before .before .before .before .required in
+    let e = sym (head-of .ensures) ∙ required .given .1 in
+    let t = option-told (args .s .now) (λ i. shared-slice-known .given i .fits) _ _ _ e in
+    (t .0, t .1, counts-as _ _ (args .at) (sym (row-read (args .listing) (args .s .now) _ _ _ _ (c .before .enum-told .given .1) (sym e) refl)) (pre))
 
 enum-known-short : tie.Need-enum-known-short
 enum-known-short c = search needs
@@ -44,35 +56,59 @@ enum-told-2 : tie.Need-enum-told-2
 enum-told-2 c = search needs
 
 returns-2 : tie.Need-returns-2
-returns-2 c = inked-nothing _ _ _ (flag-unlisted (c .before .before .before .before .before .before .before .args .listing) (c .before .before .before .before .before .before .before .args .s .now) _ _ (c .match3 .keys2) ∙ row-read (c .before .before .before .before .before .before .before .args .listing) (c .before .before .before .before .before .before .before .args .s .now) _ _ _ _ refl (sym (c .before .before .short .given .1) ∙ c .before .before .before .before .head-of .ensures) refl)
+returns-2 c =
+    let args = c .before .before .before .before .before .before .before .args in
+    let head-of = c .before .before .before .before .head-of in
+    inked-nothing _ _ _ (flag-unlisted (args .listing) (args .s .now) _ _ (c .match3 .keys2) ∙ row-read (args .listing) (args .s .now) _ _ _ _ refl (sym (c .before .before .short .given .1) ∙ head-of .ensures) refl)
 
 put-flag-requires : tie.Need-put-flag-requires
 unfolding Bytes
 put-flag-requires c κs =
-    let e = sym (c .before .before .before .before .before .before .head-of .ensures) ∙ c .before .before .before .before .short .given .1 in
-    let t = flag-told (c .before .before .before .before .before .before .before .before .before .args .s .now) (λ i. c .before .before .before .before .before .before .before .before .shared-slice-known .given i .fits) _ _ e in
-    (t .0, t .1, counts-as _ _ (c .before .before .before .before .before .before .before .before .before .args .at) (sym (row-read (c .before .before .before .before .before .before .before .before .before .args .listing) (c .before .before .before .before .before .before .before .before .before .args .s .now) _ _ _ _ (c .before .enum-told2 .given .1) (sym e) refl)) (c .before .before .before .before .before .before .before .before .before .pre))
+    let args = c .before .before .before .before .before .before .before .before .before .args in
+    let pre = c .before .before .before .before .before .before .before .before .before .pre in
+    let shared-slice-known = c .before .before .before .before .before .before .before .before .shared-slice-known in
+    let head-of = c .before .before .before .before .before .before .head-of in
+    let short = c .before .before .before .before .short in
+    let e = sym (head-of .ensures) ∙ short .given .1 in
+    let t = flag-told (args .s .now) (λ i. shared-slice-known .given i .fits) _ _ e in
+    (t .0, t .1, counts-as _ _ (args .at) (sym (row-read (args .listing) (args .s .now) _ _ _ _ (c .before .enum-told2 .given .1) (sym e) refl)) (pre))
 
 same-length : tie.Need-same-length
 same-length c = search needs
 
 returns-3 : tie.Need-returns-3
-returns-3 c = inked-as _ _ _ _ _ _ (row-read (c .before .before .before .before .before .before .before .before .before .before .args .listing) (c .before .before .before .before .before .before .before .before .before .before .args .s .now) _ _ _ _ refl (sym (c .before .before .before .before .before .depth .given .1) ∙ c .before .before .before .before .before .before .before .head-of .ensures) refl) (c .before .before .node-row .ensures _)
+returns-3 c =
+    let args = c .before .before .before .before .before .before .before .before .before .before .args in
+    let head-of = c .before .before .before .before .before .before .before .head-of in
+    let depth = c .before .before .before .before .before .depth in
+    inked-as _ _ _ _ _ _ (row-read (args .listing) (args .s .now) _ _ _ _ refl (sym (depth .given .1) ∙ head-of .ensures) refl) (c .before .before .node-row .ensures _)
 
 same-length-2 : tie.Need-same-length-2
 same-length-2 c = search needs
 
 returns-4 : tie.Need-returns-4
-returns-4 c = inked-as _ _ _ _ _ _ (row-read (c .before .before .before .before .before .before .before .before .before .before .before .before .args .listing) (c .before .before .before .before .before .before .before .before .before .before .before .before .args .s .now) _ _ _ _ (c .before .before .before .before .enum-told .given .1) (sym (c .before .before .before .before .before .before .before .required .given .1) ∙ c .before .before .before .before .before .before .before .before .before .head-of .ensures) refl) (c .before .before .put-option .ensures)
+returns-4 c =
+    let args = c .before .before .before .before .before .before .before .before .before .before .before .before .args in
+    let head-of = c .before .before .before .before .before .before .before .before .before .head-of in
+    let required = c .before .before .before .before .before .before .before .required in
+    let enum-told = c .before .before .before .before .enum-told in
+    inked-as _ _ _ _ _ _ (row-read (args .listing) (args .s .now) _ _ _ _ (enum-told .given .1) (sym (required .given .1) ∙ head-of .ensures) refl) (c .before .before .put-option .ensures)
 
 same-length-3 : tie.Need-same-length-3
 same-length-3 c = search needs
 
 returns-5 : tie.Need-returns-5
-returns-5 c = inked-as _ _ _ _ _ _ (row-read (c .before .before .before .before .before .before .before .before .before .before .before .before .args .listing) (c .before .before .before .before .before .before .before .before .before .before .before .before .args .s .now) _ _ _ _ (c .before .before .before .before .enum-told2 .given .1) (sym (c .before .before .before .before .before .before .before .short .given .1) ∙ c .before .before .before .before .before .before .before .before .before .head-of .ensures) refl) (c .before .before .put-flag .ensures)
+returns-5 c =
+    let args = c .before .before .before .before .before .before .before .before .before .before .before .before .args in
+    let head-of = c .before .before .before .before .before .before .before .before .before .head-of in
+    let short = c .before .before .before .before .before .before .before .short in
+    let enum-told2 = c .before .before .before .before .enum-told2 in
+    inked-as _ _ _ _ _ _ (row-read (args .listing) (args .s .now) _ _ _ _ (enum-told2 .given .1) (sym (short .given .1) ∙ head-of .ensures) refl) (c .before .before .put-flag .ensures)
 
 returns-6 : tie.Need-returns-6
-returns-6 c = inked-nothing _ _ _ (row-none (c .before .before .before .before .args .listing) (c .before .before .before .before .args .s .now) _ (c .before .head-of .ensures) (c .match .keys4))
+returns-6 c =
+    let args = c .before .before .before .before .args in
+    inked-nothing _ _ _ (row-none (args .listing) (args .s .now) _ (c .before .head-of .ensures) (c .match .keys4))
 
 pub put-row-spec : {M : Type 1} → statement M
 put-row-spec =

@@ -16,25 +16,43 @@ slice-aggregate-put c = search needs
 
 put-requires : tie.Need-put-requires
 unfolding ascii
-put-requires c κs = counts-1 (ascii "-") (c .before .before .before .before .before .args .short ∷ []) (c .before .before .before .before .before .args .tail .now) _ (counts-as _ _ (c .before .before .before .before .before .args .at) (short-some _ _ (c .before .before .if1 .left)) (c .before .before .before .before .before .pre .1))
+put-requires c κs =
+    let args = c .before .before .before .before .before .args in
+    let pre = c .before .before .before .before .before .pre in
+    counts-1 (ascii "-") (args .short ∷ []) (args .tail .now) _ (counts-as _ _ (args .at) (short-some _ _ (c .before .before .if1 .left)) (pre .1))
 
 cast-put-byte : tie.Need-cast-put-byte
 cast-put-byte c = search needs
 
 put-byte-requires : tie.Need-put-byte-requires
 unfolding ascii
-put-byte-requires c κs = counts-2 (ascii "-") (c .before .before .before .before .before .before .before .before .before .args .short ∷ []) (c .before .before .before .before .before .before .before .before .before .args .tail .now) _ (counts-as _ _ (c .before .before .before .before .before .before .before .before .before .args .at) (short-some _ _ (c .before .before .before .before .before .before .if1 .left)) (c .before .before .before .before .before .before .before .before .before .pre .1)) _ _ _ (c .before .before .before .put .ensures)
+put-byte-requires c κs =
+    let args = c .before .before .before .before .before .before .before .before .before .args in
+    let pre = c .before .before .before .before .before .before .before .before .before .pre in
+    let if1 = c .before .before .before .before .before .before .if1 in
+    let put = c .before .before .before .put in
+    counts-2 (ascii "-") (args .short ∷ []) (args .tail .now) _ (counts-as _ _ (args .at) (short-some _ _ (if1 .left)) (pre .1)) _ _ _ (put .ensures)
 
 put-requires-2 : tie.Need-put-requires-2
 unfolding ascii
-put-requires-2 c κs = counts-3 (ascii "-") (c .before .before .before .before .before .before .before .before .before .before .before .before .before .args .short ∷ []) (c .before .before .before .before .before .before .before .before .before .before .before .before .before .args .tail .now) _ (counts-as _ _ (c .before .before .before .before .before .before .before .before .before .before .before .before .before .args .at) (short-some _ _ (c .before .before .before .before .before .before .before .before .before .before .if1 .left)) (c .before .before .before .before .before .before .before .before .before .before .before .before .before .pre .1)) _ _ _ _ _ (c .before .before .before .before .before .before .before .put .ensures) (c .before .before .before .put-byte .ensures)
+put-requires-2 c κs =
+    let args = c .before .before .before .before .before .before .before .before .before .before .before .before .before .args in
+    let pre = c .before .before .before .before .before .before .before .before .before .before .before .before .before .pre in
+    let if1 = c .before .before .before .before .before .before .before .before .before .before .if1 in
+    let put = c .before .before .before .before .before .before .before .put in
+    let put-byte = c .before .before .before .put-byte in
+    counts-3 (ascii "-") (args .short ∷ []) (args .tail .now) _ (counts-as _ _ (args .at) (short-some _ _ (if1 .left)) (pre .1)) _ _ _ _ _ (put .ensures) (put-byte .ensures)
 
 same-length : tie.Need-same-length
 same-length c = search needs
 
 returns-2 : tie.Need-returns-2
 unfolding ascii
-returns-2 c = inked-as _ _ _ _ _ _ (sym (short-some _ _ (c .before .before .before .before .before .before .before .before .before .before .before .before .before .if1 .left))) (inked-three (ascii "-") _ _ _ _ _ _ _ _ _ _ (c .before .before .before .before .before .before .before .before .before .before .put .ensures) (c .before .before .before .before .before .before .put-byte .ensures) (c .before .before .put2 .ensures))
+returns-2 c =
+    let if1 = c .before .before .before .before .before .before .before .before .before .before .before .before .before .if1 in
+    let put = c .before .before .before .before .before .before .before .before .before .before .put in
+    let put-byte = c .before .before .before .before .before .before .put-byte in
+    inked-as _ _ _ _ _ _ (sym (short-some _ _ (if1 .left))) (inked-three (ascii "-") _ _ _ _ _ _ _ _ _ _ (put .ensures) (put-byte .ensures) (c .before .before .put2 .ensures))
 
 pub put-short-spec : {M : Type 1} → statement M
 put-short-spec =

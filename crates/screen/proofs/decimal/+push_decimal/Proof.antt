@@ -65,7 +65,9 @@ push-decimal-returns : (t : ℕ) → push-decimal-lts.Need-returns (
   push-decimal-below t,
   push-decimal.Post,
 ) (push-decimal-at t) push-decimal.Post
-push-decimal-returns t c = pushed-one _ _ _ _ _ (c .before .before .before .before .if1 .taken) (c .before .before .push-byte .ensures)
+push-decimal-returns t c =
+    let if1 = c .before .before .before .before .if1 in
+    pushed-one _ _ _ _ _ (if1 .taken) (c .before .before .push-byte .ensures)
 
 push-decimal-push-decimal-requires : (t : ℕ) → push-decimal-lts.Need-push-decimal-requires (
   push-byte-reads.Asked,
@@ -73,7 +75,9 @@ push-decimal-push-decimal-requires : (t : ℕ) → push-decimal-lts.Need-push-de
   push-decimal-below t,
   push-decimal.Post,
 ) (push-decimal-at t) push-decimal.Post
-push-decimal-push-decimal-requires t c κs = let l = decimal-length (c .before .before .before .args .n) (c .before .if1 .left) in (omega arith, omega arith)
+push-decimal-push-decimal-requires t c κs =
+    let args = c .before .before .before .args in
+    let l = decimal-length (args .n) (c .before .if1 .left) in (omega arith, omega arith)
 
 push-decimal-cast-push-byte-2 : (t : ℕ) → push-decimal-lts.Need-cast-push-byte-2 (
   push-byte-reads.Asked,
@@ -97,7 +101,10 @@ push-decimal-push-byte-requires-2 : (t : ℕ) → push-decimal-lts.Need-push-byt
   push-decimal-below t,
   push-decimal.Post,
 ) (push-decimal-at t) push-decimal.Post
-push-decimal-push-byte-requires-2 t c κs = let l = decimal-length (c .before .before .before .before .before .before .before .args .n) (c .before .before .before .before .before .if1 .left) in omega arith
+push-decimal-push-byte-requires-2 t c κs =
+    let args = c .before .before .before .before .before .before .before .args in
+    let if1 = c .before .before .before .before .before .if1 in
+    let l = decimal-length (args .n) (if1 .left) in omega arith
 
 push-decimal-same-length-2 : (t : ℕ) → push-decimal-lts.Need-same-length-2 (
   push-byte-reads.Asked,
@@ -113,7 +120,11 @@ push-decimal-returns-2 : (t : ℕ) → push-decimal-lts.Need-returns-2 (
   push-decimal-below t,
   push-decimal.Post,
 ) (push-decimal-at t) push-decimal.Post
-push-decimal-returns-2 t c = pushed-more _ _ _ _ _ _ _ (c .before .before .before .before .before .before .before .before .if1 .left) (c .before .before .before .before .before .before .before .before .before .before .pre .1) (c .before .before .before .before .before .before .push-decimal .ensures) (c .before .before .push-byte2 .ensures)
+push-decimal-returns-2 t c =
+    let pre = c .before .before .before .before .before .before .before .before .before .before .pre in
+    let if1 = c .before .before .before .before .before .before .before .before .if1 in
+    let push-decimal = c .before .before .before .before .before .before .push-decimal in
+    pushed-more _ _ _ _ _ _ _ (if1 .left) (pre .1) (push-decimal .ensures) (c .before .before .push-byte2 .ensures)
 
 pub +push-decimal-spec : {M : Type 1} → statement M
 +push-decimal-spec = close μ-push-decimal λ t. push-decimal-lts.spec (

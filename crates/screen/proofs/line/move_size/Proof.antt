@@ -14,10 +14,14 @@ decimal-size-requires : tie.Need-decimal-size-requires
 decimal-size-requires c κs = search needs
 
 add-result : tie.Need-add-result
-add-result c = let l = move-length (c .before .before .args .n) (c .before .if1 .left) in let f = move-few (c .before .before .args .n) (c .before .before .fits .n .fits) in omega arith
+add-result c =
+    let args = c .before .before .args in
+    let l = move-length (args .n) (c .before .if1 .left) in let f = move-few (args .n) (c .before .before .fits .n .fits) in omega arith
 
 returns-2 : tie.Need-returns-2
-returns-2 c = let l = move-length (c .before .before .args .n) (c .before .if1 .left) in let f = move-few (c .before .before .args .n) (c .before .before .fits .n .fits) in (omega arith, omega arith)
+returns-2 c =
+    let args = c .before .before .args in
+    let l = move-length (args .n) (c .before .if1 .left) in let f = move-few (args .n) (c .before .before .fits .n .fits) in (omega arith, omega arith)
 
 pub move-size-spec : {M : Type 1} → statement M
 move-size-spec = tie.close (tie.spec returns decimal-size-requires add-result returns-2)

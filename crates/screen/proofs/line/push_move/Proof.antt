@@ -6,25 +6,41 @@ use Rattle.screen.proofs.line.push_move.Statement.{statement}
 use Rattle.screen.proofs.line.push_move.Tie as tie
 
 returns : tie.Need-returns
-returns c = pushed-none (c .before .before .args .n) (c .before .before .args .out .now) (c .before .before .args .at) (c .if1 .taken)
+returns c =
+    let args = c .before .before .args in
+    pushed-none (args .n) (args .out .now) (args .at) (c .if1 .taken)
 
 slice-aggregate-push : tie.Need-slice-aggregate-push
 slice-aggregate-push c = search needs
 
 push-requires : tie.Need-push-requires
-push-requires c κs = let l = move-length (c .before .before .before .before .args .n) (c .before .before .if1 .left) in omega arith
+push-requires c κs =
+    let args = c .before .before .before .before .args in
+    let l = move-length (args .n) (c .before .before .if1 .left) in omega arith
 
 push-decimal-requires : tie.Need-push-decimal-requires
-push-decimal-requires c κs = let l = move-length (c .before .before .before .before .before .before .before .before .args .n) (c .before .before .before .before .before .before .if1 .left) in omega arith
+push-decimal-requires c κs =
+    let args = c .before .before .before .before .before .before .before .before .args in
+    let if1 = c .before .before .before .before .before .before .if1 in
+    let l = move-length (args .n) (if1 .left) in omega arith
 
 push-byte-requires : tie.Need-push-byte-requires
-push-byte-requires c κs = let l = move-length (c .before .before .before .before .before .before .before .before .before .before .before .before .args .n) (c .before .before .before .before .before .before .before .before .before .before .if1 .left) in omega arith
+push-byte-requires c κs =
+    let args = c .before .before .before .before .before .before .before .before .before .before .before .before .args in
+    let if1 = c .before .before .before .before .before .before .before .before .before .before .if1 in
+    let l = move-length (args .n) (if1 .left) in omega arith
 
 same-length : tie.Need-same-length
 same-length c = search needs
 
 returns-2 : tie.Need-returns-2
-returns-2 c = pushed-move (c .before .before .before .before .before .before .before .before .before .before .before .before .before .before .before .args .n) (c .before .before .before .before .before .before .before .before .before .before .before .before .before .before .before .args .out .now) _ _ _ (c .before .before .before .before .before .before .before .before .before .before .before .before .before .before .before .args .at) _ _ _ (c .before .before .before .before .before .before .before .before .before .before .before .before .before .if1 .left) (c .before .before .before .before .before .before .before .before .before .before .before .before .before .before .before .pre) (c .before .before .before .before .before .before .before .before .before .before .push .ensures) (c .before .before .before .before .before .before .push-decimal .ensures) (c .before .before .push-byte .ensures)
+returns-2 c =
+    let args = c .before .before .before .before .before .before .before .before .before .before .before .before .before .before .before .args in
+    let pre = c .before .before .before .before .before .before .before .before .before .before .before .before .before .before .before .pre in
+    let if1 = c .before .before .before .before .before .before .before .before .before .before .before .before .before .if1 in
+    let push = c .before .before .before .before .before .before .before .before .before .before .push in
+    let push-decimal = c .before .before .before .before .before .before .push-decimal in
+    pushed-move (args .n) (args .out .now) _ _ _ (args .at) _ _ _ (if1 .left) (pre) (push .ensures) (push-decimal .ensures) (c .before .before .push-byte .ensures)
 
 pub push-move-spec : {M : Type 1} → statement M
 push-move-spec =

@@ -26,7 +26,8 @@ sub-if1 c = search needs
 
 returns : tie.Need-returns
 returns c =
-    let n = redraw-length (c .before .before .before .before .before .args .prompt .now) (c .before .before .before .before .before .args .content .now) (c .before .before .before .before .before .args .cursor) in
+    let args = c .before .before .before .before .before .args in
+    let n = redraw-length (args .prompt .now) (args .content .now) (args .cursor) in
     let m = ap (λ (k : ℕ). length (moveBack k)) (c .before .before .beyond .ensures) in
     omega arith
 
@@ -35,7 +36,8 @@ add-result c = search needs
 
 returns-2 : tie.Need-returns-2
 returns-2 c =
-    let n = redraw-length (c .before .before .before .before .before .args .prompt .now) (c .before .before .before .before .before .args .content .now) (c .before .before .before .before .before .args .cursor) in
+    let args = c .before .before .before .before .before .args in
+    let n = redraw-length (args .prompt .now) (args .content .now) (args .cursor) in
     let m = ap (λ (k : ℕ). length (moveBack k)) (c .before .before .beyond .ensures) in
     omega arith
 

@@ -7,7 +7,9 @@ use Rattle.session.proofs.pressing.press.Statement.{statement}
 use Rattle.session.proofs.pressing.press.Tie as tie
 
 returns : tie.Need-returns
-returns c = press-short (c .before .before .before .before .args .session) (c .before .before .before .before .args .image .now) (c .before .before .before .before .args .slots .now) (c .before .before .before .before .args .byte) (c .before .before .before .before .args .out .now) (c .if1 .taken)
+returns c =
+    let args = c .before .before .before .before .args in
+    press-short (args .session) (args .image .now) (args .slots .now) (args .byte) (args .out .now) (c .if1 .taken)
 
 part-requires : tie.Need-part-requires
 part-requires c κs = search needs
@@ -19,7 +21,12 @@ enum-known-n : tie.Need-enum-known-n
 enum-known-n c = search needs
 
 returns-2 : tie.Need-returns-2
-returns-2 c = press-refused (c .before .before .before .before .before .before .before .before .before .args .session) (c .before .before .before .before .before .before .before .before .before .args .image .now) (c .before .before .before .before .before .before .before .before .before .args .slots .now) (c .before .before .before .before .before .before .before .before .before .args .byte) (c .before .before .before .before .before .before .before .before .before .args .out .now) _ (c .before .before .before .before .part .ensures) _ _ (c .before .before .before .check-before .ensures) (c .before .n .given .1) (c .before .before .before .before .before .if1 .left)
+returns-2 c =
+    let args = c .before .before .before .before .before .before .before .before .before .args in
+    let if1 = c .before .before .before .before .before .if1 in
+    let part = c .before .before .before .before .part in
+    let check-before = c .before .before .before .check-before in
+    press-refused (args .session) (args .image .now) (args .slots .now) (args .byte) (args .out .now) _ (part .ensures) _ _ (check-before .ensures) (c .before .n .given .1) (if1 .left)
 
 enum-told : tie.Need-enum-told
 enum-told c = search needs
@@ -32,7 +39,12 @@ slice-aggregate-press-with-2 c = search needs
 
 press-with-requires : tie.Need-press-with-requires
 press-with-requires c κs =
-    (ap (treeBefore (c .before .before .before .before .before .before .before .before .before .before .before .before .args .byte)) (sym (c .before .before .before .before .before .before .before .part .ensures)) ∙ sym (c .before .before .before .before .before .before .check-before .ensures) ∙ c .before .before .before .before .enum-told .given .1, refl, refl, c .before .before .before .before .before .before .before .before .if1 .left)
+    let args = c .before .before .before .before .before .before .before .before .before .before .before .before .args in
+    let if1 = c .before .before .before .before .before .before .before .before .if1 in
+    let part = c .before .before .before .before .before .before .before .part in
+    let check-before = c .before .before .before .before .before .before .check-before in
+    let enum-told = c .before .before .before .before .enum-told in
+    (ap (treeBefore (args .byte)) (sym (part .ensures)) ∙ sym (check-before .ensures) ∙ enum-told .given .1, refl, refl, if1 .left)
 
 same-length : tie.Need-same-length
 same-length c = search needs

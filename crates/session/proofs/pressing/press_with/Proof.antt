@@ -16,10 +16,16 @@ slice-aggregate-key : tie.Need-slice-aggregate-key
 slice-aggregate-key c = search needs
 
 sub-key : tie.Need-sub-key
-sub-key c = omega (arith, length-set (c .before .before .before .before .before .before .before .before .before .args .screen .now) 0 0x22, c .before .before .before .before .before .before .before .before .before .pre .2)
+sub-key c =
+    let args = c .before .before .before .before .before .before .before .before .before .args in
+    let pre = c .before .before .before .before .before .before .before .before .before .pre in
+    omega (arith, length-set (args .screen .now) 0 0x22, pre .2)
 
 part-key-start : tie.Need-part-key-start
-part-key-start c = omega (arith, length-set (c .before .before .before .before .before .before .before .before .before .args .screen .now) 0 0x22, c .before .before .before .before .before .before .before .before .before .pre .2)
+part-key-start c =
+    let args = c .before .before .before .before .before .before .before .before .before .args in
+    let pre = c .before .before .before .before .before .before .before .before .before .pre in
+    omega (arith, length-set (args .screen .now) 0 0x22, pre .2)
 
 part-key-end : tie.Need-part-key-end
 part-key-end c = search needs
@@ -36,8 +42,12 @@ after-requires c κs = search needs
 print-pressed-requires : tie.Need-print-pressed-requires
 unfolding prompt ascii
 print-pressed-requires c κs =
-    let r = press-ready (c .before .before .before .before .before .before .before .before .before .before .before .before .before .before .before .before .before .before .before .before .before .before .args .session) (c .before .before .before .before .before .before .before .before .before .before .before .before .before .before .before .before .before .before .before .before .before .before .args .slots .now) (c .before .before .before .before .before .before .before .before .before .before .before .before .before .before .before .before .before .before .before .before .before .before .args .line .now) (c .before .before .before .before .before .before .before .before .before .before .before .before .before .before .before .before .before .before .before .before .before .before .args .screen .now) _ _ _ _ _ (c .before .before .before .before .before .before .before .before .before .before .before .before .before .before .before .before .before .before .before .before .before .before .pre .1) (c .before .before .before .before .before .before .before .before .before .before .before .before .before .before .before .before .before .before .before .before .before .before .pre .2) (c .before .before .before .before .before .before .before .before .before .before .before .key .ensures) (c .before .before .before .before .before .before .before .before .before .before .before .before .before .before .before .before .before .before .before .before .before .before .args .image .now) _ (c .before .before .before .before .before .before .before .before .before .before .before .before .before .before .before .before .before .before .before .before .before .before .pre .0) (c .before .before .before .before .part .ensures) in
-    (r .0, r .1, c .before .before .before .before .before .before .before .before .before .before .before .before .before .before .before .before .before .before .before .before .before .before .pre .3)
+    let args = c .before .before .before .before .before .before .before .before .before .before .before .before .before .before .before .before .before .before .before .before .before .before .args in
+    let pre = c .before .before .before .before .before .before .before .before .before .before .before .before .before .before .before .before .before .before .before .before .before .before .pre in
+    let key = c .before .before .before .before .before .before .before .before .before .before .before .key in
+    let part = c .before .before .before .before .part in
+    let r = press-ready (args .session) (args .slots .now) (args .line .now) (args .screen .now) _ _ _ _ _ (pre .1) (pre .2) (key .ensures) (args .image .now) _ (pre .0) (part .ensures) in
+    (r .0, r .1, pre .3)
 
 same-length : tie.Need-same-length
 same-length c = search needs
@@ -47,14 +57,24 @@ same-length-2 c = search needs
 
 same-length-3 : tie.Need-same-length-3
 unfolding prompt ascii
-same-length-3 c = press-back (c .before .before .before .before .before .before .before .before .before .before .before .before .before .before .before .before .before .before .before .before .before .before .before .before .before .args .session) (c .before .before .before .before .before .before .before .before .before .before .before .before .before .before .before .before .before .before .before .before .before .before .before .before .before .args .slots .now) (c .before .before .before .before .before .before .before .before .before .before .before .before .before .before .before .before .before .before .before .before .before .before .before .before .before .args .line .now) (c .before .before .before .before .before .before .before .before .before .before .before .before .before .before .before .before .before .before .before .before .before .before .before .before .before .args .screen .now) _ _ _ _ _ (c .before .before .before .before .before .before .before .before .before .before .before .before .before .before .before .before .before .before .before .before .before .before .before .before .before .pre .1) (c .before .before .before .before .before .before .before .before .before .before .before .before .before .before .before .before .before .before .before .before .before .before .before .before .before .pre .2) (c .before .before .before .before .before .before .before .before .before .before .before .before .before .before .key .ensures) ∙ sym (c .before .before .before .before .before .before .before .before .before .before .before .before .before .before .before .before .before .before .before .before .before .before .before .before .before .pre .2)
+same-length-3 c =
+    let args = c .before .before .before .before .before .before .before .before .before .before .before .before .before .before .before .before .before .before .before .before .before .before .before .before .before .args in
+    let pre = c .before .before .before .before .before .before .before .before .before .before .before .before .before .before .before .before .before .before .before .before .before .before .before .before .before .pre in
+    let key = c .before .before .before .before .before .before .before .before .before .before .before .before .before .before .key in
+    press-back (args .session) (args .slots .now) (args .line .now) (args .screen .now) _ _ _ _ _ (pre .1) (pre .2) (key .ensures) ∙ sym (pre .2)
 
 same-length-4 : tie.Need-same-length-4
 same-length-4 c = search needs
 
 returns : tie.Need-returns
 unfolding prompt ascii
-returns c = press-done (c .before .before .before .before .before .before .before .before .before .before .before .before .before .before .before .before .before .before .before .before .before .before .before .before .before .args .session) (c .before .before .before .before .before .before .before .before .before .before .before .before .before .before .before .before .before .before .before .before .before .before .before .before .before .args .slots .now) (c .before .before .before .before .before .before .before .before .before .before .before .before .before .before .before .before .before .before .before .before .before .before .before .before .before .args .line .now) (c .before .before .before .before .before .before .before .before .before .before .before .before .before .before .before .before .before .before .before .before .before .before .before .before .before .args .screen .now) _ _ _ _ _ (c .before .before .before .before .before .before .before .before .before .before .before .before .before .before .before .before .before .before .before .before .before .before .before .before .before .pre .1) (c .before .before .before .before .before .before .before .before .before .before .before .before .before .before .before .before .before .before .before .before .before .before .before .before .before .pre .2) (c .before .before .before .before .before .before .before .before .before .before .before .before .before .before .key .ensures) (c .before .before .before .before .before .before .before .before .before .before .before .before .before .before .before .before .before .before .before .before .before .before .before .before .before .args .image .now) _ (c .before .before .before .before .before .before .before .before .before .before .before .before .before .before .before .before .before .before .before .before .before .before .before .before .before .args .out .now) _ _ _ (c .before .before .before .before .before .before .before .before .before .before .before .before .before .before .before .before .before .before .before .before .before .before .before .before .before .pre .0) (c .before .before .before .before .before .before .before .before .before .before .before .before .before .before .before .before .before .before .before .before .before .before .before .before .before .pre .3) (c .before .before .before .before .before .before .before .part .ensures) (c .before .before .before .before .before .before .after .ensures) (c .before .before .print-pressed .ensures)
+returns c =
+    let args = c .before .before .before .before .before .before .before .before .before .before .before .before .before .before .before .before .before .before .before .before .before .before .before .before .before .args in
+    let pre = c .before .before .before .before .before .before .before .before .before .before .before .before .before .before .before .before .before .before .before .before .before .before .before .before .before .pre in
+    let key = c .before .before .before .before .before .before .before .before .before .before .before .before .before .before .key in
+    let part = c .before .before .before .before .before .before .before .part in
+    let after = c .before .before .before .before .before .before .after in
+    press-done (args .session) (args .slots .now) (args .line .now) (args .screen .now) _ _ _ _ _ (pre .1) (pre .2) (key .ensures) (args .image .now) _ (args .out .now) _ _ _ (pre .0) (pre .3) (part .ensures) (after .ensures) (c .before .before .print-pressed .ensures)
 
 pub press-with-spec : {M : Type 1} → statement M
 press-with-spec =

@@ -11,13 +11,21 @@ print-requires : tie.Need-print-requires
 print-requires c κs = search needs
 
 run-line-requires : tie.Need-run-line-requires
-run-line-requires c κs = (c .before .before .before .before .before .before .before .before .before .pre .0, c .before .before .before .before .before .before .before .before .before .pre .1, feed-room (c .before .before .before .before .before .before .before .before .before .args .out .now) _ _ (c .before .before .before .before .before .before .before .before .before .pre .2) (c .before .before .before .print .ensures))
+run-line-requires c κs =
+    let pre = c .before .before .before .before .before .before .before .before .before .pre in
+    let args = c .before .before .before .before .before .before .before .before .before .args in
+    let print = c .before .before .before .print in
+    (pre .0, pre .1, feed-room (args .out .now) _ _ (pre .2) (print .ensures))
 
 same-length : tie.Need-same-length
 same-length c = search needs
 
 returns : tie.Need-returns
-returns c = entered (c .before .before .before .before .before .before .before .before .before .before .before .before .args .out .now) _ _ (c .before .before .before .before .before .before .before .before .before .before .before .before .pre .2) (c .before .before .before .before .before .before .print .ensures) _ _ _ _ (c .before .before .run-line .ensures)
+returns c =
+    let args = c .before .before .before .before .before .before .before .before .before .before .before .before .args in
+    let pre = c .before .before .before .before .before .before .before .before .before .before .before .before .pre in
+    let print = c .before .before .before .before .before .before .print in
+    entered (args .out .now) _ _ (pre .2) (print .ensures) _ _ _ _ (c .before .before .run-line .ensures)
 
 pub print-entered-spec : {M : Type 1} → statement M
 print-entered-spec =

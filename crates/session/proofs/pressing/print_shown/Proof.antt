@@ -11,13 +11,20 @@ part-requires : tie.Need-part-requires
 part-requires c κs = search needs
 
 print-screen-requires : tie.Need-print-screen-requires
-print-screen-requires c κs = shown-ready (c .before .before .before .before .args .screen .now) (c .before .before .before .before .args .size) (c .before .before .before .before .pre .0) (c .before .before .before .before .pre .1) (c .before .before .before .before .args .out .now) _ (c .before .before .before .before .pre .2) (c .before .part .ensures)
+print-screen-requires c κs =
+    let args = c .before .before .before .before .args in
+    let pre = c .before .before .before .before .pre in
+    shown-ready (args .screen .now) (args .size) (pre .0) (pre .1) (args .out .now) _ (pre .2) (c .before .part .ensures)
 
 same-length : tie.Need-same-length
 same-length c = search needs
 
 returns : tie.Need-returns
-returns c = shown-done (c .before .before .before .before .before .before .before .args .screen .now) (c .before .before .before .before .before .before .before .args .size) (c .before .before .before .before .before .before .before .pre .0) (c .before .before .before .before .before .before .before .pre .1) (c .before .before .before .before .before .before .before .args .out .now) _ _ _ (c .before .before .before .before .part .ensures) (c .before .before .print-screen .ensures)
+returns c =
+    let args = c .before .before .before .before .before .before .before .args in
+    let pre = c .before .before .before .before .before .before .before .pre in
+    let part = c .before .before .before .before .part in
+    shown-done (args .screen .now) (args .size) (pre .0) (pre .1) (args .out .now) _ _ _ (part .ensures) (c .before .before .print-screen .ensures)
 
 pub print-shown-spec : {M : Type 1} → statement M
 print-shown-spec =

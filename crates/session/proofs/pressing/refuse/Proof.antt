@@ -16,7 +16,10 @@ same-length : tie.Need-same-length
 same-length c = search needs
 
 returns-2 : tie.Need-returns-2
-returns-2 c = record { short = λ l. absurd (omega (arith, c .before .before .before .before .if1 .left)); told = λ m. refusal-laid _ (c .before .before .before .before .before .before .args .out .now) _ _ (c .before .before .print-bad-line .ensures) }
+returns-2 c =
+    let args = c .before .before .before .before .before .before .args in
+    let if1 = c .before .before .before .before .if1 in
+    record { short = λ l. absurd (omega (arith, if1 .left)); told = λ m. refusal-laid _ (args .out .now) _ _ (c .before .before .print-bad-line .ensures) }
 
 pub refuse-spec : {M : Type 1} → statement M
 refuse-spec = tie.close (tie.spec returns print-bad-line-requires same-length returns-2)

@@ -26,16 +26,28 @@ same-length : tie.Need-same-length
 same-length c = search needs
 
 returns : tie.Need-returns
-returns c = absurd (print-never (c .before .before .before .before .before .before .before .before .args .frame .now) (c .before .before .before .before .before .before .before .before .args .out .now) _ (c .before .before .before .before .before .before .before .before .args .at) _ _ (c .before .before .before .before .before .before .before .before .pre) (c .before .before .before .before .write-line .ensures) (c .enum-told .given .1))
+returns c =
+    let args = c .before .before .before .before .before .before .before .before .args in
+    let pre = c .before .before .before .before .before .before .before .before .pre in
+    let write-line = c .before .before .before .before .write-line in
+    absurd (print-never (args .frame .now) (args .out .now) _ (args .at) _ _ (pre) (write-line .ensures) (c .enum-told .given .1))
 
 add-result : tie.Need-add-result
-add-result c = let e = print-count (c .before .before .before .before .before .before .before .before .before .args .frame .now) (c .before .before .before .before .before .before .before .before .before .args .out .now) _ (c .before .before .before .before .before .before .before .before .before .args .at) _ _ (c .before .before .before .before .before .before .before .before .before .pre) (c .before .before .before .before .before .write-line .ensures) (c .before .n .given .1) in search needs
+add-result c =
+    let args = c .before .before .before .before .before .before .before .before .before .args in
+    let pre = c .before .before .before .before .before .before .before .before .before .pre in
+    let write-line = c .before .before .before .before .before .write-line in
+    let e = print-count (args .frame .now) (args .out .now) _ (args .at) _ _ (pre) (write-line .ensures) (c .before .n .given .1) in search needs
 
 same-length-2 : tie.Need-same-length-2
 same-length-2 c = search needs
 
 returns-2 : tie.Need-returns-2
-returns-2 c = print-told (c .before .before .before .before .before .before .before .before .before .args .frame .now) (c .before .before .before .before .before .before .before .before .before .args .out .now) _ (c .before .before .before .before .before .before .before .before .before .args .at) _ _ (c .before .before .before .before .before .before .before .before .before .pre) (c .before .before .before .before .before .write-line .ensures) (c .before .n .given .1)
+returns-2 c =
+    let args = c .before .before .before .before .before .before .before .before .before .args in
+    let pre = c .before .before .before .before .before .before .before .before .before .pre in
+    let write-line = c .before .before .before .before .before .write-line in
+    print-told (args .frame .now) (args .out .now) _ (args .at) _ _ (pre) (write-line .ensures) (c .before .n .given .1)
 
 pub print-spec : {M : Type 1} → statement M
 print-spec =

@@ -7,10 +7,16 @@ use Rattle.session.proofs.running.print_first.Statement.{statement}
 use Rattle.session.proofs.running.print_first.Tie as tie
 
 slice-aggregate-print : tie.Need-slice-aggregate-print
-slice-aggregate-print c = sym (length-take-le (c .before .before .before .args .size) (c .before .before .before .args .text .now) (c .before .before .before .pre .0))
+slice-aggregate-print c =
+    let args = c .before .before .before .args in
+    let pre = c .before .before .before .pre in
+    sym (length-take-le (args .size) (args .text .now) (pre .0))
 
 print-requires : tie.Need-print-requires
-print-requires c κs = omega (arith, length-take-le (c .before .before .before .before .args .size) (c .before .before .before .before .args .text .now) (c .before .before .before .before .pre .0), c .before .before .before .before .pre .1)
+print-requires c κs =
+    let args = c .before .before .before .before .args in
+    let pre = c .before .before .before .before .pre in
+    omega (arith, length-take-le (args .size) (args .text .now) (pre .0), pre .1)
 
 same-length : tie.Need-same-length
 same-length c = search needs

@@ -28,7 +28,8 @@ returns : tie.Need-returns
 returns c =
     let a = c .before .before .before .before .before .before .before .before .before .before .before .args in
     let p = c .before .before .before .before .before .before .before .before .before .before .before .pre in
-    let e = ap (λ (x : List ℕ). take (3 + a .size) x) (c .before .before .before .before .before .before .before .put-head .ensures) ∙ handler-frame (a .text .now) (a .size) (p .0) (p .1) (a .handler) in
+    let put-head = c .before .before .before .before .before .before .before .put-head in
+    let e = ap (λ (x : List ℕ). take (3 + a .size) x) (put-head .ensures) ∙ handler-frame (a .text .now) (a .size) (p .0) (p .1) (a .handler) in
     rw (sym e) (c .before .before .print-first .ensures)
 
 pub print-handler-spec : {M : Type 1} → statement M

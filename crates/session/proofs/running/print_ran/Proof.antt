@@ -9,22 +9,38 @@ enum-known-ran : tie.Need-enum-known-ran
 enum-known-ran c = search needs
 
 print-text-requires : tie.Need-print-text-requires
-print-text-requires c κs = (c .before .before .before .before .before .before .before .pre .1, fits-text 65533 _ _ _ (c .before .before .before .before .before .before .before .pre .0) (c .before .before .before .ran .given .1), c .before .before .before .before .before .before .before .pre .2, omega (arith, c .before .before .before .before .before .before .before .pre .3))
+print-text-requires c κs =
+    let pre = c .before .before .before .before .before .before .before .pre in
+    let ran = c .before .before .before .ran in
+    (pre .1, fits-text 65533 _ _ _ (pre .0) (ran .given .1), pre .2, omega (arith, pre .3))
 
 print-prompt-requires : tie.Need-print-prompt-requires
-print-prompt-requires c κs = text-room (c .before .before .before .before .before .before .before .before .before .before .before .args .text .now) _ (c .before .before .before .before .before .before .before .before .before .before .before .pre .1) (fits-text 65533 _ _ _ (c .before .before .before .before .before .before .before .before .before .before .before .pre .0) (c .before .before .before .before .before .before .before .ran .given .1)) (c .before .before .before .before .before .before .before .before .before .before .before .args .out .now) _ (c .before .before .before .before .before .before .before .before .before .before .before .args .at) _ (c .before .before .before .before .before .before .before .before .before .before .before .pre .3) (c .before .before .before .print-text .ensures)
+print-prompt-requires c κs =
+    let args = c .before .before .before .before .before .before .before .before .before .before .before .args in
+    let pre = c .before .before .before .before .before .before .before .before .before .before .before .pre in
+    let ran = c .before .before .before .before .before .before .before .ran in
+    let print-text = c .before .before .before .print-text in
+    text-room (args .text .now) _ (pre .1) (fits-text 65533 _ _ _ (pre .0) (ran .given .1)) (args .out .now) _ (args .at) _ (pre .3) (print-text .ensures)
 
 enum-known-ran-2 : tie.Need-enum-known-ran-2
 enum-known-ran-2 c = search needs
 
 print-text-requires-2 : tie.Need-print-text-requires-2
-print-text-requires-2 c κs = (c .before .before .before .before .before .before .before .pre .1, fits-exit 65533 _ _ (c .before .before .before .before .before .before .before .pre .0) (c .before .before .before .ran2 .given .1), c .before .before .before .before .before .before .before .pre .2, omega (arith, c .before .before .before .before .before .before .before .pre .3))
+print-text-requires-2 c κs =
+    let pre = c .before .before .before .before .before .before .before .pre in
+    let ran2 = c .before .before .before .ran2 in
+    (pre .1, fits-exit 65533 _ _ (pre .0) (ran2 .given .1), pre .2, omega (arith, pre .3))
 
 slice-aggregate-print : tie.Need-slice-aggregate-print
 slice-aggregate-print c = search needs
 
 print-requires : tie.Need-print-requires
-print-requires c κs = let l = text-room (c .before .before .before .before .before .before .before .before .before .before .before .before .args .text .now) _ (c .before .before .before .before .before .before .before .before .before .before .before .before .pre .1) (fits-exit 65533 _ _ (c .before .before .before .before .before .before .before .before .before .before .before .before .pre .0) (c .before .before .before .before .before .before .before .before .ran2 .given .1)) (c .before .before .before .before .before .before .before .before .before .before .before .before .args .out .now) _ (c .before .before .before .before .before .before .before .before .before .before .before .before .args .at) _ (c .before .before .before .before .before .before .before .before .before .before .before .before .pre .3) (c .before .before .before .before .print-text2 .ensures) in omega (arith, l)
+print-requires c κs =
+    let args = c .before .before .before .before .before .before .before .before .before .before .before .before .args in
+    let pre = c .before .before .before .before .before .before .before .before .before .before .before .before .pre in
+    let ran2 = c .before .before .before .before .before .before .before .before .ran2 in
+    let print-text2 = c .before .before .before .before .print-text2 in
+    let l = text-room (args .text .now) _ (pre .1) (fits-exit 65533 _ _ (pre .0) (ran2 .given .1)) (args .out .now) _ (args .at) _ (pre .3) (print-text2 .ensures) in omega (arith, l)
 
 enum-known-ran-3 : tie.Need-enum-known-ran-3
 enum-known-ran-3 c = search needs
@@ -33,10 +49,18 @@ cast-print-handler : tie.Need-cast-print-handler
 cast-print-handler c = search needs
 
 print-handler-requires : tie.Need-print-handler-requires
-print-handler-requires c κs = (c .before .before .before .before .before .before .before .pre .1, fits-handler 65533 _ _ _ (c .before .before .before .before .before .before .before .pre .0) (c .before .before .before .ran3 .given .1), omega (arith, c .before .before .before .before .before .before .before .pre .3))
+print-handler-requires c κs =
+    let pre = c .before .before .before .before .before .before .before .pre in
+    let ran3 = c .before .before .before .ran3 in
+    (pre .1, fits-handler 65533 _ _ _ (pre .0) (ran3 .given .1), omega (arith, pre .3))
 
 print-prompt-requires-2 : tie.Need-print-prompt-requires-2
-print-prompt-requires-2 c κs = handler-room (c .before .before .before .before .before .before .before .before .before .before .before .before .before .args .text .now) _ (c .before .before .before .before .before .before .before .before .before .before .before .before .before .pre .1) (fits-handler 65533 _ _ _ (c .before .before .before .before .before .before .before .before .before .before .before .before .before .pre .0) (c .before .before .before .before .before .before .before .before .before .ran3 .given .1)) _ (c .before .before .before .before .before .before .before .before .before .before .before .before .before .args .out .now) _ (c .before .before .before .before .before .before .before .before .before .before .before .before .before .args .at) _ (c .before .before .before .before .before .before .before .before .before .before .before .before .before .pre .3) (c .before .before .before .before .before .print-handler .ensures)
+print-prompt-requires-2 c κs =
+    let args = c .before .before .before .before .before .before .before .before .before .before .before .before .before .args in
+    let pre = c .before .before .before .before .before .before .before .before .before .before .before .before .before .pre in
+    let ran3 = c .before .before .before .before .before .before .before .before .before .ran3 in
+    let print-handler = c .before .before .before .before .before .print-handler in
+    handler-room (args .text .now) _ (pre .1) (fits-handler 65533 _ _ _ (pre .0) (ran3 .given .1)) _ (args .out .now) _ (args .at) _ (pre .3) (print-handler .ensures)
 
 print-prompt-requires-3 : tie.Need-print-prompt-requires-3
 print-prompt-requires-3 c κs = search needs
@@ -48,7 +72,12 @@ same-length-2 : tie.Need-same-length-2
 same-length-2 c = search needs
 
 returns : tie.Need-returns
-returns c = λ said h. prints-text said _ _ h (c .before .before .before .before .before .before .before .before .before .before .before .before .before .before .args .out .now) _ (c .before .before .before .before .before .before .before .before .before .before .before .before .before .before .args .at) _ _ _ _ _ (c .before .before .before .before .before .before .before .before .before .before .ran .given .1) (fits-text 65533 _ _ _ (c .before .before .before .before .before .before .before .before .before .before .before .before .before .before .pre .0) (c .before .before .before .before .before .before .before .before .before .before .ran .given .1)) (c .before .before .before .before .before .before .before .before .before .before .before .before .before .before .pre .3) (c .before .before .before .before .before .before .print-text .ensures) (c .before .before .print-prompt .ensures)
+returns c =
+    let args = c .before .before .before .before .before .before .before .before .before .before .before .before .before .before .args in
+    let pre = c .before .before .before .before .before .before .before .before .before .before .before .before .before .before .pre in
+    let ran = c .before .before .before .before .before .before .before .before .before .before .ran in
+    let print-text = c .before .before .before .before .before .before .print-text in
+    λ said h. prints-text said _ _ h (args .out .now) _ (args .at) _ _ _ _ _ (ran .given .1) (fits-text 65533 _ _ _ (pre .0) (ran .given .1)) (pre .3) (print-text .ensures) (c .before .before .print-prompt .ensures)
 
 same-length-3 : tie.Need-same-length-3
 same-length-3 c = search needs
@@ -57,7 +86,12 @@ same-length-4 : tie.Need-same-length-4
 same-length-4 c = search needs
 
 returns-2 : tie.Need-returns-2
-returns-2 c = λ said h. prints-exit said _ _ h (c .before .before .before .before .before .before .before .before .before .before .before .before .before .before .before .args .out .now) _ (c .before .before .before .before .before .before .before .before .before .before .before .before .before .before .before .args .at) _ _ _ _ (c .before .before .before .before .before .before .before .before .before .before .before .ran2 .given .1) (fits-exit 65533 _ _ (c .before .before .before .before .before .before .before .before .before .before .before .before .before .before .before .pre .0) (c .before .before .before .before .before .before .before .before .before .before .before .ran2 .given .1)) (c .before .before .before .before .before .before .before .before .before .before .before .before .before .before .before .pre .3) (c .before .before .before .before .before .before .before .print-text2 .ensures) (c .before .before .print .ensures)
+returns-2 c =
+    let args = c .before .before .before .before .before .before .before .before .before .before .before .before .before .before .before .args in
+    let pre = c .before .before .before .before .before .before .before .before .before .before .before .before .before .before .before .pre in
+    let ran2 = c .before .before .before .before .before .before .before .before .before .before .before .ran2 in
+    let print-text2 = c .before .before .before .before .before .before .before .print-text2 in
+    λ said h. prints-exit said _ _ h (args .out .now) _ (args .at) _ _ _ _ (ran2 .given .1) (fits-exit 65533 _ _ (pre .0) (ran2 .given .1)) (pre .3) (print-text2 .ensures) (c .before .before .print .ensures)
 
 same-length-5 : tie.Need-same-length-5
 same-length-5 c = search needs
@@ -66,13 +100,21 @@ same-length-6 : tie.Need-same-length-6
 same-length-6 c = search needs
 
 returns-3 : tie.Need-returns-3
-returns-3 c = λ said h. prints-handler said _ _ h (c .before .before .before .before .before .before .before .before .before .before .before .before .before .before .before .before .args .out .now) _ (c .before .before .before .before .before .before .before .before .before .before .before .before .before .before .before .before .args .at) _ _ _ _ _ (c .before .before .before .before .before .before .before .before .before .before .before .before .ran3 .given .1) (c .before .before .before .before .before .before .before .before .before .before .before .before .before .before .before .before .pre .1) (fits-handler 65533 _ _ _ (c .before .before .before .before .before .before .before .before .before .before .before .before .before .before .before .before .pre .0) (c .before .before .before .before .before .before .before .before .before .before .before .before .ran3 .given .1)) (c .before .before .before .before .before .before .before .before .before .before .before .before .before .before .before .before .pre .3) (c .before .before .before .before .before .before .before .before .print-handler .ensures) (c .before .before .print-prompt2 .ensures)
+returns-3 c =
+    let args = c .before .before .before .before .before .before .before .before .before .before .before .before .before .before .before .before .args in
+    let pre = c .before .before .before .before .before .before .before .before .before .before .before .before .before .before .before .before .pre in
+    let ran3 = c .before .before .before .before .before .before .before .before .before .before .before .before .ran3 in
+    let print-handler = c .before .before .before .before .before .before .before .before .print-handler in
+    λ said h. prints-handler said _ _ h (args .out .now) _ (args .at) _ _ _ _ _ (ran3 .given .1) (pre .1) (fits-handler 65533 _ _ _ (pre .0) (ran3 .given .1)) (pre .3) (print-handler .ensures) (c .before .before .print-prompt2 .ensures)
 
 same-length-7 : tie.Need-same-length-7
 same-length-7 c = search needs
 
 returns-4 : tie.Need-returns-4
-returns-4 c = λ said h. prints-nothing said _ _ h (c .before .before .before .before .before .before .before .args .out .now) _ (c .before .before .before .before .before .before .before .args .at) _ (c .before .before .before .before .match .keys4) (c .before .before .print-prompt3 .ensures)
+returns-4 c =
+    let args = c .before .before .before .before .before .before .before .args in
+    let match = c .before .before .before .before .match in
+    λ said h. prints-nothing said _ _ h (args .out .now) _ (args .at) _ (match .keys4) (c .before .before .print-prompt3 .ensures)
 
 pub print-ran-spec : {M : Type 1} → statement M
 print-ran-spec =

@@ -11,10 +11,16 @@ slice-write-text : tie.Need-slice-write-text
 slice-write-text c = search needs
 
 sub-run : tie.Need-sub-run
-sub-run c = omega (arith, length-set (c .before .before .before .before .args .text .now) 2 0x22, c .before .before .before .before .pre .2)
+sub-run c =
+    let args = c .before .before .before .before .args in
+    let pre = c .before .before .before .before .pre in
+    omega (arith, length-set (args .text .now) 2 0x22, pre .2)
 
 part-run-start : tie.Need-part-run-start
-part-run-start c = omega (arith, length-set (c .before .before .before .before .args .text .now) 2 0x22, c .before .before .before .before .pre .2)
+part-run-start c =
+    let args = c .before .before .before .before .args in
+    let pre = c .before .before .before .before .pre in
+    omega (arith, length-set (args .text .now) 2 0x22, pre .2)
 
 part-run-end : tie.Need-part-run-end
 part-run-end c = search needs
@@ -25,13 +31,21 @@ run-requires c κs = search needs
 print-ran-requires : tie.Need-print-ran-requires
 unfolding Bytes
 print-ran-requires c κs =
-    let r = run-ready (c .before .before .before .before .before .before .before .before .before .before .args .text .now) _ (c .before .before .before .before .before .before .before .before .before .before .pre .2) (c .before .before .before .before .before .before .before .before .before .before .args .image .now) (c .before .before .before .before .before .before .before .before .before .before .args .line .now) _ (λ i. c .before .before .before .before .before .before .before .before .before .shared-slice-known .given i .fits) (c .before .before .before .before .before .before .before .before .before .before .pre .0) (c .before .before .before .before .before .before .before .before .before .before .pre .1) (c .before .before .before .before .run .ensures) in
-    (r .0, r .1, r .2, c .before .before .before .before .before .before .before .before .before .before .pre .3)
+    let args = c .before .before .before .before .before .before .before .before .before .before .args in
+    let pre = c .before .before .before .before .before .before .before .before .before .before .pre in
+    let shared-slice-known = c .before .before .before .before .before .before .before .before .before .shared-slice-known in
+    let run = c .before .before .before .before .run in
+    let r = run-ready (args .text .now) _ (pre .2) (args .image .now) (args .line .now) _ (λ i. shared-slice-known .given i .fits) (pre .0) (pre .1) (run .ensures) in
+    (r .0, r .1, r .2, pre .3)
 
 same-length : tie.Need-same-length
 unfolding Bytes
 same-length c =
-    let back = run-back (c .before .before .before .before .before .before .before .before .before .before .before .before .before .before .before .args .text .now) _ (c .before .before .before .before .before .before .before .before .before .before .before .before .before .before .before .pre .2) (c .before .before .before .before .before .before .before .before .before .before .before .before .before .before .before .args .image .now) (c .before .before .before .before .before .before .before .before .before .before .before .before .before .before .before .args .line .now) _ (λ i. c .before .before .before .before .before .before .before .before .before .before .before .before .before .before .shared-slice-known .given i .fits) (c .before .before .before .before .before .before .before .before .before .before .before .before .before .before .before .pre .0) (c .before .before .before .before .before .before .before .before .before .before .before .before .before .before .before .pre .1) (c .before .before .before .before .before .before .before .before .before .run .ensures) in
+    let args = c .before .before .before .before .before .before .before .before .before .before .before .before .before .before .before .args in
+    let pre = c .before .before .before .before .before .before .before .before .before .before .before .before .before .before .before .pre in
+    let shared-slice-known = c .before .before .before .before .before .before .before .before .before .before .before .before .before .before .shared-slice-known in
+    let run = c .before .before .before .before .before .before .before .before .before .run in
+    let back = run-back (args .text .now) _ (pre .2) (args .image .now) (args .line .now) _ (λ i. shared-slice-known .given i .fits) (pre .0) (pre .1) (run .ensures) in
     search needs
 
 same-length-2 : tie.Need-same-length-2
@@ -39,7 +53,13 @@ same-length-2 c = search needs
 
 returns : tie.Need-returns
 unfolding Bytes
-returns c = c .before .before .before .before .print-ran .ensures _ (run-says (c .before .before .before .before .before .before .before .before .before .before .before .before .before .before .before .args .text .now) _ (c .before .before .before .before .before .before .before .before .before .before .before .before .before .before .before .pre .2) (c .before .before .before .before .before .before .before .before .before .before .before .before .before .before .before .args .image .now) (c .before .before .before .before .before .before .before .before .before .before .before .before .before .before .before .args .line .now) _ (λ i. c .before .before .before .before .before .before .before .before .before .before .before .before .before .before .shared-slice-known .given i .fits) (c .before .before .before .before .before .before .before .before .before .before .before .before .before .before .before .pre .0) (c .before .before .before .before .before .before .before .before .before .before .before .before .before .before .before .pre .1) (c .before .before .before .before .before .before .before .before .before .run .ensures))
+returns c =
+    let args = c .before .before .before .before .before .before .before .before .before .before .before .before .before .before .before .args in
+    let pre = c .before .before .before .before .before .before .before .before .before .before .before .before .before .before .before .pre in
+    let shared-slice-known = c .before .before .before .before .before .before .before .before .before .before .before .before .before .before .shared-slice-known in
+    let run = c .before .before .before .before .before .before .before .before .before .run in
+    let print-ran = c .before .before .before .before .print-ran in
+    print-ran .ensures _ (run-says (args .text .now) _ (pre .2) (args .image .now) (args .line .now) _ (λ i. shared-slice-known .given i .fits) (pre .0) (pre .1) (run .ensures))
 
 pub run-in-spec : {M : Type 1} → statement M
 run-in-spec =

@@ -7,7 +7,9 @@ slice-aggregate-run-in : tie.Need-slice-aggregate-run-in
 slice-aggregate-run-in c = search needs
 
 run-in-requires : tie.Need-run-in-requires
-run-in-requires c κs = (c .before .before .before .before .before .pre .0, c .before .before .before .before .before .pre .1, search needs, c .before .before .before .before .before .pre .2)
+run-in-requires c κs =
+    let pre = c .before .before .before .before .before .pre in
+    (pre .0, pre .1, search needs, pre .2)
 
 same-length : tie.Need-same-length
 same-length c = search needs

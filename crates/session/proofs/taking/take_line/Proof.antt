@@ -8,13 +8,19 @@ use Rattle.session.proofs.taking.take_line.Statement.{statement}
 use Rattle.session.proofs.taking.take_line.Tie as tie
 
 returns : tie.Need-returns
-returns c = line-late (c .before .before .before .before .before .args .session) (c .before .before .before .before .before .args .line .now) (c .before .before .before .before .before .args .image .now) (c .before .before .before .before .before .args .frame .now) (c .if1 .taken)
+returns c =
+    let args = c .before .before .before .before .before .args in
+    line-late (args .session) (args .line .now) (args .image .now) (args .frame .now) (c .if1 .taken)
 
 returns-2 : tie.Need-returns-2
-returns-2 c = line-narrow (c .before .before .before .before .before .before .args .session) (c .before .before .before .before .before .before .args .line .now) (c .before .before .before .before .before .before .args .image .now) (c .before .before .before .before .before .before .args .frame .now) (c .before .if1 .left) (c .if2 .taken)
+returns-2 c =
+    let args = c .before .before .before .before .before .before .args in
+    line-narrow (args .session) (args .line .now) (args .image .now) (args .frame .now) (c .before .if1 .left) (c .if2 .taken)
 
 returns-3 : tie.Need-returns-3
-returns-3 c = line-small (c .before .before .before .before .before .before .before .args .session) (c .before .before .before .before .before .before .before .args .line .now) (c .before .before .before .before .before .before .before .args .image .now) (c .before .before .before .before .before .before .before .args .frame .now) (c .before .before .if1 .left) (c .before .if2 .left) (c .if3 .taken)
+returns-3 c =
+    let args = c .before .before .before .before .before .before .before .args in
+    line-small (args .session) (args .line .now) (args .image .now) (args .frame .now) (c .before .before .if1 .left) (c .before .if2 .left) (c .if3 .taken)
 
 read-line-requires : tie.Need-read-line-requires
 read-line-requires c κs = search needs
@@ -29,15 +35,26 @@ same-length : tie.Need-same-length
 same-length c = search needs
 
 returns-4 : tie.Need-returns-4
-returns-4 c = line-refused (c .before .before .before .before .before .before .before .before .before .before .before .before .before .args .session) (c .before .before .before .before .before .before .before .before .before .before .before .before .before .args .line .now) (c .before .before .before .before .before .before .before .before .before .before .before .before .before .args .image .now) (c .before .before .before .before .before .before .before .before .before .before .before .before .before .args .frame .now) (c .before .before .before .before .before .before .before .before .if1 .left) (c .before .before .before .before .before .before .before .if2 .left) (c .before .before .before .before .before .before .if3 .left) _ _ (c .before .before .before .before .read-line .ensures) _ (form-none (c .before .before .before .before .before .before .before .before .before .before .before .before .before .args .line .now) (c .before .before .before .before .before .before .before .before .before .before .before .before .before .args .frame .now) (c .before .before .before .before .before .before .before .if2 .left) _ _ (c .before .before .before .before .read-line .ensures) (c .before .match .keys2)) (c .refused .ensures)
+returns-4 c =
+    let args = c .before .before .before .before .before .before .before .before .before .before .before .before .before .args in
+    let if1 = c .before .before .before .before .before .before .before .before .if1 in
+    let if2 = c .before .before .before .before .before .before .before .if2 in
+    let if3 = c .before .before .before .before .before .before .if3 in
+    let read-line = c .before .before .before .before .read-line in
+    line-refused (args .session) (args .line .now) (args .image .now) (args .frame .now) (if1 .left) (if2 .left) (if3 .left) _ _ (read-line .ensures) _ (form-none (args .line .now) (args .frame .now) (if2 .left) _ _ (read-line .ensures) (c .before .match .keys2)) (c .refused .ensures)
 
 part-requires : tie.Need-part-requires
 part-requires c κs = search needs
 
 take-frame-requires : tie.Need-take-frame-requires
 take-frame-requires c κs =
-    let some = read-some (c .before .before .before .before .before .before .before .before .before .before .before .before .before .before .before .before .before .args .line .now) (c .before .before .before .before .before .before .before .before .before .before .before .before .before .before .before .before .before .args .frame .now) (c .before .before .before .before .before .before .before .before .before .before .before .if2 .left) _ _ (c .before .before .before .before .before .before .before .before .read-line .ensures) _ (c .before .before .before .before .n .given .1) in
-    (c .before .before .before .before .before .before .before .before .before .before .before .before .if1 .left, rw (c .before .part .ensures) some)
+    let args = c .before .before .before .before .before .before .before .before .before .before .before .before .before .before .before .before .before .args in
+    let if1 = c .before .before .before .before .before .before .before .before .before .before .before .before .if1 in
+    let if2 = c .before .before .before .before .before .before .before .before .before .before .before .if2 in
+    let read-line = c .before .before .before .before .before .before .before .before .read-line in
+    let n = c .before .before .before .before .n in
+    let some = read-some (args .line .now) (args .frame .now) (if2 .left) _ _ (read-line .ensures) _ (n .given .1) in
+    (if1 .left, rw (c .before .part .ensures) some)
 
 same-length-2 : tie.Need-same-length-2
 same-length-2 c = search needs
@@ -47,9 +64,17 @@ same-length-3 c = search needs
 
 returns-5 : tie.Need-returns-5
 returns-5 c =
-    let form = read-form (c .before .before .before .before .before .before .before .before .before .before .before .before .before .before .before .before .before .before .before .before .args .line .now) (c .before .before .before .before .before .before .before .before .before .before .before .before .before .before .before .before .before .before .before .before .args .frame .now) (c .before .before .before .before .before .before .before .before .before .before .before .before .before .before .if2 .left) _ _ (c .before .before .before .before .before .before .before .before .before .before .before .read-line .ensures) _ (c .before .before .before .before .before .before .before .n .given .1) ∙ ap formOf (sym (c .before .before .before .before .part .ensures)) in
-    line-taken (c .before .before .before .before .before .before .before .before .before .before .before .before .before .before .before .before .before .before .before .before .args .session) (c .before .before .before .before .before .before .before .before .before .before .before .before .before .before .before .before .before .before .before .before .args .line .now) (c .before .before .before .before .before .before .before .before .before .before .before .before .before .before .before .before .before .before .before .before .args .image .now) (c .before .before .before .before .before .before .before .before .before .before .before .before .before .before .before .before .before .before .before .before .args .frame .now) (c .before .before .before .before .before .before .before .before .before .before .before .before .before .before .before .if1 .left) (c .before .before .before .before .before .before .before .before .before .before .before .before .before .before .if2 .left) (c .before .before .before .before .before .before .before .before .before .before .before .before .before .if3 .left) _ _ (c .before .before .before .before .before .before .before .before .before .before .before .read-line .ensures) _ _
-    (c .before .before .take-frame .ensures .0 ∙ ap (tookBy (c .before .before .before .before .before .before .before .before .before .before .before .before .before .before .before .before .before .before .before .before .args .session) (c .before .before .before .before .before .before .before .before .before .before .before .before .before .before .before .before .before .before .before .before .args .image .now)) (sym form), c .before .before .take-frame .ensures .1 ∙ ap (imageBy (c .before .before .before .before .before .before .before .before .before .before .before .before .before .before .before .before .before .before .before .before .args .session) (c .before .before .before .before .before .before .before .before .before .before .before .before .before .before .before .before .before .before .before .before .args .image .now)) (sym form))
+    let args = c .before .before .before .before .before .before .before .before .before .before .before .before .before .before .before .before .before .before .before .before .args in
+    let if1 = c .before .before .before .before .before .before .before .before .before .before .before .before .before .before .before .if1 in
+    let if2 = c .before .before .before .before .before .before .before .before .before .before .before .before .before .before .if2 in
+    let if3 = c .before .before .before .before .before .before .before .before .before .before .before .before .before .if3 in
+    let read-line = c .before .before .before .before .before .before .before .before .before .before .before .read-line in
+    let n = c .before .before .before .before .before .before .before .n in
+    let part = c .before .before .before .before .part in
+    let take-frame = c .before .before .take-frame in
+    let form = read-form (args .line .now) (args .frame .now) (if2 .left) _ _ (read-line .ensures) _ (n .given .1) ∙ ap formOf (sym (part .ensures)) in
+    line-taken (args .session) (args .line .now) (args .image .now) (args .frame .now) (if1 .left) (if2 .left) (if3 .left) _ _ (read-line .ensures) _ _
+    (take-frame .ensures .0 ∙ ap (tookBy (args .session) (args .image .now)) (sym form), take-frame .ensures .1 ∙ ap (imageBy (args .session) (args .image .now)) (sym form))
 
 pub take-line-spec : {M : Type 1} → statement M
 take-line-spec =

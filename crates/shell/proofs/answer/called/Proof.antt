@@ -12,10 +12,14 @@ enum-known-reported-2 : tie.Need-enum-known-reported-2
 enum-known-reported-2 c = search needs
 
 returns : tie.Need-returns
-returns c = λ frames out left s. rw (c .before .reported .given .1) at (said-reported (handed (c .before .before .before .args .handler) frames) out left (c .before .before .before .args .reported) s)
+returns c =
+    let args = c .before .before .before .args in
+    λ frames out left s. rw (c .before .reported .given .1) at (said-reported (handed (args .handler) frames) out left (args .reported) s)
 
 returns-2 : tie.Need-returns-2
-returns-2 c = λ frames out left s. rw (c .before .reported2 .given .1) at (said-reported (handed (c .before .before .before .args .handler) frames) out left (c .before .before .before .args .reported) s)
+returns-2 c =
+    let args = c .before .before .before .args in
+    λ frames out left s. rw (c .before .reported2 .given .1) at (said-reported (handed (args .handler) frames) out left (args .reported) s)
 
 pub called-spec : {M : Type 1} → statement M
 called-spec = tie.close (tie.spec enum-known-reported enum-known-reported-2 returns returns-2)

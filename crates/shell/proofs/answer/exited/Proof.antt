@@ -12,10 +12,14 @@ enum-known-answer-2 : tie.Need-enum-known-answer-2
 enum-known-answer-2 c = search needs
 
 returns : tie.Need-returns
-returns c = λ out left s. rw (c .before .answer .given .1) at (said-shown farewell out left (c .before .before .before .args .answer) s)
+returns c =
+    let args = c .before .before .before .args in
+    λ out left s. rw (c .before .answer .given .1) at (said-shown farewell out left (args .answer) s)
 
 returns-2 : tie.Need-returns-2
-returns-2 c = λ out left s. rw (c .before .answer2 .given .1) at (said-shown farewell out left (c .before .before .before .args .answer) s)
+returns-2 c =
+    let args = c .before .before .before .args in
+    λ out left s. rw (c .before .answer2 .given .1) at (said-shown farewell out left (args .answer) s)
 
 pub exited-spec : {M : Type 1} → statement M
 exited-spec = tie.close (tie.spec enum-known-answer enum-known-answer-2 returns returns-2)

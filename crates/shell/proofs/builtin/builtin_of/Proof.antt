@@ -25,7 +25,10 @@ same-requires-2 c κs = search needs
 
 returns-2 : tie.Need-returns-2
 unfolding builtinOf ascii
-returns-2 c = sym (else-is _ _ _ (sym (c .before .before .before .before .same .ensures) ∙ c .before .before .before .if1 .left) ∙ then-is _ _ _ (sym (c .before .same2 .ensures) ∙ c .if2 .taken))
+returns-2 c =
+    let same = c .before .before .before .before .same in
+    let if1 = c .before .before .before .if1 in
+    sym (else-is _ _ _ (sym (same .ensures) ∙ if1 .left) ∙ then-is _ _ _ (sym (c .before .same2 .ensures) ∙ c .if2 .taken))
 
 slice-aggregate-same-3 : tie.Need-slice-aggregate-same-3
 slice-aggregate-same-3 c = search needs
@@ -35,7 +38,12 @@ same-requires-3 c κs = search needs
 
 returns-3 : tie.Need-returns-3
 unfolding builtinOf ascii
-returns-3 c = sym (else-is _ _ _ (sym (c .before .before .before .before .before .before .before .same .ensures) ∙ c .before .before .before .before .before .before .if1 .left) ∙ else-is _ _ _ (sym (c .before .before .before .before .same2 .ensures) ∙ c .before .before .before .if2 .left) ∙ then-is _ _ _ (sym (c .before .same3 .ensures) ∙ c .if3 .taken))
+returns-3 c =
+    let same = c .before .before .before .before .before .before .before .same in
+    let if1 = c .before .before .before .before .before .before .if1 in
+    let same2 = c .before .before .before .before .same2 in
+    let if2 = c .before .before .before .if2 in
+    sym (else-is _ _ _ (sym (same .ensures) ∙ if1 .left) ∙ else-is _ _ _ (sym (same2 .ensures) ∙ if2 .left) ∙ then-is _ _ _ (sym (c .before .same3 .ensures) ∙ c .if3 .taken))
 
 slice-aggregate-same-4 : tie.Need-slice-aggregate-same-4
 slice-aggregate-same-4 c = search needs
@@ -45,11 +53,25 @@ same-requires-4 c κs = search needs
 
 returns-4 : tie.Need-returns-4
 unfolding builtinOf ascii
-returns-4 c = sym (else-is _ _ _ (sym (c .before .before .before .before .before .before .before .before .before .before .same .ensures) ∙ c .before .before .before .before .before .before .before .before .before .if1 .left) ∙ else-is _ _ _ (sym (c .before .before .before .before .before .before .before .same2 .ensures) ∙ c .before .before .before .before .before .before .if2 .left) ∙ else-is _ _ _ (sym (c .before .before .before .before .same3 .ensures) ∙ c .before .before .before .if3 .left) ∙ then-is _ _ _ (sym (c .before .same4 .ensures) ∙ c .if4 .taken))
+returns-4 c =
+    let same = c .before .before .before .before .before .before .before .before .before .before .same in
+    let if1 = c .before .before .before .before .before .before .before .before .before .if1 in
+    let same2 = c .before .before .before .before .before .before .before .same2 in
+    let if2 = c .before .before .before .before .before .before .if2 in
+    let same3 = c .before .before .before .before .same3 in
+    let if3 = c .before .before .before .if3 in
+    sym (else-is _ _ _ (sym (same .ensures) ∙ if1 .left) ∙ else-is _ _ _ (sym (same2 .ensures) ∙ if2 .left) ∙ else-is _ _ _ (sym (same3 .ensures) ∙ if3 .left) ∙ then-is _ _ _ (sym (c .before .same4 .ensures) ∙ c .if4 .taken))
 
 returns-5 : tie.Need-returns-5
 unfolding builtinOf ascii
-returns-5 c = sym (else-is _ _ _ (sym (c .before .before .before .before .before .before .before .before .before .before .same .ensures) ∙ c .before .before .before .before .before .before .before .before .before .if1 .left) ∙ else-is _ _ _ (sym (c .before .before .before .before .before .before .before .same2 .ensures) ∙ c .before .before .before .before .before .before .if2 .left) ∙ else-is _ _ _ (sym (c .before .before .before .before .same3 .ensures) ∙ c .before .before .before .if3 .left) ∙ else-is _ _ _ (sym (c .before .same4 .ensures) ∙ c .if4 .left))
+returns-5 c =
+    let same = c .before .before .before .before .before .before .before .before .before .before .same in
+    let if1 = c .before .before .before .before .before .before .before .before .before .if1 in
+    let same2 = c .before .before .before .before .before .before .before .same2 in
+    let if2 = c .before .before .before .before .before .before .if2 in
+    let same3 = c .before .before .before .before .same3 in
+    let if3 = c .before .before .before .if3 in
+    sym (else-is _ _ _ (sym (same .ensures) ∙ if1 .left) ∙ else-is _ _ _ (sym (same2 .ensures) ∙ if2 .left) ∙ else-is _ _ _ (sym (same3 .ensures) ∙ if3 .left) ∙ else-is _ _ _ (sym (c .before .same4 .ensures) ∙ c .if4 .left))
 
 pub builtin-of-spec : {M : Type 1} → statement M
 builtin-of-spec =

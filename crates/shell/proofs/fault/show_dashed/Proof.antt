@@ -33,7 +33,11 @@ same-length : tie.Need-same-length
 same-length c = search needs
 
 returns : tie.Need-returns
-returns c = rw (dashed-lent (c .before .before .before .before .before .before .before .before .before .before .before .args .dashes) (c .before .before .before .before .before .before .before .before .before .before .before .args .text .now) _ _ _ (c .before .before .before .before .before .before .before .write-fault .ensures) (let p = c .before .before .before .before .before .before .before .before .before .before .before .pre .0 in let q = c .before .before .before .before .before .before .before .before .before .before .before .pre .1 in omega arith)) at (c .before .before .show-message .ensures)
+returns c =
+    let args = c .before .before .before .before .before .before .before .before .before .before .before .args in
+    let pre = c .before .before .before .before .before .before .before .before .before .before .before .pre in
+    let write-fault = c .before .before .before .before .before .before .before .write-fault in
+    rw (dashed-lent (args .dashes) (args .text .now) _ _ _ (write-fault .ensures) (let p = pre .0 in let q = pre .1 in omega arith)) at (c .before .before .show-message .ensures)
 
 pub show-dashed-spec : {M : Type 1} → statement M
 show-dashed-spec =

@@ -17,19 +17,30 @@ array-share-prefix-words : tie.Need-array-share-prefix-words
 array-share-prefix-words c = search needs
 
 slice-aggregate-rest : tie.Need-slice-aggregate-rest
-slice-aggregate-rest c = sym (length-take-le _ _ (let k = c .before .before .put-path .ensures .1 in let p = c .before .before .before .before .before .before .pre .0 in let s = c .before .before .put-path .ensures .0 .size in omega arith))
+slice-aggregate-rest c =
+    let pre = c .before .before .before .before .before .before .pre in
+    let put-path = c .before .before .put-path in
+    sym (length-take-le _ _ (let k = put-path .ensures .1 in let p = pre .0 in let s = put-path .ensures .0 .size in omega arith))
 
 rest-requires : tie.Need-rest-requires
 rest-requires c κs = search needs
 
 show-message-requires : tie.Need-show-message-requires
-show-message-requires c κs = joined-short _ _ (c .before .before .before .before .put-path .result) (c .before .rest .ensures) (let k = c .before .before .before .before .put-path .ensures .1 in let p = c .before .before .before .before .before .before .before .before .pre .0 in omega arith)
+show-message-requires c κs =
+    let pre = c .before .before .before .before .before .before .before .before .pre in
+    let put-path = c .before .before .before .before .put-path in
+    joined-short _ _ (put-path .result) (c .before .rest .ensures) (let k = put-path .ensures .1 in let p = pre .0 in omega arith)
 
 same-length : tie.Need-same-length
 same-length c = search needs
 
 returns : tie.Need-returns
-returns c = rw (c .before .before .before .before .rest .ensures ∙ path-joined (c .before .before .before .before .before .before .before .before .before .before .before .args .path .now) _ _ _ (c .before .before .before .before .before .before .before .put-path .ensures .0) (let k = c .before .before .before .before .before .before .before .put-path .ensures .1 in let p = c .before .before .before .before .before .before .before .before .before .before .before .pre .0 in omega arith)) at (c .before .before .show-message .ensures)
+returns c =
+    let args = c .before .before .before .before .before .before .before .before .before .before .before .args in
+    let pre = c .before .before .before .before .before .before .before .before .before .before .before .pre in
+    let put-path = c .before .before .before .before .before .before .before .put-path in
+    let rest = c .before .before .before .before .rest in
+    rw (rest .ensures ∙ path-joined (args .path .now) _ _ _ (put-path .ensures .0) (let k = put-path .ensures .1 in let p = pre .0 in omega arith)) at (c .before .before .show-message .ensures)
 
 pub show-no-handler-spec : {M : Type 1} → statement M
 show-no-handler-spec =

@@ -24,13 +24,21 @@ number-of-requires c κs = search needs
 
 tell-fault-requires : tie.Need-tell-fault-requires
 unfolding Bytes
-tell-fault-requires c κs = (c .before .before .before .before .judge .ensures .within, c .before .before .before .before .before .before .before .before .before .pre .0, good-short (c .before .before .before .before .before .before .before .before .before .args .image .now) (λ i. c .before .before .before .before .before .before .before .shared-slice-known2 .given i .fits) (c .before .before .before .before .before .before .before .before .before .pre .1), λ q. c .before .if1 .taken (c .before .before .number-of .ensures ∙ q))
+tell-fault-requires c κs =
+    let pre = c .before .before .before .before .before .before .before .before .before .pre in
+    let args = c .before .before .before .before .before .before .before .before .before .args in
+    let shared-slice-known2 = c .before .before .before .before .before .before .before .shared-slice-known2 in
+    let judge = c .before .before .before .before .judge in
+    (judge .ensures .within, pre .0, good-short (args .image .now) (λ i. shared-slice-known2 .given i .fits) (pre .1), λ q. c .before .if1 .taken (c .before .before .number-of .ensures ∙ q))
 
 same-length : tie.Need-same-length
 same-length c = search needs
 
 returns : tie.Need-returns
-returns c = said-same _ _ _ _ _ (words-carried (c .before .before .before .before .before .before .before .before .before .before .before .before .args .words .now) (c .before .before .before .before .before .before .before .before .before .before .before .before .args .image .now) _ _ _ (c .before .before .before .before .before .before .before .judge .ensures .outcome) refl) (c .before .before .tell-fault .ensures _ _)
+returns c =
+    let args = c .before .before .before .before .before .before .before .before .before .before .before .before .args in
+    let judge = c .before .before .before .before .before .before .before .judge in
+    said-same _ _ _ _ _ (words-carried (args .words .now) (args .image .now) _ _ _ (judge .ensures .outcome) refl) (c .before .before .tell-fault .ensures _ _)
 
 sub-handler-of : tie.Need-sub-handler-of
 sub-handler-of c = search needs
@@ -49,15 +57,25 @@ slice-aggregate-tell-command c = search needs
 
 tell-command-requires : tie.Need-tell-command-requires
 tell-command-requires c κs =
-    let j = c .before .before .before .before .before .before .before .before .judge .ensures in
-    let n = sym (c .before .before .before .before .before .before .number-of .ensures) ∙ c .before .before .before .before .before .if1 .left in
-    (j .within, j .kept, let r = j .room in omega arith, c .before .before .before .before .before .before .before .before .before .before .before .before .before .pre .0, n, j .lent n)
+    let pre = c .before .before .before .before .before .before .before .before .before .before .before .before .before .pre in
+    let judge = c .before .before .before .before .before .before .before .before .judge in
+    let number-of = c .before .before .before .before .before .before .number-of in
+    let if1 = c .before .before .before .before .before .if1 in
+    let j = judge .ensures in
+    let n = sym (number-of .ensures) ∙ if1 .left in
+    (j .within, j .kept, let r = j .room in omega arith, pre .0, n, j .lent n)
 
 same-length-2 : tie.Need-same-length-2
 same-length-2 c = search needs
 
 returns-2 : tie.Need-returns-2
-returns-2 c = let j = c .before .before .before .before .before .before .before .before .before .before .before .judge .ensures in let h = c .before .before .before .before .before .handler-of .ensures ∙ ap (λ (fs : List Frame). handlerBy (handlerOf fs)) (j .command (sym (c .before .before .before .before .before .before .before .before .before .number-of .ensures) ∙ c .before .before .before .before .before .before .before .before .if1 .left)) in said-same _ _ _ _ _ (words-carried (c .before .before .before .before .before .before .before .before .before .before .before .before .before .before .before .before .args .words .now) (c .before .before .before .before .before .before .before .before .before .before .before .before .before .before .before .before .args .image .now) _ _ _ (j .outcome) refl) (c .before .before .tell-command .ensures _ h)
+returns-2 c =
+    let args = c .before .before .before .before .before .before .before .before .before .before .before .before .before .before .before .before .args in
+    let judge = c .before .before .before .before .before .before .before .before .before .before .before .judge in
+    let number-of = c .before .before .before .before .before .before .before .before .before .number-of in
+    let if1 = c .before .before .before .before .before .before .before .before .if1 in
+    let handler-of = c .before .before .before .before .before .handler-of in
+    let j = judge .ensures in let h = handler-of .ensures ∙ ap (λ (fs : List Frame). handlerBy (handlerOf fs)) (j .command (sym (number-of .ensures) ∙ if1 .left)) in said-same _ _ _ _ _ (words-carried (args .words .now) (args .image .now) _ _ _ (j .outcome) refl) (c .before .before .tell-command .ensures _ h)
 
 pub execute-command-spec : {M : Type 1} → statement M
 execute-command-spec =

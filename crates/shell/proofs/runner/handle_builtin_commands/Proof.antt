@@ -19,7 +19,11 @@ enum-told c = search needs
 
 show-available-commands-requires : tie.Need-show-available-commands-requires
 unfolding Bytes
-show-available-commands-requires c κs = tree-short (c .before .before .before .before .before .before .before .before .before .args .image .now) (λ i. c .before .before .before .before .before .before .before .before .shared-slice-known .given i .fits) (c .before .before .before .before .before .before .before .before .before .pre .good)
+show-available-commands-requires c κs =
+    let args = c .before .before .before .before .before .before .before .before .before .args in
+    let pre = c .before .before .before .before .before .before .before .before .before .pre in
+    let shared-slice-known = c .before .before .before .before .before .before .before .before .shared-slice-known in
+    tree-short (args .image .now) (λ i. shared-slice-known .given i .fits) (pre .good)
 
 shown-requires : tie.Need-shown-requires
 shown-requires c κs = search needs
@@ -52,25 +56,48 @@ same-length : tie.Need-same-length
 same-length c = search needs
 
 returns : tie.Need-returns
-returns c = said-same _ _ _ _ _ (builtin-is (c .before .before .before .before .before .before .before .before .before .before .before .before .before .args .line .now) (framesOf (c .before .before .before .before .before .before .before .before .before .before .before .before .before .args .image .now)) _ _ _ (c .before .before .before .before .before .before .before .before .trim .ensures) (c .before .before .before .before .before .before .before .builtin-of .ensures) (c .before .before .before .before .before .enum-told .given .1)) (c .shown .ensures _ _ _ (c .before .before .before .show-available-commands .ensures))
+returns c =
+    let args = c .before .before .before .before .before .before .before .before .before .before .before .before .before .args in
+    let trim = c .before .before .before .before .before .before .before .before .trim in
+    let builtin-of = c .before .before .before .before .before .before .before .builtin-of in
+    let enum-told = c .before .before .before .before .before .enum-told in
+    let show-available-commands = c .before .before .before .show-available-commands in
+    said-same _ _ _ _ _ (builtin-is (args .line .now) (framesOf (args .image .now)) _ _ _ (trim .ensures) (builtin-of .ensures) (enum-told .given .1)) (c .shown .ensures _ _ _ (show-available-commands .ensures))
 
 same-length-2 : tie.Need-same-length-2
 same-length-2 c = search needs
 
 returns-2 : tie.Need-returns-2
-returns-2 c = said-same _ _ _ _ _ (builtin-is (c .before .before .before .before .before .before .before .before .before .before .before .before .before .args .line .now) (framesOf (c .before .before .before .before .before .before .before .before .before .before .before .before .before .args .image .now)) _ _ _ (c .before .before .before .before .before .before .before .before .trim .ensures) (c .before .before .before .before .before .before .before .builtin-of .ensures) (c .before .before .before .before .before .enum-told2 .given .1)) (c .exited .ensures _ _ (c .before .before .before .show-goodbye .ensures))
+returns-2 c =
+    let args = c .before .before .before .before .before .before .before .before .before .before .before .before .before .args in
+    let trim = c .before .before .before .before .before .before .before .before .trim in
+    let builtin-of = c .before .before .before .before .before .before .before .builtin-of in
+    let enum-told2 = c .before .before .before .before .before .enum-told2 in
+    let show-goodbye = c .before .before .before .show-goodbye in
+    said-same _ _ _ _ _ (builtin-is (args .line .now) (framesOf (args .image .now)) _ _ _ (trim .ensures) (builtin-of .ensures) (enum-told2 .given .1)) (c .exited .ensures _ _ (show-goodbye .ensures))
 
 same-length-3 : tie.Need-same-length-3
 same-length-3 c = search needs
 
 returns-3 : tie.Need-returns-3
-returns-3 c = said-same _ _ _ _ _ (builtin-is (c .before .before .before .before .before .before .before .before .before .before .before .before .before .args .line .now) (framesOf (c .before .before .before .before .before .before .before .before .before .before .before .before .before .args .image .now)) _ _ _ (c .before .before .before .before .before .before .before .before .trim .ensures) (c .before .before .before .before .before .before .before .builtin-of .ensures) (c .before .before .before .before .before .enum-told3 .given .1)) (c .shown2 .ensures _ _ _ (c .before .before .before .show-clear .ensures))
+returns-3 c =
+    let args = c .before .before .before .before .before .before .before .before .before .before .before .before .before .args in
+    let trim = c .before .before .before .before .before .before .before .before .trim in
+    let builtin-of = c .before .before .before .before .before .before .before .builtin-of in
+    let enum-told3 = c .before .before .before .before .before .enum-told3 in
+    let show-clear = c .before .before .before .show-clear in
+    said-same _ _ _ _ _ (builtin-is (args .line .now) (framesOf (args .image .now)) _ _ _ (trim .ensures) (builtin-of .ensures) (enum-told3 .given .1)) (c .shown2 .ensures _ _ _ (show-clear .ensures))
 
 same-length-4 : tie.Need-same-length-4
 same-length-4 c = search needs
 
 returns-4 : tie.Need-returns-4
-returns-4 c = said-same _ _ _ _ _ (builtin-is (c .before .before .before .before .before .before .before .before .before .before .before .before .args .line .now) (framesOf (c .before .before .before .before .before .before .before .before .before .before .before .before .args .image .now)) _ _ _ (c .before .before .before .before .before .before .before .trim .ensures) (c .before .before .before .before .before .before .builtin-of .ensures) (c .before .before .before .before .enum-told4 .given .1)) (c .before .before .run-other .ensures)
+returns-4 c =
+    let args = c .before .before .before .before .before .before .before .before .before .before .before .before .args in
+    let trim = c .before .before .before .before .before .before .before .trim in
+    let builtin-of = c .before .before .before .before .before .before .builtin-of in
+    let enum-told4 = c .before .before .before .before .enum-told4 in
+    said-same _ _ _ _ _ (builtin-is (args .line .now) (framesOf (args .image .now)) _ _ _ (trim .ensures) (builtin-of .ensures) (enum-told4 .given .1)) (c .before .before .run-other .ensures)
 
 pub handle-builtin-commands-spec : {M : Type 1} → statement M
 handle-builtin-commands-spec =

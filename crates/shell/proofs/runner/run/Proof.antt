@@ -21,10 +21,16 @@ array-share-prefix-words : tie.Need-array-share-prefix-words
 array-share-prefix-words c = search needs
 
 slice-aggregate-run-words : tie.Need-slice-aggregate-run-words
-slice-aggregate-run-words c = let l = c .before .before .split .ensures .1 in let n = c .before .before .split .ensures .0 in sym (length-take-le _ _ (omega arith))
+slice-aggregate-run-words c =
+    let split = c .before .before .split in
+    let l = split .ensures .1 in let n = split .ensures .0 in sym (length-take-le _ _ (omega arith))
 
 run-words-requires : tie.Need-run-words-requires
-run-words-requires c κs = let n = c .before .before .before .split .ensures .0 in (rw length-take (omega arith), trimmed-splits (c .before .before .before .before .before .before .before .before .before .args .line .now) _ _ (c .before .before .before .before .before .trim .ensures) (c .before .before .before .split .ensures .2), c .before .before .before .split .ensures .3)
+run-words-requires c κs =
+    let args = c .before .before .before .before .before .before .before .before .before .args in
+    let trim = c .before .before .before .before .before .trim in
+    let split = c .before .before .before .split in
+    let n = split .ensures .0 in (rw length-take (omega arith), trimmed-splits (args .line .now) _ _ (trim .ensures) (split .ensures .2), split .ensures .3)
 
 same-length : tie.Need-same-length
 same-length c = search needs

@@ -18,13 +18,21 @@ same-length : tie.Need-same-length
 same-length c = search needs
 
 returns : tie.Need-returns
-returns c = (omega arith, search needs, λ h w. absurd (words-there (c .before .before .before .before .before .before .before .args .line .now) (c .before .before .before .tokenize .result) h w (line-by (c .before .before .before .before .before .before .before .args .line .now) _ _ _ (c .before .before .before .tokenize .ensures) (let e = c .before .before .before .before .before .before .before .pre in (omega arith, λ l. omega arith)) _ refl) (c .match .keys2)), split-none)
+returns c =
+    let args = c .before .before .before .before .before .before .before .args in
+    let pre = c .before .before .before .before .before .before .before .pre in
+    let tokenize = c .before .before .before .tokenize in
+    (omega arith, search needs, λ h w. absurd (words-there (args .line .now) (tokenize .result) h w (line-by (args .line .now) _ _ _ (tokenize .ensures) (let e = pre in (omega arith, λ l. omega arith)) _ refl) (c .match .keys2)), split-none)
 
 same-length-2 : tie.Need-same-length-2
 same-length-2 c = search needs
 
 returns-2 : tie.Need-returns-2
-returns-2 c = let t = line-by (c .before .before .before .before .before .before .before .before .before .args .line .now) _ _ _ (c .before .before .before .before .before .tokenize .ensures) (let e = c .before .before .before .before .before .before .before .before .before .pre in (omega arith, λ l. omega arith)) _ (c .before .n .given .1) in (let a = t .2 in let b = t .3 in omega arith, search needs, λ h w. ap textsIn (line-words (c .before .before .before .before .before .before .before .before .before .args .line .now) _ _ _ (c .before .before .before .before .before .tokenize .ensures) (let e = c .before .before .before .before .before .before .before .before .before .pre in (omega arith, λ l. omega arith)) _ (c .before .n .given .1)) ∙ line-texts (c .before .before .before .before .before .before .before .before .before .args .line .now) (t .2), rw (line-words (c .before .before .before .before .before .before .before .before .before .args .line .now) _ _ _ (c .before .before .before .before .before .tokenize .ensures) (let e = c .before .before .before .before .before .before .before .before .before .pre in (omega arith, λ l. omega arith)) _ (c .before .n .given .1)) (line-split (c .before .before .before .before .before .before .before .before .before .args .line .now) (t .2)))
+returns-2 c =
+    let args = c .before .before .before .before .before .before .before .before .before .args in
+    let pre = c .before .before .before .before .before .before .before .before .before .pre in
+    let tokenize = c .before .before .before .before .before .tokenize in
+    let t = line-by (args .line .now) _ _ _ (tokenize .ensures) (let e = pre in (omega arith, λ l. omega arith)) _ (c .before .n .given .1) in (let a = t .2 in let b = t .3 in omega arith, search needs, λ h w. ap textsIn (line-words (args .line .now) _ _ _ (tokenize .ensures) (let e = pre in (omega arith, λ l. omega arith)) _ (c .before .n .given .1)) ∙ line-texts (args .line .now) (t .2), rw (line-words (args .line .now) _ _ _ (tokenize .ensures) (let e = pre in (omega arith, λ l. omega arith)) _ (c .before .n .given .1)) (line-split (args .line .now) (t .2)))
 
 pub split-spec : {M : Type 1} → statement M
 split-spec =

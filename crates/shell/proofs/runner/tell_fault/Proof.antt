@@ -17,7 +17,9 @@ number-of-requires : tie.Need-number-of-requires
 number-of-requires c κs = search needs
 
 cast-number : tie.Need-cast-number
-cast-number c = let e = c .number-of .ensures in let h = number-small (c .before .before .before .before .before .args .judged .verdict) in omega arith
+cast-number c =
+    let args = c .before .before .before .before .before .args in
+    let e = c .number-of .ensures in let h = number-small (args .judged .verdict) in omega arith
 
 dashes-of-requires : tie.Need-dashes-of-requires
 dashes-of-requires c κs = search needs
@@ -42,12 +44,15 @@ told-of-requires c κs = search needs
 
 show-message-requires : tie.Need-show-message-requires
 show-message-requires c κs =
-    let z = c .before .before .before .before .before .before .before .before .before .before .before .before .pre .1 in
-    let y = c .before .before .before .before .before .before .before .before .before .before .before .before .pre .2 in
-    let w = c .before .before .before .before .before .before .before .before .before .before .before .before .pre .0 .inside in
-    let m = part-most (c .before .before .before .before .before .before .before .before .before .before .before .before .args .image .now) (c .before .before .before .before .before .before .before .before .before .before .before .before .args .judged .place) in
-    let t : length (textOf (c .before .before .before .before .before .before .before .before .before .before .before .before .args .words .now) (imagePart (c .before .before .before .before .before .before .before .before .before .before .before .before .args .image .now) (c .before .before .before .before .before .before .before .before .before .before .before .before .args .judged .place)) (c .before .before .before .before .before .before .before .before .before .before .before .before .args .judged .verdict)) ≤ 32768 = text-short (c .before .before .before .before .before .before .before .before .before .before .before .before .args .words .now) (imagePart (c .before .before .before .before .before .before .before .before .before .before .before .before .args .image .now) (c .before .before .before .before .before .before .before .before .before .before .before .before .args .judged .place)) (c .before .before .before .before .before .before .before .before .before .before .before .before .args .judged .verdict) (omega arith) (omega arith) in
-    let e = ap length (c .before .before .before .text-of .ensures) in
+    let pre = c .before .before .before .before .before .before .before .before .before .before .before .before .pre in
+    let args = c .before .before .before .before .before .before .before .before .before .before .before .before .args in
+    let text-of = c .before .before .before .text-of in
+    let z = pre .1 in
+    let y = pre .2 in
+    let w = pre .0 .inside in
+    let m = part-most (args .image .now) (args .judged .place) in
+    let t : length (textOf (args .words .now) (imagePart (args .image .now) (args .judged .place)) (args .judged .verdict)) ≤ 32768 = text-short (args .words .now) (imagePart (args .image .now) (args .judged .place)) (args .judged .verdict) (omega arith) (omega arith) in
+    let e = ap length (text-of .ensures) in
     omega arith
 
 shown-requires : tie.Need-shown-requires
@@ -57,17 +62,30 @@ same-length : tie.Need-same-length
 same-length c = search needs
 
 returns : tie.Need-returns
-returns c = λ handler rest. said-same _ _ _ _ _ (plain-carried (c .before .before .before .before .before .before .before .before .before .before .before .before .before .before .before .before .args .words .now) (c .before .before .before .before .before .before .before .before .before .before .before .before .before .before .before .before .args .image .now) rest (c .before .before .before .before .before .before .before .before .before .before .before .before .before .before .before .before .args .judged) handler _ _ _ _ (c .before .before .before .before .before .before .before .before .before .before .before .number-of .ensures) (c .before .before .before .before .before .before .before .before .before .before .before .before .before .before .before .before .pre .3) (c .before .before .before .before .before .before .before .before .before .before .dashes-of .ensures .0) (c .before .before .before .before .before .before .before .text-of .ensures) (c .before .before .before .before .before .told-of .ensures) (c .before .before .before .before .before .before .if1 .taken)) (c .shown .ensures _ _ _ (c .before .before .before .show-message .ensures))
+returns c =
+    let args = c .before .before .before .before .before .before .before .before .before .before .before .before .before .before .before .before .args in
+    let pre = c .before .before .before .before .before .before .before .before .before .before .before .before .before .before .before .before .pre in
+    let number-of = c .before .before .before .before .before .before .before .before .before .before .before .number-of in
+    let dashes-of = c .before .before .before .before .before .before .before .before .before .before .dashes-of in
+    let text-of = c .before .before .before .before .before .before .before .text-of in
+    let if1 = c .before .before .before .before .before .before .if1 in
+    let told-of = c .before .before .before .before .before .told-of in
+    let show-message = c .before .before .before .show-message in
+    λ handler rest. said-same _ _ _ _ _ (plain-carried (args .words .now) (args .image .now) rest (args .judged) handler _ _ _ _ (number-of .ensures) (pre .3) (dashes-of .ensures .0) (text-of .ensures) (told-of .ensures) (if1 .taken)) (c .shown .ensures _ _ _ (show-message .ensures))
 
 told-of-requires-2 : tie.Need-told-of-requires-2
 told-of-requires-2 c κs = search needs
 
 show-dashed-requires : tie.Need-show-dashed-requires
 show-dashed-requires c κs =
-    let d = c .before .before .before .before .before .before .dashes-of .ensures in
-    let z = c .before .before .before .before .before .before .before .before .before .before .before .before .pre .1 in
-    let k = dashed-short (c .before .before .before .before .before .before .before .before .before .before .before .before .args .words .now) (imagePart (c .before .before .before .before .before .before .before .before .before .before .before .before .args .image .now) (c .before .before .before .before .before .before .before .before .before .before .before .before .args .judged .place)) (c .before .before .before .before .before .before .before .before .before .before .before .before .args .judged .verdict) (λ q. c .before .before .if1 .left (d .0 ∙ q)) in
-    let e = ap length (c .before .before .before .text-of .ensures) in
+    let pre = c .before .before .before .before .before .before .before .before .before .before .before .before .pre in
+    let args = c .before .before .before .before .before .before .before .before .before .before .before .before .args in
+    let dashes-of = c .before .before .before .before .before .before .dashes-of in
+    let text-of = c .before .before .before .text-of in
+    let d = dashes-of .ensures in
+    let z = pre .1 in
+    let k = dashed-short (args .words .now) (imagePart (args .image .now) (args .judged .place)) (args .judged .verdict) (λ q. c .before .before .if1 .left (d .0 ∙ q)) in
+    let e = ap length (text-of .ensures) in
     (d .1, omega arith)
 
 shown-requires-2 : tie.Need-shown-requires-2
@@ -77,7 +95,15 @@ same-length-2 : tie.Need-same-length-2
 same-length-2 c = search needs
 
 returns-2 : tie.Need-returns-2
-returns-2 c = λ handler rest. said-same _ _ _ _ _ (fault-carried (c .before .before .before .before .before .before .before .before .before .before .before .before .before .before .before .before .args .words .now) (c .before .before .before .before .before .before .before .before .before .before .before .before .before .before .before .before .args .image .now) rest (c .before .before .before .before .before .before .before .before .before .before .before .before .before .before .before .before .args .judged) handler _ _ _ _ (c .before .before .before .before .before .before .before .before .before .before .before .number-of .ensures) (c .before .before .before .before .before .before .before .before .before .before .before .before .before .before .before .before .pre .3) (c .before .before .before .before .before .before .before .before .before .before .dashes-of .ensures .0) (c .before .before .before .before .before .before .before .text-of .ensures) (c .before .before .before .before .before .told-of2 .ensures)) (c .shown2 .ensures _ _ _ (c .before .before .before .show-dashed .ensures))
+returns-2 c =
+    let args = c .before .before .before .before .before .before .before .before .before .before .before .before .before .before .before .before .args in
+    let pre = c .before .before .before .before .before .before .before .before .before .before .before .before .before .before .before .before .pre in
+    let number-of = c .before .before .before .before .before .before .before .before .before .before .before .number-of in
+    let dashes-of = c .before .before .before .before .before .before .before .before .before .before .dashes-of in
+    let text-of = c .before .before .before .before .before .before .before .text-of in
+    let told-of2 = c .before .before .before .before .before .told-of2 in
+    let show-dashed = c .before .before .before .show-dashed in
+    λ handler rest. said-same _ _ _ _ _ (fault-carried (args .words .now) (args .image .now) rest (args .judged) handler _ _ _ _ (number-of .ensures) (pre .3) (dashes-of .ensures .0) (text-of .ensures) (told-of2 .ensures)) (c .shown2 .ensures _ _ _ (show-dashed .ensures))
 
 pub tell-fault-spec : {M : Type 1} → statement M
 tell-fault-spec =

@@ -15,7 +15,8 @@ same-length c = search needs
 returns : tie.Need-returns
 returns c =
     let a = c .before .before .before .before .before .before .before .before .args in
-    let bad = no-editor (a .state .now) (a .slots .now) (c .before .before .before .editor-in .result) (c .before .before .before .editor-in .ensures) (not-true (c .before .before .before .editor-in .result .valid) (c .if1 .taken)) in
+    let editor-in = c .before .before .before .editor-in in
+    let bad = no-editor (a .state .now) (a .slots .now) (editor-in .result) (editor-in .ensures) (not-true (editor-in .result .valid) (c .if1 .taken)) in
     add-other (a .state .now) (a .slots .now) (a .text .now) bad
 
 history-in-requires : tie.Need-history-in-requires
@@ -36,13 +37,18 @@ same-length-3 c = search needs
 returns-2 : tie.Need-returns-2
 returns-2 c =
     let a = c .before .before .before .before .before .before .before .before .before .before .before .before .before .args in
-    let bad = no-history (a .state .now) (a .slots .now) (c .before .before .before .before .before .before .before .before .editor-in .result) (c .before .before .before .before .before .before .before .before .editor-in .ensures) (not-false (c .before .before .before .before .before .before .before .before .editor-in .result .valid) (c .before .before .before .before .before .if1 .left)) _ (c .before .before .history-in .ensures) (c .enum-told .given .1) in
+    let editor-in = c .before .before .before .before .before .before .before .before .editor-in in
+    let if1 = c .before .before .before .before .before .if1 in
+    let bad = no-history (a .state .now) (a .slots .now) (editor-in .result) (editor-in .ensures) (not-false (editor-in .result .valid) (if1 .left)) _ (c .before .before .history-in .ensures) (c .enum-told .given .1) in
     add-other (a .state .now) (a .slots .now) (a .text .now) bad
 
 add-tested-requires : tie.Need-add-tested-requires
 add-tested-requires c κs =
     let a = c .before .before .before .before .before .before .before .before .before .before .before .before .before .before .before .args in
-    let read = both-read (a .state .now) (a .slots .now) (c .before .before .before .before .before .before .before .before .before .before .editor-in .result) (c .before .before .before .before .before .before .before .before .before .before .editor-in .ensures) (not-false (c .before .before .before .before .before .before .before .before .before .before .editor-in .result .valid) (c .before .before .before .before .before .before .before .if1 .left)) _ _ (c .before .before .before .before .history-in .ensures) (c .before .before .held .given .1) in
+    let editor-in = c .before .before .before .before .before .before .before .before .before .before .editor-in in
+    let if1 = c .before .before .before .before .before .before .before .if1 in
+    let history-in = c .before .before .before .before .history-in in
+    let read = both-read (a .state .now) (a .slots .now) (editor-in .result) (editor-in .ensures) (not-false (editor-in .result .valid) (if1 .left)) _ _ (history-in .ensures) (c .before .before .held .given .1) in
     history-good (a .state .now) (a .slots .now) (a .text .now) _ _ read
 
 enum-told-2 : tie.Need-enum-told-2
@@ -51,8 +57,13 @@ enum-told-2 c = search needs
 save-requires : tie.Need-save-requires
 save-requires c κs =
     let a = c .before .before .before .before .before .before .before .before .before .before .before .before .before .before .before .before .before .before .before .before .before .args in
-    let read = both-read (a .state .now) (a .slots .now) (c .before .before .before .before .before .before .before .before .before .before .before .before .before .before .before .before .editor-in .result) (c .before .before .before .before .before .before .before .before .before .before .before .before .before .before .before .before .editor-in .ensures) (not-false (c .before .before .before .before .before .before .before .before .before .before .before .before .before .before .before .before .editor-in .result .valid) (c .before .before .before .before .before .before .before .before .before .before .before .before .before .if1 .left)) _ _ (c .before .before .before .before .before .before .before .before .before .before .history-in .ensures) (c .before .before .before .before .before .before .before .before .held .given .1) in
-    let fits = add-fits (a .state .now) (a .slots .now) (a .text .now) _ _ read _ _ _ (c .before .before .before .before .before .add-tested .ensures) in
+    let editor-in = c .before .before .before .before .before .before .before .before .before .before .before .before .before .before .before .before .editor-in in
+    let if1 = c .before .before .before .before .before .before .before .before .before .before .before .before .before .if1 in
+    let history-in = c .before .before .before .before .before .before .before .before .before .before .history-in in
+    let held = c .before .before .before .before .before .before .before .before .held in
+    let add-tested = c .before .before .before .before .before .add-tested in
+    let read = both-read (a .state .now) (a .slots .now) (editor-in .result) (editor-in .ensures) (not-false (editor-in .result .valid) (if1 .left)) _ _ (history-in .ensures) (held .given .1) in
+    let fits = add-fits (a .state .now) (a .slots .now) (a .text .now) _ _ read _ _ _ (add-tested .ensures) in
     (read-size _ _ (a .state .now) (a .slots .now) read, fits)
 
 same-length-4 : tie.Need-same-length-4
@@ -64,8 +75,14 @@ same-length-5 c = search needs
 returns-3 : tie.Need-returns-3
 returns-3 c =
     let a = c .before .before .before .before .before .before .before .before .before .before .before .before .before .before .before .before .before .before .before .before .before .before .before .before .args in
-    let read = both-read (a .state .now) (a .slots .now) (c .before .before .before .before .before .before .before .before .before .before .before .before .before .before .before .before .before .before .before .editor-in .result) (c .before .before .before .before .before .before .before .before .before .before .before .before .before .before .before .before .before .before .before .editor-in .ensures) (not-false (c .before .before .before .before .before .before .before .before .before .before .before .before .before .before .before .before .before .before .before .editor-in .result .valid) (c .before .before .before .before .before .before .before .before .before .before .before .before .before .before .before .before .if1 .left)) _ _ (c .before .before .before .before .before .before .before .before .before .before .before .before .before .history-in .ensures) (c .before .before .before .before .before .before .before .before .before .before .before .held .given .1) in
-    add-done (a .state .now) (a .slots .now) (a .text .now) _ _ read _ _ _ (c .before .before .before .before .before .before .before .before .add-tested .ensures) _ (c .before .before .before .before .enum-told2 .given .1) (c .before .before .save .ensures)
+    let editor-in = c .before .before .before .before .before .before .before .before .before .before .before .before .before .before .before .before .before .before .before .editor-in in
+    let if1 = c .before .before .before .before .before .before .before .before .before .before .before .before .before .before .before .before .if1 in
+    let history-in = c .before .before .before .before .before .before .before .before .before .before .before .before .before .history-in in
+    let held = c .before .before .before .before .before .before .before .before .before .before .before .held in
+    let add-tested = c .before .before .before .before .before .before .before .before .add-tested in
+    let enum-told2 = c .before .before .before .before .enum-told2 in
+    let read = both-read (a .state .now) (a .slots .now) (editor-in .result) (editor-in .ensures) (not-false (editor-in .result .valid) (if1 .left)) _ _ (history-in .ensures) (held .given .1) in
+    add-done (a .state .now) (a .slots .now) (a .text .now) _ _ read _ _ _ (add-tested .ensures) _ (enum-told2 .given .1) (c .before .before .save .ensures)
 
 same-length-6 : tie.Need-same-length-6
 same-length-6 c = search needs
@@ -76,8 +93,13 @@ same-length-7 c = search needs
 returns-4 : tie.Need-returns-4
 returns-4 c =
     let a = c .before .before .before .before .before .before .before .before .before .before .before .before .before .before .before .before .before .before .before .args in
-    let read = both-read (a .state .now) (a .slots .now) (c .before .before .before .before .before .before .before .before .before .before .before .before .before .before .editor-in .result) (c .before .before .before .before .before .before .before .before .before .before .before .before .before .before .editor-in .ensures) (not-false (c .before .before .before .before .before .before .before .before .before .before .before .before .before .before .editor-in .result .valid) (c .before .before .before .before .before .before .before .before .before .before .before .if1 .left)) _ _ (c .before .before .before .before .before .before .before .before .history-in .ensures) (c .before .before .before .before .before .before .held .given .1) in
-    add-refused (a .state .now) (a .slots .now) (a .text .now) _ _ read _ _ _ (c .before .before .before .add-tested .ensures) (c .match2 .keys2)
+    let editor-in = c .before .before .before .before .before .before .before .before .before .before .before .before .before .before .editor-in in
+    let if1 = c .before .before .before .before .before .before .before .before .before .before .before .if1 in
+    let history-in = c .before .before .before .before .before .before .before .before .history-in in
+    let held = c .before .before .before .before .before .before .held in
+    let add-tested = c .before .before .before .add-tested in
+    let read = both-read (a .state .now) (a .slots .now) (editor-in .result) (editor-in .ensures) (not-false (editor-in .result .valid) (if1 .left)) _ _ (history-in .ensures) (held .given .1) in
+    add-refused (a .state .now) (a .slots .now) (a .text .now) _ _ read _ _ _ (add-tested .ensures) (c .match2 .keys2)
 
 pub add-spec : {M : Type 1} → statement M
 add-spec =

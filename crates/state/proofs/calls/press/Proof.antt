@@ -16,7 +16,8 @@ same-length c = search needs
 returns : tie.Need-returns
 returns c =
     let a = c .before .before .before .before .before .before .before .before .before .before .args in
-    let bad = no-editor (a .state .now) (a .slots .now) (c .before .before .before .editor-in .result) (c .before .before .before .editor-in .ensures) (not-true (c .before .before .before .editor-in .result .valid) (c .if1 .taken)) in
+    let editor-in = c .before .before .before .editor-in in
+    let bad = no-editor (a .state .now) (a .slots .now) (editor-in .result) (editor-in .ensures) (not-true (editor-in .result .valid) (c .if1 .taken)) in
     key-other (a .state .now) (a .slots .now) (a .prompt .now) (a .byte) (a .line .now) (a .screen .now) bad
 
 history-in-requires : tie.Need-history-in-requires
@@ -37,13 +38,19 @@ same-length-3 c = search needs
 returns-2 : tie.Need-returns-2
 returns-2 c =
     let a = c .before .before .before .before .before .before .before .before .before .before .before .before .before .before .before .args in
-    let bad = no-history (a .state .now) (a .slots .now) (c .before .before .before .before .before .before .before .before .editor-in .result) (c .before .before .before .before .before .before .before .before .editor-in .ensures) (not-false (c .before .before .before .before .before .before .before .before .editor-in .result .valid) (c .before .before .before .before .before .if1 .left)) _ (c .before .before .history-in .ensures) (c .enum-told .given .1) in
+    let editor-in = c .before .before .before .before .before .before .before .before .editor-in in
+    let if1 = c .before .before .before .before .before .if1 in
+    let bad = no-history (a .state .now) (a .slots .now) (editor-in .result) (editor-in .ensures) (not-false (editor-in .result .valid) (if1 .left)) _ (c .before .before .history-in .ensures) (c .enum-told .given .1) in
     key-other (a .state .now) (a .slots .now) (a .prompt .now) (a .byte) (a .line .now) (a .screen .now) bad
 
 key-tested-requires : tie.Need-key-tested-requires
 key-tested-requires c κs =
     let a = c .before .before .before .before .before .before .before .before .before .before .before .before .before .before .before .before .before .before .before .args in
-    let read = both-read (a .state .now) (a .slots .now) (c .before .before .before .before .before .before .before .before .before .before .before .before .editor-in .result) (c .before .before .before .before .before .before .before .before .before .before .before .before .editor-in .ensures) (not-false (c .before .before .before .before .before .before .before .before .before .before .before .before .editor-in .result .valid) (c .before .before .before .before .before .before .before .before .before .if1 .left)) _ _ (c .before .before .before .before .before .before .history-in .ensures) (c .before .before .before .before .held .given .1) in
+    let editor-in = c .before .before .before .before .before .before .before .before .before .before .before .before .editor-in in
+    let if1 = c .before .before .before .before .before .before .before .before .before .if1 in
+    let history-in = c .before .before .before .before .before .before .history-in in
+    let held = c .before .before .before .before .held in
+    let read = both-read (a .state .now) (a .slots .now) (editor-in .result) (editor-in .ensures) (not-false (editor-in .result .valid) (if1 .left)) _ _ (history-in .ensures) (held .given .1) in
     read-good _ _ (a .state .now) (a .slots .now) read
 
 is-refusal-requires : tie.Need-is-refusal-requires
@@ -64,15 +71,25 @@ same-length-7 c = search needs
 returns-3 : tie.Need-returns-3
 returns-3 c =
     let a = c .before .before .before .before .before .before .before .before .before .before .before .before .before .before .before .before .before .before .before .before .before .before .before .before .before .before .before .before .args in
-    let read = both-read (a .state .now) (a .slots .now) (c .before .before .before .before .before .before .before .before .before .before .before .before .before .before .before .before .before .before .before .before .before .editor-in .result) (c .before .before .before .before .before .before .before .before .before .before .before .before .before .before .before .before .before .before .before .before .before .editor-in .ensures) (not-false (c .before .before .before .before .before .before .before .before .before .before .before .before .before .before .before .before .before .before .before .before .before .editor-in .result .valid) (c .before .before .before .before .before .before .before .before .before .before .before .before .before .before .before .before .before .before .if1 .left)) _ _ (c .before .before .before .before .before .before .before .before .before .before .before .before .before .before .before .history-in .ensures) (c .before .before .before .before .before .before .before .before .before .before .before .before .before .held .given .1) in
+    let editor-in = c .before .before .before .before .before .before .before .before .before .before .before .before .before .before .before .before .before .before .before .before .before .editor-in in
+    let if1 = c .before .before .before .before .before .before .before .before .before .before .before .before .before .before .before .before .before .before .if1 in
+    let history-in = c .before .before .before .before .before .before .before .before .before .before .before .before .before .before .before .history-in in
+    let held = c .before .before .before .before .before .before .before .before .before .before .before .before .before .held in
+    let key-tested = c .before .before .before .before .before .before .before .before .key-tested in
+    let read = both-read (a .state .now) (a .slots .now) (editor-in .result) (editor-in .ensures) (not-false (editor-in .result .valid) (if1 .left)) _ _ (history-in .ensures) (held .given .1) in
     let so = sym (c .before .is-refusal .ensures) ∙ c .if2 .taken in
-    key-refused (a .state .now) (a .slots .now) (a .prompt .now) (a .byte) (a .line .now) (a .screen .now) _ _ read _ _ _ _ (c .before .before .before .before .before .before .before .before .key-tested .ensures) so
+    key-refused (a .state .now) (a .slots .now) (a .prompt .now) (a .byte) (a .line .now) (a .screen .now) _ _ read _ _ _ _ (key-tested .ensures) so
 
 save-requires : tie.Need-save-requires
 save-requires c κs =
     let a = c .before .before .before .before .before .before .before .before .before .before .before .before .before .before .before .before .before .before .before .before .before .before .before .before .before .before .before .before .before .args in
-    let read = both-read (a .state .now) (a .slots .now) (c .before .before .before .before .before .before .before .before .before .before .before .before .before .before .before .before .before .before .before .before .before .before .editor-in .result) (c .before .before .before .before .before .before .before .before .before .before .before .before .before .before .before .before .before .before .before .before .before .before .editor-in .ensures) (not-false (c .before .before .before .before .before .before .before .before .before .before .before .before .before .before .before .before .before .before .before .before .before .before .editor-in .result .valid) (c .before .before .before .before .before .before .before .before .before .before .before .before .before .before .before .before .before .before .before .if1 .left)) _ _ (c .before .before .before .before .before .before .before .before .before .before .before .before .before .before .before .before .history-in .ensures) (c .before .before .before .before .before .before .before .before .before .before .before .before .before .before .held .given .1) in
-    let fits = key-fits (a .state .now) (a .slots .now) (a .prompt .now) (a .byte) (a .line .now) (a .screen .now) _ _ read _ _ _ _ (c .before .before .before .before .before .before .before .before .before .key-tested .ensures) in
+    let editor-in = c .before .before .before .before .before .before .before .before .before .before .before .before .before .before .before .before .before .before .before .before .before .before .editor-in in
+    let if1 = c .before .before .before .before .before .before .before .before .before .before .before .before .before .before .before .before .before .before .before .if1 in
+    let history-in = c .before .before .before .before .before .before .before .before .before .before .before .before .before .before .before .before .history-in in
+    let held = c .before .before .before .before .before .before .before .before .before .before .before .before .before .before .held in
+    let key-tested = c .before .before .before .before .before .before .before .before .before .key-tested in
+    let read = both-read (a .state .now) (a .slots .now) (editor-in .result) (editor-in .ensures) (not-false (editor-in .result .valid) (if1 .left)) _ _ (history-in .ensures) (held .given .1) in
+    let fits = key-fits (a .state .now) (a .slots .now) (a .prompt .now) (a .byte) (a .line .now) (a .screen .now) _ _ read _ _ _ _ (key-tested .ensures) in
     (read-size _ _ (a .state .now) (a .slots .now) read, fits)
 
 same-length-8 : tie.Need-same-length-8
@@ -90,9 +107,16 @@ same-length-11 c = search needs
 returns-4 : tie.Need-returns-4
 returns-4 c =
     let a = c .before .before .before .before .before .before .before .before .before .before .before .before .before .before .before .before .before .before .before .before .before .before .before .before .before .before .before .before .before .before .before .before .args in
-    let read = both-read (a .state .now) (a .slots .now) (c .before .before .before .before .before .before .before .before .before .before .before .before .before .before .before .before .before .before .before .before .before .before .before .before .before .editor-in .result) (c .before .before .before .before .before .before .before .before .before .before .before .before .before .before .before .before .before .before .before .before .before .before .before .before .before .editor-in .ensures) (not-false (c .before .before .before .before .before .before .before .before .before .before .before .before .before .before .before .before .before .before .before .before .before .before .before .before .before .editor-in .result .valid) (c .before .before .before .before .before .before .before .before .before .before .before .before .before .before .before .before .before .before .before .before .before .before .if1 .left)) _ _ (c .before .before .before .before .before .before .before .before .before .before .before .before .before .before .before .before .before .before .before .history-in .ensures) (c .before .before .before .before .before .before .before .before .before .before .before .before .before .before .before .before .before .held .given .1) in
-    let so = sym (c .before .before .before .before .before .is-refusal .ensures) ∙ c .before .before .before .before .if2 .left in
-    key-taken (a .state .now) (a .slots .now) (a .prompt .now) (a .byte) (a .line .now) (a .screen .now) _ _ read _ _ _ _ (c .before .before .before .before .before .before .before .before .before .before .before .before .key-tested .ensures) _ so (c .before .before .save .ensures)
+    let editor-in = c .before .before .before .before .before .before .before .before .before .before .before .before .before .before .before .before .before .before .before .before .before .before .before .before .before .editor-in in
+    let if1 = c .before .before .before .before .before .before .before .before .before .before .before .before .before .before .before .before .before .before .before .before .before .before .if1 in
+    let history-in = c .before .before .before .before .before .before .before .before .before .before .before .before .before .before .before .before .before .before .before .history-in in
+    let held = c .before .before .before .before .before .before .before .before .before .before .before .before .before .before .before .before .before .held in
+    let key-tested = c .before .before .before .before .before .before .before .before .before .before .before .before .key-tested in
+    let is-refusal = c .before .before .before .before .before .is-refusal in
+    let if2 = c .before .before .before .before .if2 in
+    let read = both-read (a .state .now) (a .slots .now) (editor-in .result) (editor-in .ensures) (not-false (editor-in .result .valid) (if1 .left)) _ _ (history-in .ensures) (held .given .1) in
+    let so = sym (is-refusal .ensures) ∙ if2 .left in
+    key-taken (a .state .now) (a .slots .now) (a .prompt .now) (a .byte) (a .line .now) (a .screen .now) _ _ read _ _ _ _ (key-tested .ensures) _ so (c .before .before .save .ensures)
 
 pub press-spec : {M : Type 1} → statement M
 press-spec =

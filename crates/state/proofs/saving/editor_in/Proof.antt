@@ -13,7 +13,9 @@ restored-requires : tie.Need-restored-requires
 restored-requires c κs = search needs
 
 returns : tie.Need-returns
-returns c = c .restored .ensures ∙ ap restoredEditor (part-editor (c .before .before .before .args .state .now) _ (c .before .part .ensures))
+returns c =
+    let args = c .before .before .before .args in
+    c .restored .ensures ∙ ap restoredEditor (part-editor (args .state .now) _ (c .before .part .ensures))
 
 pub editor-in-spec : {M : Type 1} → statement M
 editor-in-spec = tie.close (tie.spec part-requires restored-requires returns)

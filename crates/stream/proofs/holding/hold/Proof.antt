@@ -29,22 +29,34 @@ add-i : tie.Need-add-i Inv-loop μ-loop
 add-i c = search needs
 
 same-length : tie.Need-same-length Inv-loop μ-loop
-same-length c = length-set (c .before .before .before .loop .line) (c .before .before .before .loop .count) _ ∙ c .before .before .before .loop .inv .room ∙ sym (c .before .before .before .loop .inv .first)
+same-length c =
+    let loop = c .before .before .before .loop in
+    length-set (loop .line) (loop .count) _ ∙ loop .inv .room ∙ sym (loop .inv .first)
 
 returns : tie.Need-returns Inv-loop μ-loop
-returns c = hold-lf _ _ _ _ _ _ (c .before .before .before .loop .inv) (c .before .before .loop-test .taken) (c .if1 .taken)
+returns c =
+    let loop = c .before .before .before .loop in
+    hold-lf _ _ _ _ _ _ (loop .inv) (c .before .before .loop-test .taken) (c .if1 .taken)
 
 same-length-2 : tie.Need-same-length-2 Inv-loop μ-loop
-same-length-2 c = length-set (c .before .before .before .before .loop .line) (c .before .before .before .before .loop .count) _ ∙ c .before .before .before .before .loop .inv .room ∙ sym (c .before .before .before .before .loop .inv .first)
+same-length-2 c =
+    let loop = c .before .before .before .before .loop in
+    length-set (loop .line) (loop .count) _ ∙ loop .inv .room ∙ sym (loop .inv .first)
 
 returns-2 : tie.Need-returns-2 Inv-loop μ-loop
-returns-2 c = hold-full _ _ _ _ _ _ (c .before .before .before .before .loop .inv) (c .before .before .before .loop-test .taken) (c .if2 .taken)
+returns-2 c =
+    let loop = c .before .before .before .before .loop in
+    let loop-test = c .before .before .before .loop-test in
+    hold-full _ _ _ _ _ _ (loop .inv) (loop-test .taken) (c .if2 .taken)
 
 loop-less : tie.Need-loop-less Inv-loop μ-loop
 loop-less c = let t = c .before .before .before .loop-test .taken in search needs
 
 loop-again : tie.Need-loop-again Inv-loop μ-loop
-loop-again c = hold-goes _ _ _ _ _ _ (c .before .before .before .before .loop .inv) (c .before .before .before .loop-test .taken) (c .before .if1 .left) (c .if2 .left) (length-set (c .before .before .before .before .loop .line) (c .before .before .before .before .loop .count) _ ∙ c .before .before .before .before .loop .inv .room)
+loop-again c =
+    let loop = c .before .before .before .before .loop in
+    let loop-test = c .before .before .before .loop-test in
+    hold-goes _ _ _ _ _ _ (loop .inv) (loop-test .taken) (c .before .if1 .left) (c .if2 .left) (length-set (loop .line) (loop .count) _ ∙ loop .inv .room)
 
 same-length-3 : tie.Need-same-length-3 Inv-loop μ-loop
 same-length-3 c = search needs

@@ -20,13 +20,19 @@ enum-known-answer : tie.Need-enum-known-answer
 enum-known-answer c = search needs
 
 add-t19 : tie.Need-add-t19
-add-t19 c = let s = c .before .before .before .before .before .before .before .before .before .before .before .before .before .before in let f = goes-fits (s .args .session) (s .args .image .now) (s .args .slots .now) (s .args .byte) (s .args .out .now) (s .args .at) (s .pre .0) (s .pre .1) _ _ _ (c .before .before .before .before .before .before .before .before .press .ensures) (search needs) (search needs) _ (c .before .answer .given .1) in search needs
+add-t19 c =
+    let s = c .before .before .before .before .before .before .before .before .before .before .before .before .before .before in
+    let press = c .before .before .before .before .before .before .before .before .press in
+    let f = goes-fits (s .args .session) (s .args .image .now) (s .args .slots .now) (s .args .byte) (s .args .out .now) (s .args .at) (s .pre .0) (s .pre .1) _ _ _ (press .ensures) (search needs) (search needs) _ (c .before .answer .given .1) in search needs
 
 enum-known-answer-2 : tie.Need-enum-known-answer-2
 enum-known-answer-2 c = search needs
 
 add-t20 : tie.Need-add-t20
-add-t20 c = let s = c .before .before .before .before .before .before .before .before .before .before .before .before .before .before in let f = ends-fits (s .args .session) (s .args .image .now) (s .args .slots .now) (s .args .byte) (s .args .out .now) (s .args .at) (s .pre .0) (s .pre .1) _ _ _ (c .before .before .before .before .before .before .before .before .press .ensures) (search needs) (search needs) _ (c .before .answer2 .given .1) in search needs
+add-t20 c =
+    let s = c .before .before .before .before .before .before .before .before .before .before .before .before .before .before in
+    let press = c .before .before .before .before .before .before .before .before .press in
+    let f = ends-fits (s .args .session) (s .args .image .now) (s .args .slots .now) (s .args .byte) (s .args .out .now) (s .args .at) (s .pre .0) (s .pre .1) _ _ _ (press .ensures) (search needs) (search needs) _ (c .before .answer2 .given .1) in search needs
 
 same-length : tie.Need-same-length
 same-length c = search needs
@@ -35,7 +41,10 @@ same-length-2 : tie.Need-same-length-2
 same-length-2 c = search needs
 
 returns : tie.Need-returns
-returns c = let s = c .before .before .before .before .before .before .before .before .before .before .before .before .before .before in goes-made (s .args .session) (s .args .image .now) (s .args .slots .now) (s .args .byte) (s .args .out .now) (s .args .at) (s .pre .0) (s .pre .1) _ _ _ (c .before .before .before .before .before .before .before .before .press .ensures) (search needs) (search needs) _ (c .before .answer .given .1)
+returns c =
+    let s = c .before .before .before .before .before .before .before .before .before .before .before .before .before .before in
+    let press = c .before .before .before .before .before .before .before .before .press in
+    goes-made (s .args .session) (s .args .image .now) (s .args .slots .now) (s .args .byte) (s .args .out .now) (s .args .at) (s .pre .0) (s .pre .1) _ _ _ (press .ensures) (search needs) (search needs) _ (c .before .answer .given .1)
 
 same-length-3 : tie.Need-same-length-3
 same-length-3 c = search needs
@@ -44,7 +53,10 @@ same-length-4 : tie.Need-same-length-4
 same-length-4 c = search needs
 
 returns-2 : tie.Need-returns-2
-returns-2 c = let s = c .before .before .before .before .before .before .before .before .before .before .before .before .before .before in ends-made (s .args .session) (s .args .image .now) (s .args .slots .now) (s .args .byte) (s .args .out .now) (s .args .at) (s .pre .0) (s .pre .1) _ _ _ (c .before .before .before .before .before .before .before .before .press .ensures) (search needs) (search needs) _ (c .before .answer2 .given .1)
+returns-2 c =
+    let s = c .before .before .before .before .before .before .before .before .before .before .before .before .before .before in
+    let press = c .before .before .before .before .before .before .before .before .press in
+    ends-made (s .args .session) (s .args .image .now) (s .args .slots .now) (s .args .byte) (s .args .out .now) (s .args .at) (s .pre .0) (s .pre .1) _ _ _ (press .ensures) (search needs) (search needs) _ (c .before .answer2 .given .1)
 
 same-length-5 : tie.Need-same-length-5
 same-length-5 c = search needs
@@ -53,7 +65,10 @@ same-length-6 : tie.Need-same-length-6
 same-length-6 c = search needs
 
 returns-3 : tie.Need-returns-3
-returns-3 c = let s = c .before .before .before .before .before .before .before .before .before .before .before .before in absurd (never-refused (s .args .session) (s .args .image .now) (s .args .slots .now) (s .args .byte) (s .args .out .now) (s .args .at) (s .pre .0) (s .pre .1) _ _ _ (c .before .before .before .before .before .before .press .ensures) (search needs) (search needs) (c .match .keys3))
+returns-3 c =
+    let s = c .before .before .before .before .before .before .before .before .before .before .before .before in
+    let press = c .before .before .before .before .before .before .press in
+    absurd (never-refused (s .args .session) (s .args .image .now) (s .args .slots .now) (s .args .byte) (s .args .out .now) (s .args .at) (s .pre .0) (s .pre .1) _ _ _ (press .ensures) (search needs) (search needs) (c .match .keys3))
 
 pub press-at-spec : {M : Type 1} → statement M
 press-at-spec =

@@ -23,46 +23,84 @@ waiting-requires : tie.Need-waiting-requires Inv-loop μ-loop
 waiting-requires c κs = search needs
 
 same-length : tie.Need-same-length Inv-loop μ-loop
-same-length c = c .before .before .before .loop .inv .ready .slot ∙ sym (c .before .before .before .before .before .before .before .before .pre .0 .slot)
+same-length c =
+    let pre = c .before .before .before .before .before .before .before .before .pre in
+    let loop = c .before .before .before .loop in
+    loop .inv .ready .slot ∙ sym (pre .0 .slot)
 
 same-length-2 : tie.Need-same-length-2 Inv-loop μ-loop
 same-length-2 c = c .before .before .before .loop .inv .outs
 
 returns : tie.Need-returns Inv-loop μ-loop
-returns c = let s = c .before .before .before .before .before .before .before .before in keys-wait _ _ _ _ _ _ _ _ _ _ _ (c .before .before .before .loop .inv) (s .pre .1 .1) (c .before .before .loop-test .taken) _ (c .waiting .ensures) (c .before .if1 .taken)
+returns c =
+    let s = c .before .before .before .before .before .before .before .before in
+    let loop = c .before .before .before .loop in
+    keys-wait _ _ _ _ _ _ _ _ _ _ _ (loop .inv) (s .pre .1 .1) (c .before .before .loop-test .taken) _ (c .waiting .ensures) (c .before .if1 .taken)
 
 shared-slice-read-press-at : tie.Need-shared-slice-read-press-at Inv-loop μ-loop
-shared-slice-read-press-at c = let s = c .before .before .before .before .before .before .before .before .before in let t = c .before .before .before .loop-test .taken in let a = s .pre .0 .whole in let b = s .pre .1 .1 in search needs
+shared-slice-read-press-at c =
+    let s = c .before .before .before .before .before .before .before .before .before in
+    let loop-test = c .before .before .before .loop-test in
+    let t = loop-test .taken in let a = s .pre .0 .whole in let b = s .pre .1 .1 in search needs
 
 press-at-requires : tie.Need-press-at-requires Inv-loop μ-loop
-press-at-requires c κs = let g = c .before .before .before .before .before .loop .inv in let t = c .before .before .before .if1 .left in let f = g .fits in (g .ready .holds, omega arith)
+press-at-requires c κs =
+    let loop = c .before .before .before .before .before .loop in
+    let if1 = c .before .before .before .if1 in
+    let g = loop .inv in let t = if1 .left in let f = g .fits in (g .ready .holds, omega arith)
 
 add-next : tie.Need-add-next Inv-loop μ-loop
-add-next c = let t = c .before .before .before .before .before .before .before .before .before .before .loop-test .taken in let k = c .before .before .before .before .before .before .before .before .before .before .before .before .before .before .before .before .pre .1 .1 in search needs
+add-next c =
+    let pre = c .before .before .before .before .before .before .before .before .before .before .before .before .before .before .before .before .pre in
+    let loop-test = c .before .before .before .before .before .before .before .before .before .before .loop-test in
+    let t = loop-test .taken in let k = pre .1 .1 in search needs
 
 stopped-requires : tie.Need-stopped-requires Inv-loop μ-loop
 stopped-requires c κs = search needs
 
 same-length-3 : tie.Need-same-length-3 Inv-loop μ-loop
-same-length-3 c = c .before .before .before .before .before .before .before .press-at .ensures .slot ∙ c .before .before .before .before .before .before .before .before .before .before .before .before .before .loop .inv .ready .slot ∙ sym (c .before .before .before .before .before .before .before .before .before .before .before .before .before .before .before .before .before .before .pre .0 .slot)
+same-length-3 c =
+    let pre = c .before .before .before .before .before .before .before .before .before .before .before .before .before .before .before .before .before .before .pre in
+    let loop = c .before .before .before .before .before .before .before .before .before .before .before .before .before .loop in
+    let press-at = c .before .before .before .before .before .before .before .press-at in
+    press-at .ensures .slot ∙ loop .inv .ready .slot ∙ sym (pre .0 .slot)
 
 same-length-4 : tie.Need-same-length-4 Inv-loop μ-loop
-same-length-4 c = c .before .before .before .before .before .before .before .press-at .ensures .outs ∙ c .before .before .before .before .before .before .before .before .before .before .before .before .before .loop .inv .outs
+same-length-4 c =
+    let loop = c .before .before .before .before .before .before .before .before .before .before .before .before .before .loop in
+    let press-at = c .before .before .before .before .before .before .before .press-at in
+    press-at .ensures .outs ∙ loop .inv .outs
 
 returns-2 : tie.Need-returns-2 Inv-loop μ-loop
-returns-2 c = let s = c .before .before .before .before .before .before .before .before .before .before .before .before .before .before .before .before .before .before in keys-end _ _ _ _ _ _ _ _ _ _ _ (c .before .before .before .before .before .before .before .before .before .before .before .before .before .loop .inv) (s .pre .1 .1) (c .before .before .before .before .before .before .before .before .before .before .before .before .loop-test .taken) (c .before .before .before .before .before .before .before .before .before .before .before .if1 .left) _ _ _ (c .before .before .before .before .before .before .before .press-at .ensures) (c .before .if2 .taken) _ (c .stopped .ensures)
+returns-2 c =
+    let s = c .before .before .before .before .before .before .before .before .before .before .before .before .before .before .before .before .before .before in
+    let loop = c .before .before .before .before .before .before .before .before .before .before .before .before .before .loop in
+    let loop-test = c .before .before .before .before .before .before .before .before .before .before .before .before .loop-test in
+    let if1 = c .before .before .before .before .before .before .before .before .before .before .before .if1 in
+    let press-at = c .before .before .before .before .before .before .before .press-at in
+    keys-end _ _ _ _ _ _ _ _ _ _ _ (loop .inv) (s .pre .1 .1) (loop-test .taken) (if1 .left) _ _ _ (press-at .ensures) (c .before .if2 .taken) _ (c .stopped .ensures)
 
 loop-less : tie.Need-loop-less Inv-loop μ-loop
-loop-less c = let t = c .before .before .before .before .before .before .before .before .before .before .before .loop-test .taken in search needs
+loop-less c =
+    let loop-test = c .before .before .before .before .before .before .before .before .before .before .before .loop-test in
+    let t = loop-test .taken in search needs
 
 loop-again : tie.Need-loop-again Inv-loop μ-loop
-loop-again c = let s = c .before .before .before .before .before .before .before .before .before .before .before .before .before .before .before .before .before in keys-go _ _ _ _ _ _ _ _ _ _ _ (c .before .before .before .before .before .before .before .before .before .before .before .before .loop .inv) (s .pre .1 .1) (c .before .before .before .before .before .before .before .before .before .before .before .loop-test .taken) (c .before .before .before .before .before .before .before .before .before .before .if1 .left) _ _ _ (c .before .before .before .before .before .before .press-at .ensures) (c .if2 .left)
+loop-again c =
+    let s = c .before .before .before .before .before .before .before .before .before .before .before .before .before .before .before .before .before in
+    let loop = c .before .before .before .before .before .before .before .before .before .before .before .before .loop in
+    let loop-test = c .before .before .before .before .before .before .before .before .before .before .before .loop-test in
+    let if1 = c .before .before .before .before .before .before .before .before .before .before .if1 in
+    let press-at = c .before .before .before .before .before .before .press-at in
+    keys-go _ _ _ _ _ _ _ _ _ _ _ (loop .inv) (s .pre .1 .1) (loop-test .taken) (if1 .left) _ _ _ (press-at .ensures) (c .if2 .left)
 
 settled-requires : tie.Need-settled-requires Inv-loop μ-loop
 settled-requires c κs = search needs
 
 same-length-5 : tie.Need-same-length-5 Inv-loop μ-loop
-same-length-5 c = c .before .before .loop .inv .ready .slot ∙ sym (c .before .before .before .before .before .before .before .pre .0 .slot)
+same-length-5 c =
+    let pre = c .before .before .before .before .before .before .before .pre in
+    c .before .before .loop .inv .ready .slot ∙ sym (pre .0 .slot)
 
 same-length-6 : tie.Need-same-length-6 Inv-loop μ-loop
 same-length-6 c = c .before .before .loop .inv .outs

@@ -12,7 +12,9 @@ returns : tie.Need-returns
 returns c = last-busy _ _ (sym (c .before .is-busy .ensures) ∙ c .if1 .taken)
 
 returns-2 : tie.Need-returns-2
-returns-2 c = last-none _ _ (sym (c .before .before .before .is-busy .ensures) ∙ c .before .before .if1 .left) (c .if2 .taken)
+returns-2 c =
+    let is-busy = c .before .before .before .is-busy in
+    last-none _ _ (sym (is-busy .ensures) ∙ c .before .before .if1 .left) (c .if2 .taken)
 
 add-refuse : tie.Need-add-refuse
 add-refuse c = let l = c .before .before .before .before .before .before .pre .0 in search needs
@@ -27,13 +29,22 @@ same-length : tie.Need-same-length
 same-length c = search needs
 
 returns-3 : tie.Need-returns-3
-returns-3 c = let s = c .before .before .before .before .before .before .before .before .before .before .before in absurd (last-never (s .args .stream) _ (s .pre .1) _ _ (c .before .before .before .refuse .ensures) (c .match .keys2))
+returns-3 c =
+    let s = c .before .before .before .before .before .before .before .before .before .before .before in
+    let refuse = c .before .before .before .refuse in
+    absurd (last-never (s .args .stream) _ (s .pre .1) _ _ (refuse .ensures) (c .match .keys2))
 
 same-length-2 : tie.Need-same-length-2
 same-length-2 c = search needs
 
 returns-4 : tie.Need-returns-4
-returns-4 c = let s = c .before .before .before .before .before .before .before .before .before .before .before .before .before in last-bad (s .args .stream) _ (s .pre .1) _ _ (c .before .before .before .before .before .refuse .ensures) (sym (c .before .before .before .before .before .before .before .before .before .before .before .is-busy .ensures) ∙ c .before .before .before .before .before .before .before .before .before .before .if1 .left) (c .before .before .before .before .before .before .before .before .if2 .left) _ (c .before .n .given .1)
+returns-4 c =
+    let s = c .before .before .before .before .before .before .before .before .before .before .before .before .before in
+    let is-busy = c .before .before .before .before .before .before .before .before .before .before .before .is-busy in
+    let if1 = c .before .before .before .before .before .before .before .before .before .before .if1 in
+    let if2 = c .before .before .before .before .before .before .before .before .if2 in
+    let refuse = c .before .before .before .before .before .refuse in
+    last-bad (s .args .stream) _ (s .pre .1) _ _ (refuse .ensures) (sym (is-busy .ensures) ∙ if1 .left) (if2 .left) _ (c .before .n .given .1)
 
 pub finish-spec : {M : Type 1} → statement M
 finish-spec =

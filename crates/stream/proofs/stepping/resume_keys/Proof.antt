@@ -12,7 +12,10 @@ returns-2 : tie.Need-returns-2
 returns-2 c = let s = c .before .before .before .before .before .before .before in resume-reading _ _ _ _ (s .pre) _ (c .before .before .if1 .left) (c .if2 .taken)
 
 press-some-requires : tie.Need-press-some-requires
-press-some-requires c κs = let s = c .before .before .before .before .before .before .before .before .before .before in let k = s .pre in let l = c .before .before .before .if2 .left in (k .ready, (omega arith, k .keys, omega arith))
+press-some-requires c κs =
+    let s = c .before .before .before .before .before .before .before .before .before .before in
+    let if2 = c .before .before .before .if2 in
+    let k = s .pre in let l = if2 .left in (k .ready, (omega arith, k .keys, omega arith))
 
 same-length : tie.Need-same-length
 same-length c = search needs
@@ -21,7 +24,12 @@ same-length-2 : tie.Need-same-length-2
 same-length-2 c = search needs
 
 returns-3 : tie.Need-returns-3
-returns-3 c = let s = c .before .before .before .before .before .before .before .before .before .before .before .before .before .before .before in resume-waiting _ _ _ _ (s .pre) _ (c .before .before .before .before .before .before .before .before .before .before .if1 .left) (c .before .before .before .before .before .before .before .before .if2 .left) _ _ _ (c .before .before .before .before .press-some .ensures)
+returns-3 c =
+    let s = c .before .before .before .before .before .before .before .before .before .before .before .before .before .before .before in
+    let if1 = c .before .before .before .before .before .before .before .before .before .before .if1 in
+    let if2 = c .before .before .before .before .before .before .before .before .if2 in
+    let press-some = c .before .before .before .before .press-some in
+    resume-waiting _ _ _ _ (s .pre) _ (if1 .left) (if2 .left) _ _ _ (press-some .ensures)
 
 pub resume-keys-spec : {M : Type 1} → statement M
 resume-keys-spec =

@@ -23,31 +23,51 @@ is-busy-requires : tie.Need-is-busy-requires Inv-loop μ-loop
 is-busy-requires c κs = search needs
 
 same-length : tie.Need-same-length Inv-loop μ-loop
-same-length c = c .before .before .before .loop .inv .sound .ready .whole ∙ sym (c .before .before .before .before .before .before .before .before .before .pre .0 .ready .whole)
+same-length c =
+    let pre = c .before .before .before .before .before .before .before .before .before .pre in
+    let loop = c .before .before .before .loop in
+    loop .inv .sound .ready .whole ∙ sym (pre .0 .ready .whole)
 
 same-length-2 : tie.Need-same-length-2 Inv-loop μ-loop
-same-length-2 c = c .before .before .before .loop .inv .sound .ready .room ∙ sym (c .before .before .before .before .before .before .before .before .before .pre .0 .ready .room)
+same-length-2 c =
+    let pre = c .before .before .before .before .before .before .before .before .before .pre in
+    let loop = c .before .before .before .loop in
+    loop .inv .sound .ready .room ∙ sym (pre .0 .ready .room)
 
 same-length-3 : tie.Need-same-length-3 Inv-loop μ-loop
-same-length-3 c = c .before .before .before .loop .inv .sound .ready .slot ∙ sym (c .before .before .before .before .before .before .before .before .before .pre .0 .ready .slot)
+same-length-3 c =
+    let pre = c .before .before .before .before .before .before .before .before .before .pre in
+    let loop = c .before .before .before .loop in
+    loop .inv .sound .ready .slot ∙ sym (pre .0 .ready .slot)
 
 same-length-4 : tie.Need-same-length-4 Inv-loop μ-loop
 same-length-4 c = c .before .before .before .loop .inv .outs
 
 returns : tie.Need-returns Inv-loop μ-loop
-returns c = step-busy _ _ _ _ _ _ _ _ _ _ _ (c .before .before .before .loop .inv) (sym (c .before .is-busy .ensures) ∙ c .if1 .taken)
+returns c =
+    let loop = c .before .before .before .loop in
+    step-busy _ _ _ _ _ _ _ _ _ _ _ (loop .inv) (sym (c .before .is-busy .ensures) ∙ c .if1 .taken)
 
 sub-if2 : tie.Need-sub-if2 Inv-loop μ-loop
 sub-if2 c = let f = c .before .before .before .loop .inv .fits in search needs
 
 same-length-5 : tie.Need-same-length-5 Inv-loop μ-loop
-same-length-5 c = c .before .before .before .before .loop .inv .sound .ready .whole ∙ sym (c .before .before .before .before .before .before .before .before .before .before .pre .0 .ready .whole)
+same-length-5 c =
+    let pre = c .before .before .before .before .before .before .before .before .before .before .pre in
+    let loop = c .before .before .before .before .loop in
+    loop .inv .sound .ready .whole ∙ sym (pre .0 .ready .whole)
 
 same-length-6 : tie.Need-same-length-6 Inv-loop μ-loop
-same-length-6 c = c .before .before .before .before .loop .inv .sound .ready .room ∙ sym (c .before .before .before .before .before .before .before .before .before .before .pre .0 .ready .room)
+same-length-6 c =
+    let pre = c .before .before .before .before .before .before .before .before .before .before .pre in
+    let loop = c .before .before .before .before .loop in
+    loop .inv .sound .ready .room ∙ sym (pre .0 .ready .room)
 
 same-length-7 : tie.Need-same-length-7 Inv-loop μ-loop
-same-length-7 c = c .before .before .before .before .loop .inv .sound .ready .slot ∙ sym (c .before .before .before .before .before .before .before .before .before .before .pre .0 .ready .slot)
+same-length-7 c =
+    let pre = c .before .before .before .before .before .before .before .before .before .before .pre in
+    let loop = c .before .before .before .before .loop in
+    loop .inv .sound .ready .slot ∙ sym (pre .0 .ready .slot)
 
 same-length-8 : tie.Need-same-length-8 Inv-loop μ-loop
 same-length-8 c = c .before .before .before .before .loop .inv .outs
@@ -59,27 +79,60 @@ rest-requires : tie.Need-rest-requires Inv-loop μ-loop
 rest-requires c κs = search needs
 
 take-bytes-requires : tie.Need-take-bytes-requires Inv-loop μ-loop
-take-bytes-requires c κs = let k = c .before .before .before .before .before .before .before .before .before .loop .inv in let r = c .before .before .before .before .before .if2 .left in let f = k .fits in (k .sound, sym (c .before .before .before .before .before .before .before .is-busy .ensures) ∙ c .before .before .before .before .before .before .if1 .left, omega arith)
+take-bytes-requires c κs =
+    let loop = c .before .before .before .before .before .before .before .before .before .loop in
+    let is-busy = c .before .before .before .before .before .before .before .is-busy in
+    let if1 = c .before .before .before .before .before .before .if1 in
+    let if2 = c .before .before .before .before .before .if2 in
+    let k = loop .inv in let r = if2 .left in let f = k .fits in (k .sound, sym (is-busy .ensures) ∙ if1 .left, omega arith)
 
 add-took : tie.Need-add-took Inv-loop μ-loop
-add-took c = let w = more-within _ _ _ _ _ _ _ _ _ _ _ (c .before .before .before .before .before .before .before .before .before .before .before .before .before .before .before .before .before .before .before .before .loop .inv) (sym (c .before .before .before .before .before .before .before .before .before .before .before .before .before .before .before .before .before .before .is-busy .ensures) ∙ c .before .before .before .before .before .before .before .before .before .before .before .before .before .before .before .before .before .if1 .left) (c .before .before .before .before .before .before .before .before .before .before .before .before .before .before .before .before .if2 .left) _ (c .before .before .before .before .before .before .before .before .before .before .before .before .before .before .before .rest .ensures) _ _ _ _ _ (c .before .before .before .before .before .before .before .before .before .before .take-bytes .ensures) in let g = c .before .before .before .before .before .before .before .before .before .before .before .before .before .before .before .before .before .before .before .before .before .before .before .before .before .before .good .1 in omega arith
+add-took c =
+    let good = c .before .before .before .before .before .before .before .before .before .before .before .before .before .before .before .before .before .before .before .before .before .before .before .before .before .before .good in
+    let loop = c .before .before .before .before .before .before .before .before .before .before .before .before .before .before .before .before .before .before .before .before .loop in
+    let is-busy = c .before .before .before .before .before .before .before .before .before .before .before .before .before .before .before .before .before .before .is-busy in
+    let if1 = c .before .before .before .before .before .before .before .before .before .before .before .before .before .before .before .before .before .if1 in
+    let if2 = c .before .before .before .before .before .before .before .before .before .before .before .before .before .before .before .before .if2 in
+    let rest = c .before .before .before .before .before .before .before .before .before .before .before .before .before .before .before .rest in
+    let take-bytes = c .before .before .before .before .before .before .before .before .before .before .take-bytes in
+    let w = more-within _ _ _ _ _ _ _ _ _ _ _ (loop .inv) (sym (is-busy .ensures) ∙ if1 .left) (if2 .left) _ (rest .ensures) _ _ _ _ _ (take-bytes .ensures) in let g = good .1 in omega arith
 
 loop-less : tie.Need-loop-less Inv-loop μ-loop
 loop-less c =
-    let w = more-within _ _ _ _ _ _ _ _ _ _ _ (c .before .before .before .before .before .before .before .before .before .before .before .before .before .before .before .before .before .before .before .before .loop .inv) (sym (c .before .before .before .before .before .before .before .before .before .before .before .before .before .before .before .before .before .before .is-busy .ensures) ∙ c .before .before .before .before .before .before .before .before .before .before .before .before .before .before .before .before .before .if1 .left) (c .before .before .before .before .before .before .before .before .before .before .before .before .before .before .before .before .if2 .left) _ (c .before .before .before .before .before .before .before .before .before .before .before .before .before .before .before .rest .ensures) _ _ _ _ _ (c .before .before .before .before .before .before .before .before .before .before .take-bytes .ensures) in
-    let m = more-some _ _ _ _ _ _ _ _ _ _ _ (c .before .before .before .before .before .before .before .before .before .before .before .before .before .before .before .before .before .before .before .before .loop .inv) (sym (c .before .before .before .before .before .before .before .before .before .before .before .before .before .before .before .before .before .before .is-busy .ensures) ∙ c .before .before .before .before .before .before .before .before .before .before .before .before .before .before .before .before .before .if1 .left) (c .before .before .before .before .before .before .before .before .before .before .before .before .before .before .before .before .if2 .left) _ (c .before .before .before .before .before .before .before .before .before .before .before .before .before .before .before .rest .ensures) _ _ _ _ _ (c .before .before .before .before .before .before .before .before .before .before .take-bytes .ensures) (c .before .before .before .before .before .before .before .before .before .before .before .before .before .before .before .before .before .before .before .loop-test .taken) in omega arith
+    let loop = c .before .before .before .before .before .before .before .before .before .before .before .before .before .before .before .before .before .before .before .before .loop in
+    let loop-test = c .before .before .before .before .before .before .before .before .before .before .before .before .before .before .before .before .before .before .before .loop-test in
+    let is-busy = c .before .before .before .before .before .before .before .before .before .before .before .before .before .before .before .before .before .before .is-busy in
+    let if1 = c .before .before .before .before .before .before .before .before .before .before .before .before .before .before .before .before .before .if1 in
+    let if2 = c .before .before .before .before .before .before .before .before .before .before .before .before .before .before .before .before .if2 in
+    let rest = c .before .before .before .before .before .before .before .before .before .before .before .before .before .before .before .rest in
+    let take-bytes = c .before .before .before .before .before .before .before .before .before .before .take-bytes in
+    let w = more-within _ _ _ _ _ _ _ _ _ _ _ (loop .inv) (sym (is-busy .ensures) ∙ if1 .left) (if2 .left) _ (rest .ensures) _ _ _ _ _ (take-bytes .ensures) in
+    let m = more-some _ _ _ _ _ _ _ _ _ _ _ (loop .inv) (sym (is-busy .ensures) ∙ if1 .left) (if2 .left) _ (rest .ensures) _ _ _ _ _ (take-bytes .ensures) (loop-test .taken) in omega arith
 
 loop-again : tie.Need-loop-again Inv-loop μ-loop
-loop-again c = step-goes _ _ _ _ _ _ _ _ _ _ _ (c .before .before .before .before .before .before .before .before .before .before .before .before .before .before .before .before .before .before .before .before .loop .inv) (sym (c .before .before .before .before .before .before .before .before .before .before .before .before .before .before .before .before .before .before .is-busy .ensures) ∙ c .before .before .before .before .before .before .before .before .before .before .before .before .before .before .before .before .before .if1 .left) (c .before .before .before .before .before .before .before .before .before .before .before .before .before .before .before .before .if2 .left) _ (c .before .before .before .before .before .before .before .before .before .before .before .before .before .before .before .rest .ensures) _ _ _ _ _ (c .before .before .before .before .before .before .before .before .before .before .take-bytes .ensures)
+loop-again c =
+    let loop = c .before .before .before .before .before .before .before .before .before .before .before .before .before .before .before .before .before .before .before .before .loop in
+    let is-busy = c .before .before .before .before .before .before .before .before .before .before .before .before .before .before .before .before .before .before .is-busy in
+    let if1 = c .before .before .before .before .before .before .before .before .before .before .before .before .before .before .before .before .before .if1 in
+    let if2 = c .before .before .before .before .before .before .before .before .before .before .before .before .before .before .before .before .if2 in
+    let rest = c .before .before .before .before .before .before .before .before .before .before .before .before .before .before .before .rest in
+    let take-bytes = c .before .before .before .before .before .before .before .before .before .before .take-bytes in
+    step-goes _ _ _ _ _ _ _ _ _ _ _ (loop .inv) (sym (is-busy .ensures) ∙ if1 .left) (if2 .left) _ (rest .ensures) _ _ _ _ _ (take-bytes .ensures)
 
 same-length-9 : tie.Need-same-length-9 Inv-loop μ-loop
-same-length-9 c = c .before .loop .inv .sound .ready .whole ∙ sym (c .before .before .before .before .before .before .before .pre .0 .ready .whole)
+same-length-9 c =
+    let pre = c .before .before .before .before .before .before .before .pre in
+    c .before .loop .inv .sound .ready .whole ∙ sym (pre .0 .ready .whole)
 
 same-length-10 : tie.Need-same-length-10 Inv-loop μ-loop
-same-length-10 c = c .before .loop .inv .sound .ready .room ∙ sym (c .before .before .before .before .before .before .before .pre .0 .ready .room)
+same-length-10 c =
+    let pre = c .before .before .before .before .before .before .before .pre in
+    c .before .loop .inv .sound .ready .room ∙ sym (pre .0 .ready .room)
 
 same-length-11 : tie.Need-same-length-11 Inv-loop μ-loop
-same-length-11 c = c .before .loop .inv .sound .ready .slot ∙ sym (c .before .before .before .before .before .before .before .pre .0 .ready .slot)
+same-length-11 c =
+    let pre = c .before .before .before .before .before .before .before .pre in
+    c .before .loop .inv .sound .ready .slot ∙ sym (pre .0 .ready .slot)
 
 same-length-12 : tie.Need-same-length-12 Inv-loop μ-loop
 same-length-12 c = c .before .loop .inv .outs

@@ -16,7 +16,10 @@ same-length-2 : tie.Need-same-length-2
 same-length-2 c = search needs
 
 returns : tie.Need-returns
-returns c = record { taking = rw (c .before .before .before .before .before .before .before .part .ensures) at (c .before .before .before .before .take-line .ensures); images = search needs; frames = search needs }
+returns c =
+    let part = c .before .before .before .before .before .before .before .part in
+    let take-line = c .before .before .before .before .take-line in
+    record { taking = rw (part .ensures) at (take-line .ensures); images = search needs; frames = search needs }
 
 pub read-whole-spec : {M : Type 1} → statement M
 read-whole-spec =

@@ -26,19 +26,28 @@ same-length : tie.Need-same-length
 same-length c = search needs
 
 returns : tie.Need-returns
-returns c = let s = c .before .before .before .before .before .before .before in absurd (refuse-never (s .args .session) (s .args .number) (s .args .out .now) (s .args .at) (s .pre) _ _ (c .before .before .before .before .refuse .ensures) (c .before .match .keys2))
+returns c =
+    let s = c .before .before .before .before .before .before .before in
+    let refuse = c .before .before .before .before .refuse in
+    absurd (refuse-never (s .args .session) (s .args .number) (s .args .out .now) (s .args .at) (s .pre) _ _ (refuse .ensures) (c .before .match .keys2))
 
 stopped-requires-2 : tie.Need-stopped-requires-2
 stopped-requires-2 c κs = search needs
 
 add-t8 : tie.Need-add-t8
-add-t8 c = let s = c .before .before .before .before .before .before .before .before .before in let f = refuse-fits (s .args .session) (s .args .number) (s .args .out .now) (s .args .at) (s .pre) _ _ (c .before .before .before .before .before .before .refuse .ensures) (search needs) _ (c .before .before .n .given .1) in search needs
+add-t8 c =
+    let s = c .before .before .before .before .before .before .before .before .before in
+    let refuse = c .before .before .before .before .before .before .refuse in
+    let f = refuse-fits (s .args .session) (s .args .number) (s .args .out .now) (s .args .at) (s .pre) _ _ (refuse .ensures) (search needs) _ (c .before .before .n .given .1) in search needs
 
 same-length-2 : tie.Need-same-length-2
 same-length-2 c = search needs
 
 returns-2 : tie.Need-returns-2
-returns-2 c = let s = c .before .before .before .before .before .before .before .before .before in refuse-made (s .args .session) (s .args .number) (s .args .out .now) (s .args .at) (s .pre) _ _ (c .before .before .before .before .before .before .refuse .ensures) (search needs) _ (c .before .before .n .given .1) _ (c .stopped2 .ensures)
+returns-2 c =
+    let s = c .before .before .before .before .before .before .before .before .before in
+    let refuse = c .before .before .before .before .before .before .refuse in
+    refuse-made (s .args .session) (s .args .number) (s .args .out .now) (s .args .at) (s .pre) _ _ (refuse .ensures) (search needs) _ (c .before .before .n .given .1) _ (c .stopped2 .ensures)
 
 pub refuse-at-spec : {M : Type 1} → statement M
 refuse-at-spec =

@@ -6,7 +6,9 @@ use Rattle.stream.proofs.taking.take_bytes.Statement.{statement}
 use Rattle.stream.proofs.taking.take_bytes.Tie as tie
 
 hold-requires : tie.Need-hold-requires
-hold-requires c κs = let k = c .before .before .before .before .before .before .before .pre .0 in (k .ready .whole, k .held)
+hold-requires c κs =
+    let pre = c .before .before .before .before .before .before .before .pre in
+    let k = pre .0 in (k .ready .whole, k .held)
 
 sub-took : tie.Need-sub-took
 sub-took c = search needs
@@ -18,10 +20,16 @@ same-length : tie.Need-same-length
 same-length c = search needs
 
 returns : tie.Need-returns
-returns c = let s = c .before .before .before .before .before .before .before .before .before .before .before .before .before .before in bytes-held (s .args .stream) (s .args .line .now) (s .args .image .now) (s .args .slots .now) (s .pre .0) (s .pre .1) (s .args .bytes .now) (s .args .out .now) (s .args .at) _ _ (c .before .before .before .before .before .before .hold .ensures) (not-true (c .before .before .before .before .before .before .hold .result .closed) (c .before .if1 .taken)) _ (c .reading .ensures)
+returns c =
+    let s = c .before .before .before .before .before .before .before .before .before .before .before .before .before .before in
+    let hold = c .before .before .before .before .before .before .hold in
+    bytes-held (s .args .stream) (s .args .line .now) (s .args .image .now) (s .args .slots .now) (s .pre .0) (s .pre .1) (s .args .bytes .now) (s .args .out .now) (s .args .at) _ _ (hold .ensures) (not-true (hold .result .closed) (c .before .if1 .taken)) _ (c .reading .ensures)
 
 take-whole-requires : tie.Need-take-whole-requires
-take-whole-requires c κs = let s = c .before .before .before .before .before .before .before .before .before .before .before .before .before .before .before .before .before in (held-ready (s .args .stream) (s .args .line .now) (s .args .image .now) (s .args .slots .now) (s .pre .0) (s .pre .1) (s .args .bytes .now) (s .args .out .now) (s .args .at) _ _ (c .before .before .before .before .before .before .before .before .before .hold .ensures), (early (s .args .stream) (s .args .line .now) (s .args .image .now) (s .args .slots .now) (s .pre .0) (s .pre .1) (s .args .bytes .now) (s .args .out .now) (s .args .at) _ _ (c .before .before .before .before .before .before .before .before .before .hold .ensures), s .pre .2))
+take-whole-requires c κs =
+    let s = c .before .before .before .before .before .before .before .before .before .before .before .before .before .before .before .before .before in
+    let hold = c .before .before .before .before .before .before .before .before .before .hold in
+    (held-ready (s .args .stream) (s .args .line .now) (s .args .image .now) (s .args .slots .now) (s .pre .0) (s .pre .1) (s .args .bytes .now) (s .args .out .now) (s .args .at) _ _ (hold .ensures), (early (s .args .stream) (s .args .line .now) (s .args .image .now) (s .args .slots .now) (s .pre .0) (s .pre .1) (s .args .bytes .now) (s .args .out .now) (s .args .at) _ _ (hold .ensures), s .pre .2))
 
 same-length-2 : tie.Need-same-length-2
 same-length-2 c = search needs
@@ -36,7 +44,12 @@ same-length-5 : tie.Need-same-length-5
 same-length-5 c = search needs
 
 returns-2 : tie.Need-returns-2
-returns-2 c = let s = c .before .before .before .before .before .before .before .before .before .before .before .before .before .before .before .before .before .before .before .before .before .before .before .before .before .before .before in bytes-line (s .args .stream) (s .args .line .now) (s .args .image .now) (s .args .slots .now) (s .pre .0) (s .pre .1) (s .args .bytes .now) (s .args .out .now) (s .args .at) _ _ (c .before .before .before .before .before .before .before .before .before .before .before .before .before .before .before .before .before .before .before .hold .ensures) (not-false (c .before .before .before .before .before .before .before .before .before .before .before .before .before .before .before .before .before .before .before .hold .result .closed) (c .before .before .before .before .before .before .before .before .before .before .before .before .before .before .if1 .left)) _ _ _ _ _ (c .before .before .before .before .before .before .before .before .before .take-whole .ensures)
+returns-2 c =
+    let s = c .before .before .before .before .before .before .before .before .before .before .before .before .before .before .before .before .before .before .before .before .before .before .before .before .before .before .before in
+    let hold = c .before .before .before .before .before .before .before .before .before .before .before .before .before .before .before .before .before .before .before .hold in
+    let if1 = c .before .before .before .before .before .before .before .before .before .before .before .before .before .before .if1 in
+    let take-whole = c .before .before .before .before .before .before .before .before .before .take-whole in
+    bytes-line (s .args .stream) (s .args .line .now) (s .args .image .now) (s .args .slots .now) (s .pre .0) (s .pre .1) (s .args .bytes .now) (s .args .out .now) (s .args .at) _ _ (hold .ensures) (not-false (hold .result .closed) (if1 .left)) _ _ _ _ _ (take-whole .ensures)
 
 pub take-bytes-spec : {M : Type 1} → statement M
 take-bytes-spec =

@@ -12,10 +12,14 @@ part-requires-2 : tie.Need-part-requires-2
 part-requires-2 c κs = search needs
 
 returns : tie.Need-returns
-returns c = c .part .ensures ∙ in-words (c .before .before .before .before .args .words .now) (c .before .before .before .before .args .image .now) (c .before .before .before .before .args .e) (c .before .if1 .taken)
+returns c =
+    let args = c .before .before .before .before .args in
+    c .part .ensures ∙ in-words (args .words .now) (args .image .now) (args .e) (c .before .if1 .taken)
 
 returns-2 : tie.Need-returns-2
-returns-2 c = c .part2 .ensures ∙ in-image (c .before .before .before .before .args .words .now) (c .before .before .before .before .args .image .now) (c .before .before .before .before .args .e) (c .before .if1 .left)
+returns-2 c =
+    let args = c .before .before .before .before .args in
+    c .part2 .ensures ∙ in-image (args .words .now) (args .image .now) (args .e) (c .before .if1 .left)
 
 pub key-spec : {M : Type 1} → statement M
 key-spec = tie.close (tie.spec part-requires part-requires-2 returns returns-2)

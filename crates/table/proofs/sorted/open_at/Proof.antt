@@ -37,8 +37,9 @@ loop-less c = search needs
 loop-again : tie.Need-loop-again Inv-loop μ-loop
 loop-again c =
     let a = c .before .before .before .args in
-    let p = c .before .before .before .pre .0 in
-    let q = c .before .before .before .pre .1 in
+    let pre = c .before .before .before .pre in
+    let p = pre .0 in
+    let q = pre .1 in
     (omega arith, shift-turn (a .place) (a .e) (a .table .now) _ _ _ (omega arith) (omega arith) (c .before .before .loop .inv .1))
 
 same-length : tie.Need-same-length Inv-loop μ-loop
@@ -47,8 +48,9 @@ same-length c = c .before .loop .inv .1 .same
 returns : tie.Need-returns Inv-loop μ-loop
 returns c =
     let a = c .before .before .args in
-    let p = c .before .before .pre .0 in
-    let q = c .before .before .pre .1 in
+    let pre = c .before .before .pre in
+    let p = pre .0 in
+    let q = pre .1 in
     let i : c .before .loop .i ≡ a .n + 1 = omega arith in
     (c .before .loop .inv .1 .same, shift-end (a .place) (a .e) (a .table .now) _ _ (a .n) p q (rw i at (c .before .loop .inv .1)))
 

@@ -37,9 +37,12 @@ enum-told c = search needs
 returns : tie.Need-returns Inv-loop μ-loop
 returns c =
     let a = c .before .before .before .before .before .before .before .before .before .before .before .args in
-    let z = size-tabled (a .n) (a .table .now) (c .before .before .before .before .before .before .before .before .before .before .before .pre) in
-    let h : c .before .before .before .before .before .before .loop .i < sizeOf (tabled (a .n) (a .table .now)) = omega arith in
-    sym (seek-turn (a .words .now) (a .image .now) (tabled (a .n) (a .table .now)) (a .wanted .now) _ _ h (c .before .before .before .key .ensures) _ (sym (c .before .before .compare .ensures) ∙ c .enum-told .given .1)) ∙ c .before .before .before .before .before .before .loop .inv .1
+    let pre = c .before .before .before .before .before .before .before .before .before .before .before .pre in
+    let loop = c .before .before .before .before .before .before .loop in
+    let key = c .before .before .before .key in
+    let z = size-tabled (a .n) (a .table .now) (pre) in
+    let h : loop .i < sizeOf (tabled (a .n) (a .table .now)) = omega arith in
+    sym (seek-turn (a .words .now) (a .image .now) (tabled (a .n) (a .table .now)) (a .wanted .now) _ _ h (key .ensures) _ (sym (c .before .before .compare .ensures) ∙ c .enum-told .given .1)) ∙ loop .inv .1
 
 enum-told-2 : tie.Need-enum-told-2 Inv-loop μ-loop
 enum-told-2 c = search needs
@@ -47,9 +50,12 @@ enum-told-2 c = search needs
 returns-2 : tie.Need-returns-2 Inv-loop μ-loop
 returns-2 c =
     let a = c .before .before .before .before .before .before .before .before .before .before .before .args in
-    let z = size-tabled (a .n) (a .table .now) (c .before .before .before .before .before .before .before .before .before .before .before .pre) in
-    let h : c .before .before .before .before .before .before .loop .i < sizeOf (tabled (a .n) (a .table .now)) = omega arith in
-    sym (seek-turn (a .words .now) (a .image .now) (tabled (a .n) (a .table .now)) (a .wanted .now) _ _ h (c .before .before .before .key .ensures) _ (sym (c .before .before .compare .ensures) ∙ c .enum-told2 .given .1)) ∙ c .before .before .before .before .before .before .loop .inv .1
+    let pre = c .before .before .before .before .before .before .before .before .before .before .before .pre in
+    let loop = c .before .before .before .before .before .before .loop in
+    let key = c .before .before .before .key in
+    let z = size-tabled (a .n) (a .table .now) (pre) in
+    let h : loop .i < sizeOf (tabled (a .n) (a .table .now)) = omega arith in
+    sym (seek-turn (a .words .now) (a .image .now) (tabled (a .n) (a .table .now)) (a .wanted .now) _ _ h (key .ensures) _ (sym (c .before .before .compare .ensures) ∙ c .enum-told2 .given .1)) ∙ loop .inv .1
 
 enum-told-3 : tie.Need-enum-told-3 Inv-loop μ-loop
 enum-told-3 c = search needs
@@ -63,14 +69,18 @@ loop-less c = search needs
 loop-again : tie.Need-loop-again Inv-loop μ-loop
 loop-again c =
     let a = c .before .before .before .before .before .before .before .before .before .before .before .args in
-    let z = size-tabled (a .n) (a .table .now) (c .before .before .before .before .before .before .before .before .before .before .before .pre) in
-    let h : c .before .before .before .before .before .before .loop .i < sizeOf (tabled (a .n) (a .table .now)) = omega arith in
-    (omega arith, sym (seek-turn (a .words .now) (a .image .now) (tabled (a .n) (a .table .now)) (a .wanted .now) _ _ h (c .before .before .before .key .ensures) _ (sym (c .before .before .compare .ensures) ∙ c .enum-told3 .given .1)) ∙ c .before .before .before .before .before .before .loop .inv .1)
+    let pre = c .before .before .before .before .before .before .before .before .before .before .before .pre in
+    let loop = c .before .before .before .before .before .before .loop in
+    let key = c .before .before .before .key in
+    let z = size-tabled (a .n) (a .table .now) (pre) in
+    let h : loop .i < sizeOf (tabled (a .n) (a .table .now)) = omega arith in
+    (omega arith, sym (seek-turn (a .words .now) (a .image .now) (tabled (a .n) (a .table .now)) (a .wanted .now) _ _ h (key .ensures) _ (sym (c .before .before .compare .ensures) ∙ c .enum-told3 .given .1)) ∙ loop .inv .1)
 
 returns-3 : tie.Need-returns-3 Inv-loop μ-loop
 returns-3 c =
     let a = c .before .before .before .before .before .before .args in
-    let z = size-tabled (a .n) (a .table .now) (c .before .before .before .before .before .before .pre) in
+    let pre = c .before .before .before .before .before .before .pre in
+    let z = size-tabled (a .n) (a .table .now) (pre) in
     let h : sizeOf (tabled (a .n) (a .table .now)) ≤ c .before .loop .i = omega arith in
     sym (seek-end (a .words .now) (a .image .now) (tabled (a .n) (a .table .now)) (a .wanted .now) [] _ h) ∙ c .before .loop .inv .1
 

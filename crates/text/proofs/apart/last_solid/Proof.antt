@@ -29,7 +29,9 @@ enum-told c = c .match .keys2
 
 returns : tie.Need-returns Inv-loop μ-loop
 unfolding solidLength
-returns c = rw (solid-none _ (seen-end _ (sym (c .before .before .see .ensures) ∙ c .enum-told .given .1))) at (c .before .before .before .before .loop .inv .1)
+returns c =
+    let loop = c .before .before .before .before .loop in
+    rw (solid-none _ (seen-end _ (sym (c .before .before .see .ensures) ∙ c .enum-told .given .1))) at (loop .inv .1)
 
 here : (c : tie.After-known-told Inv-loop μ-loop)
     → Sees (drop (c .before .before .before .before .before .loop .at) (c .before .before .before .before .before .before .before .args .s .now)) (c .before .white .given .0 .0) (c .before .white .given .0 .1 .0)
@@ -46,17 +48,23 @@ loop-less : tie.Need-loop-less Inv-loop μ-loop
 loop-less c = let f = fits (c .before) in omega arith
 
 loop-again : tie.Need-loop-again Inv-loop μ-loop
-loop-again c = (fits (c .before) .1, solid-turn _ _ _ _ _ _ (here (c .before)) (not-true _ (c .if1 .taken)) (c .before .before .before .before .before .before .loop .inv .1))
+loop-again c =
+    let loop = c .before .before .before .before .before .before .loop in
+    (fits (c .before) .1, solid-turn _ _ _ _ _ _ (here (c .before)) (not-true _ (c .if1 .taken)) (loop .inv .1))
 
 loop-less-2 : tie.Need-loop-less-2 Inv-loop μ-loop
 loop-less-2 c = let f = fits (c .before) in omega arith
 
 loop-again-2 : tie.Need-loop-again-2 Inv-loop μ-loop
-loop-again-2 c = (fits (c .before) .1, white-turn _ _ _ _ _ _ (here (c .before)) (not-false _ (c .if1 .left)) (c .before .before .before .before .before .before .loop .inv .1))
+loop-again-2 c =
+    let loop = c .before .before .before .before .before .before .loop in
+    (fits (c .before) .1, white-turn _ _ _ _ _ _ (here (c .before)) (not-false _ (c .if1 .left)) (loop .inv .1))
 
 returns-2 : tie.Need-returns-2 Inv-loop μ-loop
 unfolding solidLength
-returns-2 c = rw (solid-none (drop (c .before .loop .at) (c .before .before .before .args .s .now)) (drop-end _ _ (c .loop-test .left))) at (c .before .loop .inv .1)
+returns-2 c =
+    let args = c .before .before .before .args in
+    rw (solid-none (drop (c .before .loop .at) (args .s .now)) (drop-end _ _ (c .loop-test .left))) at (c .before .loop .inv .1)
 
 pub last-solid-spec : {M : Type 1} → statement M
 last-solid-spec =

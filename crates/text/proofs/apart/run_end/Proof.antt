@@ -30,7 +30,10 @@ enum-told : tie.Need-enum-told Inv-loop μ-loop
 enum-told c = c .match .keys2
 
 returns : tie.Need-returns Inv-loop μ-loop
-returns c = let e = run-none _ (c .before .before .before .before .before .before .args .is-white) (seen-end _ (sym (c .before .before .see .ensures) ∙ c .enum-told .given .1)) in omega (arith, c .before .before .before .before .loop .inv .1, e)
+returns c =
+    let args = c .before .before .before .before .before .before .args in
+    let loop = c .before .before .before .before .loop in
+    let e = run-none _ (args .is-white) (seen-end _ (sym (c .before .before .see .ensures) ∙ c .enum-told .given .1)) in omega (arith, loop .inv .1, e)
 
 here : (c : tie.After-known-told Inv-loop μ-loop)
     → Sees (drop (c .before .before .before .before .before .loop .at) (c .before .before .before .before .before .before .before .args .s .now)) (c .before .white .given .0 .0) (c .before .white .given .0 .1 .0)
@@ -41,7 +44,10 @@ fits : (c : tie.After-known-told Inv-loop μ-loop)
 fits c = sees-fits (c .before .before .before .before .before .before .before .args .s .now) (c .before .before .before .before .before .loop .at) _ _ (here c)
 
 returns-2 : tie.Need-returns-2 Inv-loop μ-loop
-returns-2 c = let e = run-stop _ _ (c .before .before .before .before .before .before .before .before .args .is-white) _ (here (c .before)) (not-true _ (c .if1 .taken)) in omega (arith, c .before .before .before .before .before .before .loop .inv .1, e)
+returns-2 c =
+    let args = c .before .before .before .before .before .before .before .before .args in
+    let loop = c .before .before .before .before .before .before .loop in
+    let e = run-stop _ _ (args .is-white) _ (here (c .before)) (not-true _ (c .if1 .taken)) in omega (arith, loop .inv .1, e)
 
 add-at : tie.Need-add-at Inv-loop μ-loop
 add-at c = let f = fits (c .before) in omega arith
@@ -50,10 +56,14 @@ loop-less : tie.Need-loop-less Inv-loop μ-loop
 loop-less c = let f = fits (c .before) in omega arith
 
 loop-again : tie.Need-loop-again Inv-loop μ-loop
-loop-again c = (fits (c .before) .1, run-turn _ _ _ _ _ _ (here (c .before)) (not-false _ (c .if1 .left)) (c .before .before .before .before .before .before .loop .inv .1))
+loop-again c =
+    let loop = c .before .before .before .before .before .before .loop in
+    (fits (c .before) .1, run-turn _ _ _ _ _ _ (here (c .before)) (not-false _ (c .if1 .left)) (loop .inv .1))
 
 returns-3 : tie.Need-returns-3 Inv-loop μ-loop
-returns-3 c = let e = run-none _ (c .before .before .before .args .is-white) (drop-end (c .before .before .before .args .s .now) (c .before .loop .at) (c .loop-test .left)) in omega (arith, c .before .loop .inv .1, e)
+returns-3 c =
+    let args = c .before .before .before .args in
+    let e = run-none _ (args .is-white) (drop-end (args .s .now) (c .before .loop .at) (c .loop-test .left)) in omega (arith, c .before .loop .inv .1, e)
 
 pub run-end-spec : {M : Type 1} → statement M
 run-end-spec =

@@ -22,7 +22,10 @@ enum-told-2 : tie.Need-enum-told-2
 enum-told-2 c = search needs
 
 returns : tie.Need-returns
-returns c = cc (see-character (drop (c .before .before .before .before .before .before .args .at) (c .before .before .before .before .before .before .args .s .now)) _ _ (sym (c .before .before .before .before .decode .ensures) ∙ c .before .before .code .given .1))
+returns c =
+    let args = c .before .before .before .before .before .before .args in
+    let decode = c .before .before .before .before .decode in
+    cc (see-character (drop (args .at) (args .s .now)) _ _ (sym (decode .ensures) ∙ c .before .before .code .given .1))
 
 returns-2 : tie.Need-returns-2
 returns-2 c = sym (see-stray _ (sym (c .before .before .decode .ensures) ∙ c .enum-told .given .1))

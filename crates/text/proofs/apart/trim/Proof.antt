@@ -21,11 +21,15 @@ part-result-start c = search needs
 
 part-result-end : tie.Need-part-result-end
 unfolding solidLength
-part-result-end c = trim-fits (c .before .before .before .args .s .now) _ _ (c .before .run-end .ensures) (c .last-solid .ensures)
+part-result-end c =
+    let args = c .before .before .before .args in
+    trim-fits (args .s .now) _ _ (c .before .run-end .ensures) (c .last-solid .ensures)
 
 returns : tie.Need-returns
 unfolding solidLength
-returns c = trim-is (c .before .before .before .before .args .s .now) _ _ (c .before .before .run-end .ensures) (c .before .last-solid .ensures)
+returns c =
+    let args = c .before .before .before .before .args in
+    trim-is (args .s .now) _ _ (c .before .before .run-end .ensures) (c .before .last-solid .ensures)
 
 pub trim-spec : {M : Type 1} → statement M
 trim-spec =

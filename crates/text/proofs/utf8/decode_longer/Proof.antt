@@ -30,7 +30,10 @@ longer-requires : tie.Need-longer-requires
 longer-requires c κs = search needs
 
 returns : tie.Need-returns
-returns c = c .longer .ensures ∙ cc (decode-at (c .before .before .before .before .before .before .args .s .now) (c .before .before .before .before .before .before .args .at) (c .before .before .before .before .before .before .pre .0))
+returns c =
+    let args = c .before .before .before .before .before .before .args in
+    let pre = c .before .before .before .before .before .before .pre in
+    c .longer .ensures ∙ cc (decode-at (args .s .now) (args .at) (pre .0))
 
 pub decode-longer-spec : {M : Type 1} → statement M
 decode-longer-spec =

@@ -46,22 +46,34 @@ add-t18 c = search needs
 
 returns : tie.Need-returns
 returns c =
+    let args = c .before .before .before .before .before .before .before .before .before .args in
+    let is-second = c .before .before .before .before .before .before .before .before .is-second in
+    let if1 = c .before .before .before .before .before .before .before .if1 in
+    let is-later = c .before .before .before .before .before .before .is-later in
+    let if2 = c .before .before .before .before .before .if2 in
+    let is-later2 = c .before .before .before .before .is-later2 in
+    let if3 = c .before .before .before .if3 in
     cc
-    (four-is (c .before .before .before .before .before .before .before .before .before .args .a) (c .before .before .before .before .before .before .before .before .before .args .b) (c .before .before .before .before .before .before .before .before .before .args .c) (c .before .before .before .before .before .before .before .before .before .args .d)
-    (sym (c .before .before .before .before .before .before .before .before .is-second .ensures) ∙ c .before .before .before .before .before .before .before .if1 .taken)
-    (sym (c .before .before .before .before .before .before .is-later .ensures) ∙ c .before .before .before .before .before .if2 .taken)
-    (sym (c .before .before .before .before .is-later2 .ensures) ∙ c .before .before .before .if3 .taken))
+    (four-is (args .a) (args .b) (args .c) (args .d)
+    (sym (is-second .ensures) ∙ if1 .taken)
+    (sym (is-later .ensures) ∙ if2 .taken)
+    (sym (is-later2 .ensures) ∙ if3 .taken))
 
 returns-2 : tie.Need-returns-2
 returns-2 c =
+    let is-second = c .before .before .before .before .before .is-second in
+    let if1 = c .before .before .before .before .if1 in
+    let is-later = c .before .before .before .is-later in
     sym
     (four-cut-last _ _ _ _
-    (sym (c .before .before .before .before .before .is-second .ensures) ∙ c .before .before .before .before .if1 .taken)
-    (sym (c .before .before .before .is-later .ensures) ∙ c .before .before .if2 .taken)
+    (sym (is-second .ensures) ∙ if1 .taken)
+    (sym (is-later .ensures) ∙ c .before .before .if2 .taken)
     (sym (c .before .is-later2 .ensures) ∙ c .if3 .left))
 
 returns-3 : tie.Need-returns-3
-returns-3 c = sym (four-cut _ _ _ _ (sym (c .before .before .before .is-second .ensures) ∙ c .before .before .if1 .taken) (sym (c .before .is-later .ensures) ∙ c .if2 .left))
+returns-3 c =
+    let is-second = c .before .before .before .is-second in
+    sym (four-cut _ _ _ _ (sym (is-second .ensures) ∙ c .before .before .if1 .taken) (sym (c .before .is-later .ensures) ∙ c .if2 .left))
 
 returns-4 : tie.Need-returns-4
 returns-4 c = sym (four-not _ _ _ _ (sym (c .before .is-second .ensures) ∙ c .if1 .left))

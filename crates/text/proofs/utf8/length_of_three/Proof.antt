@@ -12,10 +12,14 @@ is-later-requires : tie.Need-is-later-requires
 is-later-requires c κs = search needs
 
 returns : tie.Need-returns
-returns c = sym (three-length _ _ _ (sym (c .before .before .before .is-second .ensures) ∙ c .before .before .if1 .taken) (sym (c .before .is-later .ensures) ∙ c .if2 .taken))
+returns c =
+    let is-second = c .before .before .before .is-second in
+    sym (three-length _ _ _ (sym (is-second .ensures) ∙ c .before .before .if1 .taken) (sym (c .before .is-later .ensures) ∙ c .if2 .taken))
 
 returns-2 : tie.Need-returns-2
-returns-2 c = sym (three-broken _ _ _ (sym (c .before .before .before .is-second .ensures) ∙ c .before .before .if1 .taken) (sym (c .before .is-later .ensures) ∙ c .if2 .left))
+returns-2 c =
+    let is-second = c .before .before .before .is-second in
+    sym (three-broken _ _ _ (sym (is-second .ensures) ∙ c .before .before .if1 .taken) (sym (c .before .is-later .ensures) ∙ c .if2 .left))
 
 returns-3 : tie.Need-returns-3
 returns-3 c = sym (three-short _ _ _ (sym (c .before .is-second .ensures) ∙ c .if1 .left))

@@ -24,7 +24,10 @@ length-of-two-requires : tie.Need-length-of-two-requires
 length-of-two-requires c κs = search needs
 
 returns-3 : tie.Need-returns-3
-returns-3 c = at-two _ _ (c .before .before .before .before .before .if1 .left) _ _ (c .before .before .before .if2 .left) (c .before .before .if3 .taken) (c .before .octet-at .ensures) (c .length-of-two .ensures)
+returns-3 c =
+    let if1 = c .before .before .before .before .before .if1 in
+    let if2 = c .before .before .before .if2 in
+    at-two _ _ (if1 .left) _ _ (if2 .left) (c .before .before .if3 .taken) (c .before .octet-at .ensures) (c .length-of-two .ensures)
 
 is-letter-head-requires : tie.Need-is-letter-head-requires
 is-letter-head-requires c κs = search needs
@@ -45,10 +48,16 @@ length-of-three-requires : tie.Need-length-of-three-requires
 length-of-three-requires c κs = search needs
 
 returns-4 : tie.Need-returns-4
-returns-4 c = at-three _ _ (c .before .before .before .before .before .before .before .before .if1 .left) _ _ _ (sym (c .before .before .before .before .is-letter-head .ensures) ∙ c .before .before .before .if4 .taken) (c .before .before .octet-at2 .ensures) (c .before .octet-at3 .ensures) (c .length-of-three .ensures)
+returns-4 c =
+    let if1 = c .before .before .before .before .before .before .before .before .if1 in
+    let is-letter-head = c .before .before .before .before .is-letter-head in
+    let if4 = c .before .before .before .if4 in
+    at-three _ _ (if1 .left) _ _ _ (sym (is-letter-head .ensures) ∙ if4 .taken) (c .before .before .octet-at2 .ensures) (c .before .octet-at3 .ensures) (c .length-of-three .ensures)
 
 returns-5 : tie.Need-returns-5
-returns-5 c = sym (at-none _ _ (c .before .before .before .before .before .if1 .left) (c .before .before .if3 .left) (sym (c .before .is-letter-head .ensures) ∙ c .if4 .left))
+returns-5 c =
+    let if1 = c .before .before .before .before .before .if1 in
+    sym (at-none _ _ (if1 .left) (c .before .before .if3 .left) (sym (c .before .is-letter-head .ensures) ∙ c .if4 .left))
 
 pub letter-at-spec : {M : Type 1} → statement M
 letter-at-spec =

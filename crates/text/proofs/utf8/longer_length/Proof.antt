@@ -9,7 +9,9 @@ letter-at-requires : tie.Need-letter-at-requires
 letter-at-requires c κs = search needs
 
 returns : tie.Need-returns
-returns c = length-letter (c .before .before .before .args .s .now) (c .before .before .before .args .at) _ (c .before .letter-at .ensures) (c .if1 .taken)
+returns c =
+    let args = c .before .before .before .args in
+    length-letter (args .s .now) (args .at) _ (c .before .letter-at .ensures) (c .if1 .taken)
 
 decode-longer-requires : tie.Need-decode-longer-requires
 decode-longer-requires c κs = search needs

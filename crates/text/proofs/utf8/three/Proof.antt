@@ -33,10 +33,17 @@ add-t13 : tie.Need-add-t13
 add-t13 c = search needs
 
 returns : tie.Need-returns
-returns c = cc (three-is (c .before .before .before .before .before .before .args .a) (c .before .before .before .before .before .before .args .b) (c .before .before .before .before .before .before .args .c) (sym (c .before .before .before .before .before .is-second .ensures) ∙ c .before .before .before .before .if1 .taken) (sym (c .before .before .before .is-later .ensures) ∙ c .before .before .if2 .taken))
+returns c =
+    let args = c .before .before .before .before .before .before .args in
+    let is-second = c .before .before .before .before .before .is-second in
+    let if1 = c .before .before .before .before .if1 in
+    let is-later = c .before .before .before .is-later in
+    cc (three-is (args .a) (args .b) (args .c) (sym (is-second .ensures) ∙ if1 .taken) (sym (is-later .ensures) ∙ c .before .before .if2 .taken))
 
 returns-2 : tie.Need-returns-2
-returns-2 c = sym (three-cut _ _ _ (sym (c .before .before .before .is-second .ensures) ∙ c .before .before .if1 .taken) (sym (c .before .is-later .ensures) ∙ c .if2 .left))
+returns-2 c =
+    let is-second = c .before .before .before .is-second in
+    sym (three-cut _ _ _ (sym (is-second .ensures) ∙ c .before .before .if1 .taken) (sym (c .before .is-later .ensures) ∙ c .if2 .left))
 
 returns-3 : tie.Need-returns-3
 returns-3 c = sym (three-not _ _ _ (sym (c .before .is-second .ensures) ∙ c .if1 .left))

@@ -21,7 +21,9 @@ add-t8 : tie.Need-add-t8
 add-t8 c = search needs
 
 returns : tie.Need-returns
-returns c = cc (two-is (c .before .before .before .args .a) (c .before .before .before .args .b) (sym (c .before .before .is-second .ensures) ∙ c .before .if1 .taken))
+returns c =
+    let args = c .before .before .before .args in
+    cc (two-is (args .a) (args .b) (sym (c .before .before .is-second .ensures) ∙ c .before .if1 .taken))
 
 returns-2 : tie.Need-returns-2
 returns-2 c = sym (two-not _ _ (sym (c .before .is-second .ensures) ∙ c .if1 .left))

@@ -35,25 +35,41 @@ loop-less : tie.Need-loop-less Inv-loop μ-loop
 loop-less c = omega arith
 
 loop-again : tie.Need-loop-again Inv-loop μ-loop
-loop-again c = (omega arith, prefix-turn _ _ _ _ _ (decode-ascii _ _ (c .before .before .loop-test .taken) (c .if2 .taken)) (c .before .before .before .loop .inv .1))
+loop-again c =
+    let loop = c .before .before .before .loop in
+    (omega arith, prefix-turn _ _ _ _ _ (decode-ascii _ _ (c .before .before .loop-test .taken) (c .if2 .taken)) (loop .inv .1))
 
 longer-length-requires : tie.Need-longer-length-requires Inv-loop μ-loop
 longer-length-requires c κs = (c .before .before .loop-test .taken, c .if2 .left)
 
 returns-2 : tie.Need-returns-2 Inv-loop μ-loop
-returns-2 c = prefix-stop (c .before .before .before .before .before .before .before .before .before .args .s .now) (c .before .before .before .before .before .loop .at) _ (c .before .longer-length .ensures) _ (c .if3 .taken) (c .before .before .before .before .before .loop .inv .1)
+returns-2 c =
+    let args = c .before .before .before .before .before .before .before .before .before .args in
+    let loop = c .before .before .before .before .before .loop in
+    prefix-stop (args .s .now) (loop .at) _ (c .before .longer-length .ensures) _ (c .if3 .taken) (loop .inv .1)
 
 add-at-2 : tie.Need-add-at-2 Inv-loop μ-loop
-add-at-2 c = let f = length-fits (c .before .before .before .before .before .before .before .before .before .args .s .now) (c .before .before .before .before .before .loop .at) _ (c .before .longer-length .ensures) (c .if3 .left) in omega arith
+add-at-2 c =
+    let args = c .before .before .before .before .before .before .before .before .before .args in
+    let loop = c .before .before .before .before .before .loop in
+    let f = length-fits (args .s .now) (loop .at) _ (c .before .longer-length .ensures) (c .if3 .left) in omega arith
 
 loop-less-2 : tie.Need-loop-less-2 Inv-loop μ-loop
-loop-less-2 c = let f = length-fits (c .before .before .before .before .before .before .before .before .before .args .s .now) (c .before .before .before .before .before .loop .at) _ (c .before .longer-length .ensures) (c .if3 .left) in omega (arith, f, c .if3 .left)
+loop-less-2 c =
+    let args = c .before .before .before .before .before .before .before .before .before .args in
+    let loop = c .before .before .before .before .before .loop in
+    let f = length-fits (args .s .now) (loop .at) _ (c .before .longer-length .ensures) (c .if3 .left) in omega (arith, f, c .if3 .left)
 
 loop-again-2 : tie.Need-loop-again-2 Inv-loop μ-loop
-loop-again-2 c = (length-fits (c .before .before .before .before .before .before .before .before .before .args .s .now) (c .before .before .before .before .before .loop .at) _ (c .before .longer-length .ensures) (c .if3 .left), prefix-more (c .before .before .before .before .before .before .before .before .before .args .s .now) (c .before .before .before .before .before .loop .at) _ (c .before .longer-length .ensures) _ (c .if3 .left) (c .before .before .before .before .before .loop .inv .1))
+loop-again-2 c =
+    let args = c .before .before .before .before .before .before .before .before .before .args in
+    let loop = c .before .before .before .before .before .loop in
+    (length-fits (args .s .now) (loop .at) _ (c .before .longer-length .ensures) (c .if3 .left), prefix-more (args .s .now) (loop .at) _ (c .before .longer-length .ensures) _ (c .if3 .left) (loop .inv .1))
 
 returns-3 : tie.Need-returns-3 Inv-loop μ-loop
-returns-3 c = let e = prefix-none (drop (c .before .loop .at) (c .before .before .before .before .before .args .s .now)) (codes-end _ _ (c .loop-test .left)) in omega (arith, c .before .loop .inv .1, e)
+returns-3 c =
+    let args = c .before .before .before .before .before .args in
+    let e = prefix-none (drop (c .before .loop .at) (args .s .now)) (codes-end _ _ (c .loop-test .left)) in omega (arith, c .before .loop .inv .1, e)
 
 pub well-formed-prefix-spec : {M : Type 1} → statement M
 well-formed-prefix-spec =

@@ -10,19 +10,27 @@ refused-requires : tie.Need-refused-requires
 refused-requires c κs = search needs
 
 returns : tie.Need-returns
-returns c = λ image d n l ds. step-refused _ _ _ _ (c .refused .ensures) (flag-orphan image _ (c .before .before .before .pre .0) d n l ds (c .before .if1 .taken))
+returns c =
+    let pre = c .before .before .before .pre in
+    λ image d n l ds. step-refused _ _ _ _ (c .refused .ensures) (flag-orphan image _ (pre .0) d n l ds (c .before .if1 .taken))
 
 refused-requires-2 : tie.Need-refused-requires-2
 refused-requires-2 c κs = search needs
 
 returns-2 : tie.Need-returns-2
-returns-2 c = λ image d n l ds. step-refused _ _ _ _ (c .refused2 .ensures) (flag-decides image _ (c .before .before .before .before .before .pre .0) d n l ds (c .before .before .before .if1 .left) false (le-ltb _ _ (c .before .if2 .taken)))
+returns-2 c =
+    let pre = c .before .before .before .before .before .pre in
+    let if1 = c .before .before .before .if1 in
+    λ image d n l ds. step-refused _ _ _ _ (c .refused2 .ensures) (flag-decides image _ (pre .0) d n l ds (if1 .left) false (le-ltb _ _ (c .before .if2 .taken)))
 
 after-flag-requires : tie.Need-after-flag-requires
 after-flag-requires c κs = search needs
 
 returns-3 : tie.Need-returns-3
-returns-3 c = λ image d n l ds. step-taken _ _ _ _ (c .after-flag .ensures) (flag-decides image _ (c .before .before .before .before .before .pre .0) d n l ds (c .before .before .before .if1 .left) true (lt-ltb _ _ (c .before .if2 .left)))
+returns-3 c =
+    let pre = c .before .before .before .before .before .pre in
+    let if1 = c .before .before .before .if1 in
+    λ image d n l ds. step-taken _ _ _ _ (c .after-flag .ensures) (flag-decides image _ (pre .0) d n l ds (if1 .left) true (lt-ltb _ _ (c .before .if2 .left)))
 
 pub flag-step-spec : {M : Type 1} → statement M
 flag-step-spec =

@@ -14,7 +14,9 @@ part-requires : tie.Need-part-requires
 part-requires c κs = search needs
 
 returns : tie.Need-returns
-returns c = name-lent (c .before .before .before .before .args .image .now) _ _ (c .before .before .before .before .args .place) _ (c .before .before .rest .ensures) (c .before .byte-at .ensures .byte) (c .part .ensures)
+returns c =
+    let args = c .before .before .before .before .args in
+    name-lent (args .image .now) _ _ (args .place) _ (c .before .before .rest .ensures) (c .before .byte-at .ensures .byte) (c .part .ensures)
 
 pub name-at-spec : {M : Type 1} → statement M
 name-at-spec = tie.close (tie.spec rest-requires byte-at-requires part-requires returns)

@@ -6,7 +6,10 @@ use Rattle.tree.proofs.walk.rises_at.Statement.{statement}
 use Rattle.tree.proofs.walk.rises_at.Tie as tie
 
 returns : tie.Need-returns
-returns c = rises-first (c .before .before .before .args .image .now) (c .before .before .before .args .t2) (c .before .before .before .pre .1) _ _ (c .if1 .taken)
+returns c =
+    let args = c .before .before .before .args in
+    let pre = c .before .before .before .pre in
+    rises-first (args .image .now) (args .t2) (pre .1) _ _ (c .if1 .taken)
 
 mul-before : tie.Need-mul-before
 mul-before c = search needs
@@ -28,8 +31,11 @@ is-less-requires c κs = search needs
 
 returns-2 : tie.Need-returns-2
 returns-2 c =
+    let args = c .before .before .before .before .before .before .before .args in
+    let pre = c .before .before .before .before .before .before .before .pre in
+    let if1 = c .before .before .before .before .if1 in
     compared _ _ _ _ _ (c .is-less .ensures) (c .before .compare .ensures) (c .before .before .name-at .ensures)
-    ∙ rises-after (c .before .before .before .before .before .before .before .args .image .now) (c .before .before .before .before .before .before .before .args .t2) (c .before .before .before .before .before .before .before .pre .1) _ _ (c .before .before .before .before .if1 .left)
+    ∙ rises-after (args .image .now) (args .t2) (pre .1) _ _ (if1 .left)
 
 pub rises-at-spec : {M : Type 1} → statement M
 rises-at-spec =

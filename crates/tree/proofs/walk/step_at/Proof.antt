@@ -11,8 +11,10 @@ rest-requires c κs = search needs
 
 step-over-requires : tie.Need-step-over-requires
 step-over-requires c κs =
-    let e = ap length (c .rest .ensures) ∙ length-drop (c .before .before .args .walk .at) (c .before .before .args .image .now) in
-    (c .before .before .pre .0, omega (arith, e, c .before .before .pre .1, c .before .before .pre .2))
+    let args = c .before .before .args in
+    let pre = c .before .before .pre in
+    let e = ap length (c .rest .ensures) ∙ length-drop (args .walk .at) (args .image .now) in
+    (pre .0, omega (arith, e, pre .1, pre .2))
 
 returns : tie.Need-returns
 returns c = c .step-over .ensures ∙ rw (c .before .rest .ensures)

@@ -16,13 +16,17 @@ is-ordinary-requires : tie.Need-is-ordinary-requires
 is-ordinary-requires c κs = search needs
 
 returns-2 : tie.Need-returns-2
-returns-2 c = sym (ordinary-is _ _ true (c .before .before .before .if1 .left) (sym (c .before .is-ordinary .ensures) ∙ c .if2 .taken))
+returns-2 c =
+    let if1 = c .before .before .before .if1 in
+    sym (ordinary-is _ _ true (if1 .left) (sym (c .before .is-ordinary .ensures) ∙ c .if2 .taken))
 
 letter-at-requires : tie.Need-letter-at-requires
 letter-at-requires c κs = search needs
 
 returns-3 : tie.Need-returns-3
-returns-3 c = c .letter-at .ensures ∙ sym (ordinary-is _ _ false (c .before .before .before .before .if1 .left) (sym (c .before .before .is-ordinary .ensures) ∙ c .before .if2 .left))
+returns-3 c =
+    let if1 = c .before .before .before .before .if1 in
+    c .letter-at .ensures ∙ sym (ordinary-is _ _ false (if1 .left) (sym (c .before .before .is-ordinary .ensures) ∙ c .before .if2 .left))
 
 pub ordinary-at-spec : {M : Type 1} → statement M
 ordinary-at-spec =

@@ -24,13 +24,22 @@ returns : tie.Need-returns Inv-loop μ-loop
 returns c = c .before .before .before .loop .inv .1
 
 add-at : tie.Need-add-at Inv-loop μ-loop
-add-at c = let f = ordinary-fits (c .before .before .before .before .before .args .line .now) (c .before .before .before .loop .at) _ (c .before .ordinary-at .ensures) (c .if1 .left) in omega arith
+add-at c =
+    let args = c .before .before .before .before .before .args in
+    let loop = c .before .before .before .loop in
+    let f = ordinary-fits (args .line .now) (loop .at) _ (c .before .ordinary-at .ensures) (c .if1 .left) in omega arith
 
 loop-less : tie.Need-loop-less Inv-loop μ-loop
-loop-less c = let f = ordinary-fits (c .before .before .before .before .before .args .line .now) (c .before .before .before .loop .at) _ (c .before .ordinary-at .ensures) (c .if1 .left) in omega (arith, f, c .if1 .left)
+loop-less c =
+    let args = c .before .before .before .before .before .args in
+    let loop = c .before .before .before .loop in
+    let f = ordinary-fits (args .line .now) (loop .at) _ (c .before .ordinary-at .ensures) (c .if1 .left) in omega (arith, f, c .if1 .left)
 
 loop-again : tie.Need-loop-again Inv-loop μ-loop
-loop-again c = (ordinary-fits (c .before .before .before .before .before .args .line .now) (c .before .before .before .loop .at) _ (c .before .ordinary-at .ensures) (c .if1 .left), λ quotes. run-ordinary _ _ quotes _ _ (c .before .before .before .loop .inv .1 quotes) (ordinary-told (c .before .before .before .before .before .args .line .now) (c .before .before .before .loop .at) _ (c .before .ordinary-at .ensures) (c .if1 .left)))
+loop-again c =
+    let args = c .before .before .before .before .before .args in
+    let loop = c .before .before .before .loop in
+    (ordinary-fits (args .line .now) (loop .at) _ (c .before .ordinary-at .ensures) (c .if1 .left), λ quotes. run-ordinary _ _ quotes _ _ (loop .inv .1 quotes) (ordinary-told (args .line .now) (loop .at) _ (c .before .ordinary-at .ensures) (c .if1 .left)))
 
 returns-2 : tie.Need-returns-2 Inv-loop μ-loop
 returns-2 c = c .before .loop .inv .1

@@ -30,7 +30,9 @@ enum-known-code : tie.Need-enum-known-code Inv-loop μ-loop
 enum-known-code c = c .match .keys1
 
 returns : tie.Need-returns Inv-loop μ-loop
-returns c = record { reached = c .before .before .before .loop .inv; stops = run-stop _ _ (codes-stop _ _ (sym (c .before .decode .ensures)) (c .match .keys2)) }
+returns c =
+    let loop = c .before .before .before .loop in
+    record { reached = loop .inv; stops = run-stop _ _ (codes-stop _ _ (sym (c .before .decode .ensures)) (c .match .keys2)) }
 
 role-of-requires : tie.Need-role-of-requires Inv-loop μ-loop
 role-of-requires c κs = search needs
@@ -40,25 +42,48 @@ enum-told c = c .match2 .keys1
 
 returns-2 : tie.Need-returns-2 Inv-loop μ-loop
 returns-2 c =
+    let args = c .before .before .before .before .before .before .before .before .before .before .args in
+    let loop = c .before .before .before .before .before .before .before .loop in
+    let decode = c .before .before .before .before .before .decode in
+    let code = c .before .before .before .code in
     record {
-      reached = c .before .before .before .before .before .before .before .loop .inv;
-      stops = run-other (c .before .before .before .before .before .before .before .before .before .before .args .line .now) _ (c .before .before .before .before .before .before .before .loop .at) _ _ _ (sym (c .before .before .before .before .before .decode .ensures) ∙ c .before .before .before .code .given .1) (sym (c .before .role-of .ensures)) (c .match2 .keys2);
+      reached = loop .inv;
+      stops = run-other (args .line .now) _ (loop .at) _ _ _ (sym (decode .ensures) ∙ code .given .1) (sym (c .before .role-of .ensures)) (c .match2 .keys2);
     }
 
 add-ordinary-end : tie.Need-add-ordinary-end Inv-loop μ-loop
-add-ordinary-end c = let f = character-fits (c .before .before .before .before .before .before .before .before .before .before .before .args .line .now) (c .before .before .before .before .before .before .before .before .loop .at) _ _ (sym (c .before .before .before .before .before .before .decode .ensures) ∙ c .before .before .before .before .code .given .1) in omega arith
+add-ordinary-end c =
+    let args = c .before .before .before .before .before .before .before .before .before .before .before .args in
+    let loop = c .before .before .before .before .before .before .before .before .loop in
+    let decode = c .before .before .before .before .before .before .decode in
+    let code = c .before .before .before .before .code in
+    let f = character-fits (args .line .now) (loop .at) _ _ (sym (decode .ensures) ∙ code .given .1) in omega arith
 
 ordinary-end-requires-2 : tie.Need-ordinary-end-requires-2 Inv-loop μ-loop
-ordinary-end-requires-2 c κs = character-fits (c .before .before .before .before .before .before .before .before .before .before .before .args .line .now) (c .before .before .before .before .before .before .before .before .loop .at) _ _ (sym (c .before .before .before .before .before .before .decode .ensures) ∙ c .before .before .before .before .code .given .1)
+ordinary-end-requires-2 c κs =
+    let args = c .before .before .before .before .before .before .before .before .before .before .before .args in
+    let loop = c .before .before .before .before .before .before .before .before .loop in
+    let decode = c .before .before .before .before .before .before .decode in
+    let code = c .before .before .before .before .code in
+    character-fits (args .line .now) (loop .at) _ _ (sym (decode .ensures) ∙ code .given .1)
 
 loop-less : tie.Need-loop-less Inv-loop μ-loop
 loop-less c =
-    let g = character-some (drop (c .before .before .before .before .before .before .before .before .before .loop .at) (c .before .before .before .before .before .before .before .before .before .before .before .before .args .line .now)) _ _ (sym (c .before .before .before .before .before .before .before .decode .ensures) ∙ c .before .before .before .before .before .code .given .1) in
-    let r = c .ordinary-end2 .ensures (c .before .before .before .before .before .before .before .before .before .before .before .before .args .quotes) in
+    let args = c .before .before .before .before .before .before .before .before .before .before .before .before .args in
+    let loop = c .before .before .before .before .before .before .before .before .before .loop in
+    let decode = c .before .before .before .before .before .before .before .decode in
+    let code = c .before .before .before .before .before .code in
+    let g = character-some (drop (loop .at) (args .line .now)) _ _ (sym (decode .ensures) ∙ code .given .1) in
+    let r = c .ordinary-end2 .ensures (args .quotes) in
     omega (arith, g, r .onward, r .fits)
 
 loop-again : tie.Need-loop-again Inv-loop μ-loop
-loop-again c = run-on _ _ _ _ _ (c .before .before .before .before .before .before .before .before .before .loop .inv) (run-on _ _ _ _ _ (run-one _ _ _ _ _ (sym (c .before .before .before .before .before .before .before .decode .ensures) ∙ c .before .before .before .before .before .code .given .1) (sym (c .before .before .before .role-of .ensures) ∙ c .before .enum-told .given .1)) (c .ordinary-end2 .ensures _))
+loop-again c =
+    let loop = c .before .before .before .before .before .before .before .before .before .loop in
+    let decode = c .before .before .before .before .before .before .before .decode in
+    let code = c .before .before .before .before .before .code in
+    let role-of = c .before .before .before .role-of in
+    run-on _ _ _ _ _ (loop .inv) (run-on _ _ _ _ _ (run-one _ _ _ _ _ (sym (decode .ensures) ∙ code .given .1) (sym (role-of .ensures) ∙ c .before .enum-told .given .1)) (c .ordinary-end2 .ensures _))
 
 returns-3 : tie.Need-returns-3 Inv-loop μ-loop
 returns-3 c = record { reached = c .before .loop .inv; stops = run-stop _ _ (codes-end _ _ (c .loop-test .left)) }

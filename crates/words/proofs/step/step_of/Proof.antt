@@ -24,21 +24,35 @@ enum-told : tie.Need-enum-told
 enum-told c = search needs
 
 returns-2 : tie.Need-returns-2
-returns-2 c = reading-character _ _ _ _ _ (sym (c .before .before .before .before .before .decode .ensures) ∙ c .before .before .before .code .given .1) (sym (c .before .role-of .ensures))
+returns-2 c =
+    let decode = c .before .before .before .before .before .decode in
+    let code = c .before .before .before .code in
+    reading-character _ _ _ _ _ (sym (decode .ensures) ∙ code .given .1) (sym (c .before .role-of .ensures))
 
 add-run-end : tie.Need-add-run-end
-add-run-end c = let f = character-fits (c .before .before .before .before .before .before .before .before .args .line .now) (c .before .before .before .before .before .before .before .before .args .scan .at) _ _ (sym (c .before .before .before .before .before .before .decode .ensures) ∙ c .before .before .before .before .code .given .1) in omega arith
+add-run-end c =
+    let args = c .before .before .before .before .before .before .before .before .args in
+    let decode = c .before .before .before .before .before .before .decode in
+    let code = c .before .before .before .before .code in
+    let f = character-fits (args .line .now) (args .scan .at) _ _ (sym (decode .ensures) ∙ code .given .1) in omega arith
 
 run-end-requires : tie.Need-run-end-requires
-run-end-requires c κs = character-fits (c .before .before .before .before .before .before .before .before .args .line .now) (c .before .before .before .before .before .before .before .before .args .scan .at) _ _ (sym (c .before .before .before .before .before .before .decode .ensures) ∙ c .before .before .before .before .code .given .1)
+run-end-requires c κs =
+    let args = c .before .before .before .before .before .before .before .before .args in
+    let decode = c .before .before .before .before .before .before .decode in
+    let code = c .before .before .before .before .code in
+    character-fits (args .line .now) (args .scan .at) _ _ (sym (decode .ensures) ∙ code .given .1)
 
 sub-t10 : tie.Need-sub-t10
 sub-t10 c = let o = c .run-end .ensures .reached .onward in omega (arith, o)
 
 returns-3 : tie.Need-returns-3
 returns-3 c =
+    let decode = c .before .before .before .before .before .before .before .decode in
+    let code = c .before .before .before .before .before .code in
+    let role-of = c .before .before .before .role-of in
     rw (c .before .enum-told .given .1)
-    (reading-on _ _ _ _ (reading-character _ _ _ _ _ (sym (c .before .before .before .before .before .before .before .decode .ensures) ∙ c .before .before .before .before .before .code .given .1) (sym (c .before .before .before .role-of .ensures) ∙ c .before .enum-told .given .1)) (c .run-end .ensures))
+    (reading-on _ _ _ _ (reading-character _ _ _ _ _ (sym (decode .ensures) ∙ code .given .1) (sym (role-of .ensures) ∙ c .before .enum-told .given .1)) (c .run-end .ensures))
 
 pub step-of-spec : {M : Type 1} → statement M
 step-of-spec =

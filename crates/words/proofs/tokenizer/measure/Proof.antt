@@ -31,26 +31,45 @@ enum-told : tie.Need-enum-told Inv-loop μ-loop
 enum-told c = c .match .keys2
 
 returns : tie.Need-returns Inv-loop μ-loop
-returns c = sym (measured-broken _ _ (c .before .before .before .before .before .loop .inv) (c .before .before .before .if1 .taken) (step-stops _ _ _ (c .before .before .step-of .ensures) (c .enum-told .given .1)))
+returns c =
+    let loop = c .before .before .before .before .before .loop in
+    let if1 = c .before .before .before .if1 in
+    sym (measured-broken _ _ (loop .inv) (if1 .taken) (step-stops _ _ _ (c .before .before .step-of .ensures) (c .enum-told .given .1)))
 
 advance-requires : tie.Need-advance-requires Inv-loop μ-loop
 advance-requires c κs =
-    let r = step-goes (c .before .before .before .before .before .before .before .before .before .args .line .now) (c .before .before .before .before .before .before .loop .scan) _ _ _ (c .before .before .before .step-of .ensures) (c .before .role .given .1) in
-    (c .before .before .before .before .before .before .loop .inv .cost, omega (arith, r .fits, c .before .before .before .before .before .before .before .before .before .pre))
+    let args = c .before .before .before .before .before .before .before .before .before .args in
+    let pre = c .before .before .before .before .before .before .before .before .before .pre in
+    let loop = c .before .before .before .before .before .before .loop in
+    let step-of = c .before .before .before .step-of in
+    let r = step-goes (args .line .now) (loop .scan) _ _ _ (step-of .ensures) (c .before .role .given .1) in
+    (loop .inv .cost, omega (arith, r .fits, pre))
 
 loop-less : tie.Need-loop-less Inv-loop μ-loop
 loop-less c =
-    let r = step-goes (c .before .before .before .before .before .before .before .before .before .before .args .line .now) (c .before .before .before .before .before .before .before .loop .scan) _ _ _ (c .before .before .before .before .step-of .ensures) (c .before .before .role .given .1) in
-    step-less (c .before .before .before .before .before .before .before .before .before .before .args .line .now) (c .before .before .before .before .before .before .before .loop .scan) _ (c .before .before .role .given .0 .0) _ (c .advance .ensures) (r .some) (r .fits)
+    let args = c .before .before .before .before .before .before .before .before .before .before .args in
+    let loop = c .before .before .before .before .before .before .before .loop in
+    let step-of = c .before .before .before .before .step-of in
+    let role = c .before .before .role in
+    let r = step-goes (args .line .now) (loop .scan) _ _ _ (step-of .ensures) (role .given .1) in
+    step-less (args .line .now) (loop .scan) _ (role .given .0 .0) _ (c .advance .ensures) (r .some) (r .fits)
 
 loop-again : tie.Need-loop-again Inv-loop μ-loop
-loop-again c = rw (c .advance .ensures) (standing-turn _ _ _ _ (c .before .before .before .before .before .before .before .loop .inv) (step-goes _ _ _ _ _ (c .before .before .before .before .step-of .ensures) (c .before .before .role .given .1)))
+loop-again c =
+    let loop = c .before .before .before .before .before .before .before .loop in
+    let step-of = c .before .before .before .before .step-of in
+    rw (c .advance .ensures) (standing-turn _ _ _ _ (loop .inv) (step-goes _ _ _ _ _ (step-of .ensures) (c .before .before .role .given .1)))
 
 closed-requires : tie.Need-closed-requires Inv-loop μ-loop
-closed-requires c κs = let k = c .before .before .loop .inv .cost in let i = c .before .before .loop .inv .inside in omega (arith, k, i, c .before .before .before .before .before .pre)
+closed-requires c κs =
+    let pre = c .before .before .before .before .before .pre in
+    let loop = c .before .before .loop in
+    let k = loop .inv .cost in let i = loop .inv .inside in omega (arith, k, i, pre)
 
 returns-2 : tie.Need-returns-2 Inv-loop μ-loop
-returns-2 c = rw (c .closed .ensures) (sym (measured-whole _ _ (c .before .before .before .loop .inv) (c .before .if1 .left)))
+returns-2 c =
+    let loop = c .before .before .before .loop in
+    rw (c .closed .ensures) (sym (measured-whole _ _ (loop .inv) (c .before .if1 .left)))
 
 pub measure-spec : {M : Type 1} → statement M
 measure-spec =

@@ -28,17 +28,20 @@ part-push-end c = search needs
 add-push : tie.Need-add-push
 add-push c =
     let s = c .before .before .before .before .before .before .before in
-    let r = take-room (s .args .scan) _ (s .args .n) (length (s .args .out .now)) (c .before .before .before .enum-told .given .1) (s .pre .0 .0) (s .pre .1 .1) in omega (arith, r)
+    let enum-told = c .before .before .before .enum-told in
+    let r = take-room (s .args .scan) _ (s .args .n) (length (s .args .out .now)) (enum-told .given .1) (s .pre .0 .0) (s .pre .1 .1) in omega (arith, r)
 
 add-push-2 : tie.Need-add-push-2
 add-push-2 c =
     let s = c .before .before .before .before .before .before .before .before in
-    let r = take-room (s .args .scan) _ (s .args .n) (length (s .args .out .now)) (c .before .before .before .before .enum-told .given .1) (s .pre .0 .0) (s .pre .1 .1) in omega (arith, r)
+    let enum-told = c .before .before .before .before .enum-told in
+    let r = take-room (s .args .scan) _ (s .args .n) (length (s .args .out .now)) (enum-told .given .1) (s .pre .0 .0) (s .pre .1 .1) in omega (arith, r)
 
 push-requires : tie.Need-push-requires
 push-requires c κs =
     let s = c .before .before .before .before .before .before .before .before in
-    let r = take-room (s .args .scan) _ (s .args .n) (length (s .args .out .now)) (c .before .before .before .before .enum-told .given .1) (s .pre .0 .0) (s .pre .1 .1) in
+    let enum-told = c .before .before .before .before .enum-told in
+    let r = take-room (s .args .scan) _ (s .args .n) (length (s .args .out .now)) (enum-told .given .1) (s .pre .0 .0) (s .pre .1 .1) in
     rw length-take (omega (arith, r))
 
 enum-told-2 : tie.Need-enum-told-2
@@ -61,10 +64,11 @@ same-length c = search needs
 returns : tie.Need-returns
 returns c =
     let s = c .before .before .before .before .before .before .before .before .before .before .before in
+    let enum-told = c .before .before .before .before .before .before .before .enum-told in
     let e : s .args .scan .at + s .args .n - s .args .scan .at ≡ s .args .n = omega arith in
     c .before .before .push .ensures .bytes
     ∙ ap (λ (k : ℕ). overAt (take k (drop (s .args .scan .at) (s .args .line .now))) (s .args .out .now) (s .args .scan .done + 3 + s .args .scan .word)) e
-    ∙ sym (ap (λ t. putBy (s .args .line .now) (s .args .scan) t (s .args .n) (s .args .out .now)) (c .before .before .before .before .before .before .before .enum-told .given .1))
+    ∙ sym (ap (λ t. putBy (s .args .line .now) (s .args .scan) t (s .args .n) (s .args .out .now)) (enum-told .given .1))
 
 same-length-2 : tie.Need-same-length-2
 same-length-2 c = search needs
@@ -72,7 +76,8 @@ same-length-2 c = search needs
 returns-2 : tie.Need-returns-2
 returns-2 c =
     let s = c .before .before .before .before .before .before .before .before in
-    c .before .before .end-word .ensures ∙ sym (ap (λ t. putBy (s .args .line .now) (s .args .scan) t (s .args .n) (s .args .out .now)) (c .before .before .before .before .enum-told2 .given .1))
+    let enum-told2 = c .before .before .before .before .enum-told2 in
+    c .before .before .end-word .ensures ∙ sym (ap (λ t. putBy (s .args .line .now) (s .args .scan) t (s .args .n) (s .args .out .now)) (enum-told2 .given .1))
 
 returns-3 : tie.Need-returns-3
 returns-3 c = search needs

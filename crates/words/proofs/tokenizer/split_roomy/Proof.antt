@@ -15,8 +15,9 @@ well-formed-prefix-requires c κs = search needs
 
 returns : tie.Need-returns
 returns c =
+    let pre = c .before .before .before .before .pre in
     let e = c .before .well-formed-prefix .ensures in
-    ill-formed _ _ _ (c .before .before .before .before .pre .0) (omega (arith, e, c .if1 .taken), e)
+    ill-formed _ _ _ (pre .0) (omega (arith, e, c .if1 .taken), e)
 
 write-requires : tie.Need-write-requires
 write-requires c κs =
@@ -33,11 +34,14 @@ same-length c = search needs
 returns-2 : tie.Need-returns-2
 returns-2 c =
     let s = c .before .before .before .before .before .before .before .before in
+    let well-formed-prefix = c .before .before .before .before .before .well-formed-prefix in
+    let if1 = c .before .before .before .before .if1 in
+    let write = c .before .before .write in
     let whole : wellFormedLength (s .args .line .now) ≡ length (s .args .line .now) =
-    omega (arith, c .before .before .before .before .before .well-formed-prefix .ensures, c .before .before .before .before .if1 .left, prefix-fits (s .args .line .now))
+    omega (arith, well-formed-prefix .ensures, if1 .left, prefix-fits (s .args .line .now))
     in
     let most = written-most (s .args .line .now) whole in
-    all-words _ _ _ (s .pre .0) (whole, c .before .before .write .ensures .count) _ (omega (arith, most, s .pre .1, c .before .before .write .ensures .count)) (c .before .before .write .ensures .bytes)
+    all-words _ _ _ (s .pre .0) (whole, write .ensures .count) _ (omega (arith, most, s .pre .1, write .ensures .count)) (write .ensures .bytes)
 
 pub split-roomy-spec : {M : Type 1} → statement M
 split-roomy-spec =

@@ -21,14 +21,18 @@ use Rattle.arguments.proofs.standing.Stage.argument.Tie as tie
 
 add-start : tie.Need-add-start
 add-start c =
-    let h = word-within (c .before .before .before .before .before .args .words .now) (c .before .before .before .before .before .args .at) (c .before .before .before .before .before .pre .0 .1 .0) (c .before .before .before .before .before .args .bytes) (c .before .before .before .before .before .pre .0 .1 .1) in
-    let z = c .before .before .before .before .before .pre .0 .0 .0 in
+    let args = c .before .before .before .before .before .args in
+    let pre = c .before .before .before .before .before .pre in
+    let h = word-within (args .words .now) (args .at) (pre .0 .1 .0) (args .bytes) (pre .0 .1 .1) in
+    let z = pre .0 .0 .0 in
     omega arith
 
 add-end : tie.Need-add-end
 add-end c =
-    let h = word-within (c .before .before .before .before .before .args .words .now) (c .before .before .before .before .before .args .at) (c .before .before .before .before .before .pre .0 .1 .0) (c .before .before .before .before .before .args .bytes) (c .before .before .before .before .before .pre .0 .1 .1) in
-    let z = c .before .before .before .before .before .pre .0 .0 .0 in
+    let args = c .before .before .before .before .before .args in
+    let pre = c .before .before .before .before .before .pre in
+    let h = word-within (args .words .now) (args .at) (pre .0 .1 .0) (args .bytes) (pre .0 .1 .1) in
+    let z = pre .0 .0 .0 in
     omega arith
 
 sub-keep : tie.Need-sub-keep
@@ -39,8 +43,10 @@ part-keep-start c = search needs
 
 part-keep-end : tie.Need-part-keep-end
 part-keep-end c =
-    let h = word-within (c .before .before .before .before .before .before .args .words .now) (c .before .before .before .before .before .before .args .at) (c .before .before .before .before .before .before .pre .0 .1 .0) (c .before .before .before .before .before .before .args .bytes) (c .before .before .before .before .before .before .pre .0 .1 .1) in
-    let z = c .before .before .before .before .before .before .pre .0 .0 .0 in
+    let args = c .before .before .before .before .before .before .args in
+    let pre = c .before .before .before .before .before .before .pre in
+    let h = word-within (args .words .now) (args .at) (pre .0 .1 .0) (args .bytes) (pre .0 .1 .1) in
+    let z = pre .0 .0 .0 in
     omega arith
 
 keep-requires : tie.Need-keep-requires
@@ -52,17 +58,24 @@ same-length c = search needs
 returns : tie.Need-returns
 unfolding Bytes
 returns c =
-    let l = word-length (c .before .before .before .before .before .before .before .before .before .before .before .args .words .now) (c .before .before .before .before .before .before .before .before .before .before .before .args .at) (c .before .before .before .before .before .before .before .before .before .before .before .pre .0 .1 .0) (c .before .before .before .before .before .before .before .before .before .before .before .args .bytes) (c .before .before .before .before .before .before .before .before .before .before .before .pre .0 .1 .1) in
-    let h = word-within (c .before .before .before .before .before .before .before .before .before .before .before .args .words .now) (c .before .before .before .before .before .before .before .before .before .before .before .args .at) (c .before .before .before .before .before .before .before .before .before .before .before .pre .0 .1 .0) (c .before .before .before .before .before .before .before .before .before .before .before .args .bytes) (c .before .before .before .before .before .before .before .before .before .before .before .pre .0 .1 .1) in
-    let z = c .before .before .before .before .before .before .before .before .before .before .before .pre .0 .0 .0 in
-    let small : length (partOf (c .before .before .before .before .before .before .before .before .before .before .before .args .words .now) (c .before .before .before .before .before .before .before .before .before .before .before .args .at + 3) (c .before .before .before .before .before .before .before .before .before .before .before .args .bytes)) < 256 ^ 2 = omega arith in
-    let k = kept-as _ _ _ _ _ _ (frame-is (c .before .before .before .before .before .before .before .before .before .before .before .args .words .now) (c .before .before .before .before .before .before .before .before .before .before .before .args .at) (c .before .before .before .before .before .before .before .before .before .before .before .pre .0 .1 .0) (c .before .before .before .before .before .before .before .before .before .before .before .args .bytes) (c .before .before .before .before .before .before .before .before .before .before .before .pre .0 .1 .1) (λ i. c .before .before .before .before .before .before .before .before .before .before .shared-slice-known .given i .fits)) (c .before .before .keep .ensures .0 _ _) in
-    (stepped-as _ _ _ _ _ _ _ _ _ _ (kept-stepped (c .before .before .before .before .before .before .before .before .before .before .before .args .words .now) (c .before .before .before .before .before .before .before .before .before .before .before .args .image .now) (c .before .before .before .before .before .before .before .before .before .before .before .args .rest .now) _ (held (c .before .before .before .before .before .before .before .before .before .before .before .args .options .now) (c .before .before .before .before .before .before .before .before .before .before .before .args .flags .now) (c .before .before .before .before .before .before .before .before .before .before .before .args .self)) _ (c .before .before .before .before .before .before .before .before .before .before .before .pre .0 .1 .0) (partOf (c .before .before .before .before .before .before .before .before .before .before .before .args .words .now) (c .before .before .before .before .before .before .before .before .before .before .before .args .at + 3) (c .before .before .before .before .before .before .before .before .before .before .before .args .bytes)) (c .before .before .before .before .before .before .before .before .before .before .before .pre .1 .1) (c .before .before .before .before .before .before .before .before .before .before .before .pre .1 .0) small k) (ap (λ (n : ℕ). 3 + n) l) (sym (ap (formStep stored (definitionsAt (c .before .before .before .before .before .before .before .before .before .before .before .args .image .now) (c .before .before .before .before .before .before .before .before .before .before .before .args .from)) (foundOf (c .before .before .before .before .before .before .before .before .before .before .before .args .words .now) (c .before .before .before .before .before .before .before .before .before .before .before .args .image .now) (c .before .before .before .before .before .before .before .before .before .before .before .args .rest .now) (held (c .before .before .before .before .before .before .before .before .before .before .before .args .options .now) (c .before .before .before .before .before .before .before .before .before .before .before .args .flags .now) (c .before .before .before .before .before .before .before .before .before .before .before .args .self))) (partOf (c .before .before .before .before .before .before .before .before .before .before .before .args .words .now) (c .before .before .before .before .before .before .before .before .before .before .before .args .at + 3) (c .before .before .before .before .before .before .before .before .before .before .before .args .bytes))) (form-short (c .before .before .before .before .before .before .before .before .before .before .before .args .words .now) (c .before .before .before .before .before .before .before .before .before .before .before .args .at) (c .before .before .before .before .before .before .before .before .before .before .before .pre .0 .1 .0) (c .before .before .before .before .before .before .before .before .before .before .before .args .bytes) (c .before .before .before .before .before .before .before .before .before .before .before .pre .0 .1 .1) (c .before .before .before .before .before .if1 .taken)))), fit-as _ _ _ (c .before .before .keep .ensures .1) (c .before .before .before .before .before .before .before .before .before .before .before .pre .1 .3), fit-as _ _ _ (c .before .before .keep .ensures .2) (c .before .before .before .before .before .before .before .before .before .before .before .pre .1 .4))
+    let args = c .before .before .before .before .before .before .before .before .before .before .before .args in
+    let pre = c .before .before .before .before .before .before .before .before .before .before .before .pre in
+    let shared-slice-known = c .before .before .before .before .before .before .before .before .before .before .shared-slice-known in
+    let if1 = c .before .before .before .before .before .if1 in
+    let keep = c .before .before .keep in
+    let l = word-length (args .words .now) (args .at) (pre .0 .1 .0) (args .bytes) (pre .0 .1 .1) in
+    let h = word-within (args .words .now) (args .at) (pre .0 .1 .0) (args .bytes) (pre .0 .1 .1) in
+    let z = pre .0 .0 .0 in
+    let small : length (partOf (args .words .now) (args .at + 3) (args .bytes)) < 256 ^ 2 = omega arith in
+    let k = kept-as _ _ _ _ _ _ (frame-is (args .words .now) (args .at) (pre .0 .1 .0) (args .bytes) (pre .0 .1 .1) (λ i. shared-slice-known .given i .fits)) (keep .ensures .0 _ _) in
+    (stepped-as _ _ _ _ _ _ _ _ _ _ (kept-stepped (args .words .now) (args .image .now) (args .rest .now) _ (held (args .options .now) (args .flags .now) (args .self)) _ (pre .0 .1 .0) (partOf (args .words .now) (args .at + 3) (args .bytes)) (pre .1 .1) (pre .1 .0) small k) (ap (λ (n : ℕ). 3 + n) l) (sym (ap (formStep stored (definitionsAt (args .image .now) (args .from)) (foundOf (args .words .now) (args .image .now) (args .rest .now) (held (args .options .now) (args .flags .now) (args .self))) (partOf (args .words .now) (args .at + 3) (args .bytes))) (form-short (args .words .now) (args .at) (pre .0 .1 .0) (args .bytes) (pre .0 .1 .1) (if1 .taken)))), fit-as _ _ _ (keep .ensures .1) (pre .1 .3), fit-as _ _ _ (keep .ensures .2) (pre .1 .4))
 
 shared-slice-read-if2 : tie.Need-shared-slice-read-if2
 shared-slice-read-if2 c =
-    let h = word-within (c .before .before .before .before .before .before .before .args .words .now) (c .before .before .before .before .before .before .before .args .at) (c .before .before .before .before .before .before .before .pre .0 .1 .0) (c .before .before .before .before .before .before .before .args .bytes) (c .before .before .before .before .before .before .before .pre .0 .1 .1) in
-    let z = c .before .before .before .before .before .before .before .pre .0 .0 .0 in
+    let args = c .before .before .before .before .before .before .before .args in
+    let pre = c .before .before .before .before .before .before .before .pre in
+    let h = word-within (args .words .now) (args .at) (pre .0 .1 .0) (args .bytes) (pre .0 .1 .1) in
+    let z = pre .0 .0 .0 in
     omega arith
 
 sub-keep-2 : tie.Need-sub-keep-2
@@ -73,8 +86,10 @@ part-keep-start-2 c = search needs
 
 part-keep-end-2 : tie.Need-part-keep-end-2
 part-keep-end-2 c =
-    let h = word-within (c .before .before .before .before .before .before .before .before .args .words .now) (c .before .before .before .before .before .before .before .before .args .at) (c .before .before .before .before .before .before .before .before .pre .0 .1 .0) (c .before .before .before .before .before .before .before .before .args .bytes) (c .before .before .before .before .before .before .before .before .pre .0 .1 .1) in
-    let z = c .before .before .before .before .before .before .before .before .pre .0 .0 .0 in
+    let args = c .before .before .before .before .before .before .before .before .args in
+    let pre = c .before .before .before .before .before .before .before .before .pre in
+    let h = word-within (args .words .now) (args .at) (pre .0 .1 .0) (args .bytes) (pre .0 .1 .1) in
+    let z = pre .0 .0 .0 in
     omega arith
 
 keep-requires-2 : tie.Need-keep-requires-2
@@ -86,35 +101,49 @@ same-length-2 c = search needs
 returns-2 : tie.Need-returns-2
 unfolding Bytes
 returns-2 c =
-    let l = word-length (c .before .before .before .before .before .before .before .before .before .before .before .before .before .args .words .now) (c .before .before .before .before .before .before .before .before .before .before .before .before .before .args .at) (c .before .before .before .before .before .before .before .before .before .before .before .before .before .pre .0 .1 .0) (c .before .before .before .before .before .before .before .before .before .before .before .before .before .args .bytes) (c .before .before .before .before .before .before .before .before .before .before .before .before .before .pre .0 .1 .1) in
-    let h = word-within (c .before .before .before .before .before .before .before .before .before .before .before .before .before .args .words .now) (c .before .before .before .before .before .before .before .before .before .before .before .before .before .args .at) (c .before .before .before .before .before .before .before .before .before .before .before .before .before .pre .0 .1 .0) (c .before .before .before .before .before .before .before .before .before .before .before .before .before .args .bytes) (c .before .before .before .before .before .before .before .before .before .before .before .before .before .pre .0 .1 .1) in
-    let z = c .before .before .before .before .before .before .before .before .before .before .before .before .before .pre .0 .0 .0 in
-    let small : length (partOf (c .before .before .before .before .before .before .before .before .before .before .before .before .before .args .words .now) (c .before .before .before .before .before .before .before .before .before .before .before .before .before .args .at + 3) (c .before .before .before .before .before .before .before .before .before .before .before .before .before .args .bytes)) < 256 ^ 2 = omega arith in
-    let k = kept-as _ _ _ _ _ _ (frame-is (c .before .before .before .before .before .before .before .before .before .before .before .before .before .args .words .now) (c .before .before .before .before .before .before .before .before .before .before .before .before .before .args .at) (c .before .before .before .before .before .before .before .before .before .before .before .before .before .pre .0 .1 .0) (c .before .before .before .before .before .before .before .before .before .before .before .before .before .args .bytes) (c .before .before .before .before .before .before .before .before .before .before .before .before .before .pre .0 .1 .1) (λ i. c .before .before .before .before .before .before .before .before .before .before .before .before .shared-slice-known .given i .fits)) (c .before .before .keep2 .ensures .0 _ _) in
-    (stepped-as _ _ _ _ _ _ _ _ _ _ (kept-stepped (c .before .before .before .before .before .before .before .before .before .before .before .before .before .args .words .now) (c .before .before .before .before .before .before .before .before .before .before .before .before .before .args .image .now) (c .before .before .before .before .before .before .before .before .before .before .before .before .before .args .rest .now) _ (held (c .before .before .before .before .before .before .before .before .before .before .before .before .before .args .options .now) (c .before .before .before .before .before .before .before .before .before .before .before .before .before .args .flags .now) (c .before .before .before .before .before .before .before .before .before .before .before .before .before .args .self)) _ (c .before .before .before .before .before .before .before .before .before .before .before .before .before .pre .0 .1 .0) (partOf (c .before .before .before .before .before .before .before .before .before .before .before .before .before .args .words .now) (c .before .before .before .before .before .before .before .before .before .before .before .before .before .args .at + 3) (c .before .before .before .before .before .before .before .before .before .before .before .before .before .args .bytes)) (c .before .before .before .before .before .before .before .before .before .before .before .before .before .pre .1 .1) (c .before .before .before .before .before .before .before .before .before .before .before .before .before .pre .1 .0) small k) (ap (λ (n : ℕ). 3 + n) l) (sym (ap (formStep stored (definitionsAt (c .before .before .before .before .before .before .before .before .before .before .before .before .before .args .image .now) (c .before .before .before .before .before .before .before .before .before .before .before .before .before .args .from)) (foundOf (c .before .before .before .before .before .before .before .before .before .before .before .before .before .args .words .now) (c .before .before .before .before .before .before .before .before .before .before .before .before .before .args .image .now) (c .before .before .before .before .before .before .before .before .before .before .before .before .before .args .rest .now) (held (c .before .before .before .before .before .before .before .before .before .before .before .before .before .args .options .now) (c .before .before .before .before .before .before .before .before .before .before .before .before .before .args .flags .now) (c .before .before .before .before .before .before .before .before .before .before .before .before .before .args .self))) (partOf (c .before .before .before .before .before .before .before .before .before .before .before .before .before .args .words .now) (c .before .before .before .before .before .before .before .before .before .before .before .before .before .args .at + 3) (c .before .before .before .before .before .before .before .before .before .before .before .before .before .args .bytes))) (form-plain (c .before .before .before .before .before .before .before .before .before .before .before .before .before .args .words .now) (c .before .before .before .before .before .before .before .before .before .before .before .before .before .args .at) (c .before .before .before .before .before .before .before .before .before .before .before .before .before .pre .0 .1 .0) (c .before .before .before .before .before .before .before .before .before .before .before .before .before .args .bytes) (c .before .before .before .before .before .before .before .before .before .before .before .before .before .pre .0 .1 .1) (c .before .before .before .before .before .before .before .if1 .left) (c .before .before .before .before .before .if2 .taken)))), fit-as _ _ _ (c .before .before .keep2 .ensures .1) (c .before .before .before .before .before .before .before .before .before .before .before .before .before .pre .1 .3), fit-as _ _ _ (c .before .before .keep2 .ensures .2) (c .before .before .before .before .before .before .before .before .before .before .before .before .before .pre .1 .4))
+    let args = c .before .before .before .before .before .before .before .before .before .before .before .before .before .args in
+    let pre = c .before .before .before .before .before .before .before .before .before .before .before .before .before .pre in
+    let shared-slice-known = c .before .before .before .before .before .before .before .before .before .before .before .before .shared-slice-known in
+    let if1 = c .before .before .before .before .before .before .before .if1 in
+    let if2 = c .before .before .before .before .before .if2 in
+    let keep2 = c .before .before .keep2 in
+    let l = word-length (args .words .now) (args .at) (pre .0 .1 .0) (args .bytes) (pre .0 .1 .1) in
+    let h = word-within (args .words .now) (args .at) (pre .0 .1 .0) (args .bytes) (pre .0 .1 .1) in
+    let z = pre .0 .0 .0 in
+    let small : length (partOf (args .words .now) (args .at + 3) (args .bytes)) < 256 ^ 2 = omega arith in
+    let k = kept-as _ _ _ _ _ _ (frame-is (args .words .now) (args .at) (pre .0 .1 .0) (args .bytes) (pre .0 .1 .1) (λ i. shared-slice-known .given i .fits)) (keep2 .ensures .0 _ _) in
+    (stepped-as _ _ _ _ _ _ _ _ _ _ (kept-stepped (args .words .now) (args .image .now) (args .rest .now) _ (held (args .options .now) (args .flags .now) (args .self)) _ (pre .0 .1 .0) (partOf (args .words .now) (args .at + 3) (args .bytes)) (pre .1 .1) (pre .1 .0) small k) (ap (λ (n : ℕ). 3 + n) l) (sym (ap (formStep stored (definitionsAt (args .image .now) (args .from)) (foundOf (args .words .now) (args .image .now) (args .rest .now) (held (args .options .now) (args .flags .now) (args .self))) (partOf (args .words .now) (args .at + 3) (args .bytes))) (form-plain (args .words .now) (args .at) (pre .0 .1 .0) (args .bytes) (pre .0 .1 .1) (if1 .left) (if2 .taken)))), fit-as _ _ _ (keep2 .ensures .1) (pre .1 .3), fit-as _ _ _ (keep2 .ensures .2) (pre .1 .4))
 
 add-if3 : tie.Need-add-if3
 add-if3 c =
-    let h = word-within (c .before .before .before .before .before .before .before .before .args .words .now) (c .before .before .before .before .before .before .before .before .args .at) (c .before .before .before .before .before .before .before .before .pre .0 .1 .0) (c .before .before .before .before .before .before .before .before .args .bytes) (c .before .before .before .before .before .before .before .before .pre .0 .1 .1) in
-    let z = c .before .before .before .before .before .before .before .before .pre .0 .0 .0 in
+    let args = c .before .before .before .before .before .before .before .before .args in
+    let pre = c .before .before .before .before .before .before .before .before .pre in
+    let h = word-within (args .words .now) (args .at) (pre .0 .1 .0) (args .bytes) (pre .0 .1 .1) in
+    let z = pre .0 .0 .0 in
     omega arith
 
 shared-slice-read-if3 : tie.Need-shared-slice-read-if3
 shared-slice-read-if3 c =
-    let h = word-within (c .before .before .before .before .before .before .before .before .before .args .words .now) (c .before .before .before .before .before .before .before .before .before .args .at) (c .before .before .before .before .before .before .before .before .before .pre .0 .1 .0) (c .before .before .before .before .before .before .before .before .before .args .bytes) (c .before .before .before .before .before .before .before .before .before .pre .0 .1 .1) in
-    let z = c .before .before .before .before .before .before .before .before .before .pre .0 .0 .0 in
+    let args = c .before .before .before .before .before .before .before .before .before .args in
+    let pre = c .before .before .before .before .before .before .before .before .before .pre in
+    let h = word-within (args .words .now) (args .at) (pre .0 .1 .0) (args .bytes) (pre .0 .1 .1) in
+    let z = pre .0 .0 .0 in
     omega arith
 
 add-long : tie.Need-add-long
 add-long c =
-    let h = word-within (c .before .before .before .before .before .before .before .before .before .before .before .before .args .words .now) (c .before .before .before .before .before .before .before .before .before .before .before .before .args .at) (c .before .before .before .before .before .before .before .before .before .before .before .before .pre .0 .1 .0) (c .before .before .before .before .before .before .before .before .before .before .before .before .args .bytes) (c .before .before .before .before .before .before .before .before .before .before .before .before .pre .0 .1 .1) in
-    let z = c .before .before .before .before .before .before .before .before .before .before .before .before .pre .0 .0 .0 in
+    let args = c .before .before .before .before .before .before .before .before .before .before .before .before .args in
+    let pre = c .before .before .before .before .before .before .before .before .before .before .before .before .pre in
+    let h = word-within (args .words .now) (args .at) (pre .0 .1 .0) (args .bytes) (pre .0 .1 .1) in
+    let z = pre .0 .0 .0 in
     omega arith
 
 long-requires : tie.Need-long-requires
 long-requires c κs =
-    let h = word-within (c .before .before .before .before .before .before .before .before .before .before .before .before .args .words .now) (c .before .before .before .before .before .before .before .before .before .before .before .before .args .at) (c .before .before .before .before .before .before .before .before .before .before .before .before .pre .0 .1 .0) (c .before .before .before .before .before .before .before .before .before .before .before .before .args .bytes) (c .before .before .before .before .before .before .before .before .before .before .before .before .pre .0 .1 .1) in
-    (c .before .before .before .before .before .before .before .before .before .before .before .before .pre .0 .0, omega arith, omega arith, c .before .before .before .before .before .before .before .before .before .before .before .before .pre .1 .3, c .before .before .before .before .before .before .before .before .before .before .before .before .pre .1 .4)
+    let args = c .before .before .before .before .before .before .before .before .before .before .before .before .args in
+    let pre = c .before .before .before .before .before .before .before .before .before .before .before .before .pre in
+    let h = word-within (args .words .now) (args .at) (pre .0 .1 .0) (args .bytes) (pre .0 .1 .1) in
+    (pre .0 .0, omega arith, omega arith, pre .1 .3, pre .1 .4)
 
 same-length-3 : tie.Need-same-length-3
 same-length-3 c = search needs
@@ -123,37 +152,55 @@ same-length-4 : tie.Need-same-length-4
 same-length-4 c = search needs
 
 returns-3 : tie.Need-returns-3
-returns-3 c = (
-  moved-stepped (c .before .before .before .before .before .before .before .before .before .before .before .before .before .before .before .before .before .args .words .now) (c .before .before .before .before .before .before .before .before .before .before .before .before .before .before .before .before .before .args .image .now) (c .before .before .before .before .before .before .before .before .before .before .before .before .before .before .before .before .before .args .rest .now) (held (c .before .before .before .before .before .before .before .before .before .before .before .before .before .before .before .before .before .args .options .now) (c .before .before .before .before .before .before .before .before .before .before .before .before .before .before .before .before .before .args .flags .now) (c .before .before .before .before .before .before .before .before .before .before .before .before .before .before .before .before .before .args .self)) _ _ _ _ (c .before .before .before .before .before .before .before .before .before .before .before .before .before .before .before .before .before .pre .1 .0) (c .before .before .before .before .long .ensures .0 (partOf (c .before .before .before .before .before .before .before .before .before .before .before .before .before .before .before .before .before .args .words .now) (c .before .before .before .before .before .before .before .before .before .before .before .before .before .before .before .before .before .args .at + 3) (c .before .before .before .before .before .before .before .before .before .before .before .before .before .before .before .before .before .args .bytes)))
-      (ap (λ (x : List ℕ). formStep stored (definitionsAt (c .before .before .before .before .before .before .before .before .before .before .before .before .before .before .before .before .before .args .image .now) (c .before .before .before .before .before .before .before .before .before .before .before .before .before .before .before .before .before .args .from)) (foundOf (c .before .before .before .before .before .before .before .before .before .before .before .before .before .before .before .before .before .args .words .now) (c .before .before .before .before .before .before .before .before .before .before .before .before .before .before .before .before .before .args .image .now) (c .before .before .before .before .before .before .before .before .before .before .before .before .before .before .before .before .before .args .rest .now) (held (c .before .before .before .before .before .before .before .before .before .before .before .before .before .before .before .before .before .args .options .now) (c .before .before .before .before .before .before .before .before .before .before .before .before .before .before .before .before .before .args .flags .now) (c .before .before .before .before .before .before .before .before .before .before .before .before .before .before .before .before .before .args .self))) (partOf (c .before .before .before .before .before .before .before .before .before .before .before .before .before .before .before .before .before .args .words .now) (c .before .before .before .before .before .before .before .before .before .before .before .before .before .before .before .before .before .args .at + 3) (c .before .before .before .before .before .before .before .before .before .before .before .before .before .before .before .before .before .args .bytes)) (longForm x)) (word-after (c .before .before .before .before .before .before .before .before .before .before .before .before .before .before .before .before .before .args .words .now) (c .before .before .before .before .before .before .before .before .before .before .before .before .before .before .before .before .before .args .at) (c .before .before .before .before .before .before .before .before .before .before .before .before .before .before .before .before .before .pre .0 .1 .0) (c .before .before .before .before .before .before .before .before .before .before .before .before .before .before .before .before .before .args .bytes) (c .before .before .before .before .before .before .before .before .before .before .before .before .before .before .before .before .before .pre .0 .1 .1) 2)
-      ∙ sym (ap (formStep stored (definitionsAt (c .before .before .before .before .before .before .before .before .before .before .before .before .before .before .before .before .before .args .image .now) (c .before .before .before .before .before .before .before .before .before .before .before .before .before .before .before .before .before .args .from)) (foundOf (c .before .before .before .before .before .before .before .before .before .before .before .before .before .before .before .before .before .args .words .now) (c .before .before .before .before .before .before .before .before .before .before .before .before .before .before .before .before .before .args .image .now) (c .before .before .before .before .before .before .before .before .before .before .before .before .before .before .before .before .before .args .rest .now) (held (c .before .before .before .before .before .before .before .before .before .before .before .before .before .before .before .before .before .args .options .now) (c .before .before .before .before .before .before .before .before .before .before .before .before .before .before .before .before .before .args .flags .now) (c .before .before .before .before .before .before .before .before .before .before .before .before .before .before .before .before .before .args .self))) (partOf (c .before .before .before .before .before .before .before .before .before .before .before .before .before .before .before .before .before .args .words .now) (c .before .before .before .before .before .before .before .before .before .before .before .before .before .before .before .before .before .args .at + 3) (c .before .before .before .before .before .before .before .before .before .before .before .before .before .before .before .before .before .args .bytes))) (form-long (c .before .before .before .before .before .before .before .before .before .before .before .before .before .before .before .before .before .args .words .now) (c .before .before .before .before .before .before .before .before .before .before .before .before .before .before .before .before .before .args .at) (c .before .before .before .before .before .before .before .before .before .before .before .before .before .before .before .before .before .pre .0 .1 .0) (c .before .before .before .before .before .before .before .before .before .before .before .before .before .before .before .before .before .args .bytes) (c .before .before .before .before .before .before .before .before .before .before .before .before .before .before .before .before .before .pre .0 .1 .1) (c .before .before .before .before .before .before .before .before .before .before .before .if1 .left) (c .before .before .before .before .before .before .before .before .before .if2 .left) (c .before .before .before .before .before .before .before .if3 .taken)))),
-  c .before .before .before .before .long .ensures .1,
-  c .before .before .before .before .long .ensures .2,
-)
+returns-3 c =
+    let args = c .before .before .before .before .before .before .before .before .before .before .before .before .before .before .before .before .before .args in
+    let pre = c .before .before .before .before .before .before .before .before .before .before .before .before .before .before .before .before .before .pre in
+    let if1 = c .before .before .before .before .before .before .before .before .before .before .before .if1 in
+    let if2 = c .before .before .before .before .before .before .before .before .before .if2 in
+    let if3 = c .before .before .before .before .before .before .before .if3 in
+    let long = c .before .before .before .before .long in (
+      moved-stepped (args .words .now) (args .image .now) (args .rest .now) (held (args .options .now) (args .flags .now) (args .self)) _ _ _ _ (pre .1 .0) (long .ensures .0 (partOf (args .words .now) (args .at + 3) (args .bytes)))
+          (ap (λ (x : List ℕ). formStep stored (definitionsAt (args .image .now) (args .from)) (foundOf (args .words .now) (args .image .now) (args .rest .now) (held (args .options .now) (args .flags .now) (args .self))) (partOf (args .words .now) (args .at + 3) (args .bytes)) (longForm x)) (word-after (args .words .now) (args .at) (pre .0 .1 .0) (args .bytes) (pre .0 .1 .1) 2)
+          ∙ sym (ap (formStep stored (definitionsAt (args .image .now) (args .from)) (foundOf (args .words .now) (args .image .now) (args .rest .now) (held (args .options .now) (args .flags .now) (args .self))) (partOf (args .words .now) (args .at + 3) (args .bytes))) (form-long (args .words .now) (args .at) (pre .0 .1 .0) (args .bytes) (pre .0 .1 .1) (if1 .left) (if2 .left) (if3 .taken)))),
+      long .ensures .1,
+      long .ensures .2,
+    )
 
 add-shorts : tie.Need-add-shorts
 add-shorts c =
-    let h = word-within (c .before .before .before .before .before .before .before .before .before .before .before .args .words .now) (c .before .before .before .before .before .before .before .before .before .before .before .args .at) (c .before .before .before .before .before .before .before .before .before .before .before .pre .0 .1 .0) (c .before .before .before .before .before .before .before .before .before .before .before .args .bytes) (c .before .before .before .before .before .before .before .before .before .before .before .pre .0 .1 .1) in
-    let z = c .before .before .before .before .before .before .before .before .before .before .before .pre .0 .0 .0 in
+    let args = c .before .before .before .before .before .before .before .before .before .before .before .args in
+    let pre = c .before .before .before .before .before .before .before .before .before .before .before .pre in
+    let h = word-within (args .words .now) (args .at) (pre .0 .1 .0) (args .bytes) (pre .0 .1 .1) in
+    let z = pre .0 .0 .0 in
     omega arith
 
 shorts-requires : tie.Need-shorts-requires
 shorts-requires c κs =
-    let h = word-within (c .before .before .before .before .before .before .before .before .before .before .before .args .words .now) (c .before .before .before .before .before .before .before .before .before .before .before .args .at) (c .before .before .before .before .before .before .before .before .before .before .before .pre .0 .1 .0) (c .before .before .before .before .before .before .before .before .before .before .before .args .bytes) (c .before .before .before .before .before .before .before .before .before .before .before .pre .0 .1 .1) in
-    (c .before .before .before .before .before .before .before .before .before .before .before .pre .0 .0, omega arith, omega arith, c .before .before .before .before .before .before .before .before .before .before .before .pre .1 .0 .small, c .before .before .before .before .before .before .before .before .before .before .before .pre .1 .4, letters-formed (c .before .before .before .before .before .before .before .before .before .before .before .args .words .now) (c .before .before .before .before .before .before .before .before .before .before .before .args .at) (c .before .before .before .before .before .before .before .before .before .before .before .pre .0 .1 .0) (c .before .before .before .before .before .before .before .before .before .before .before .args .bytes) (c .before .before .before .before .before .before .before .before .before .before .before .pre .0 .1 .1) (c .before .before .before .before .before .before .before .before .before .before .before .pre .0 .2) (c .before .before .before .before .before .if1 .left) (c .before .before .before .if2 .left))
+    let args = c .before .before .before .before .before .before .before .before .before .before .before .args in
+    let pre = c .before .before .before .before .before .before .before .before .before .before .before .pre in
+    let if1 = c .before .before .before .before .before .if1 in
+    let if2 = c .before .before .before .if2 in
+    let h = word-within (args .words .now) (args .at) (pre .0 .1 .0) (args .bytes) (pre .0 .1 .1) in
+    (pre .0 .0, omega arith, omega arith, pre .1 .0 .small, pre .1 .4, letters-formed (args .words .now) (args .at) (pre .0 .1 .0) (args .bytes) (pre .0 .1 .1) (pre .0 .2) (if1 .left) (if2 .left))
 
 same-length-5 : tie.Need-same-length-5
 same-length-5 c = search needs
 
 returns-4 : tie.Need-returns-4
-returns-4 c = (
-  moved-stepped (c .before .before .before .before .before .before .before .before .before .before .before .before .before .before .args .words .now) (c .before .before .before .before .before .before .before .before .before .before .before .before .before .before .args .image .now) (c .before .before .before .before .before .before .before .before .before .before .before .before .before .before .args .rest .now) (held (c .before .before .before .before .before .before .before .before .before .before .before .before .before .before .args .options .now) (c .before .before .before .before .before .before .before .before .before .before .before .before .before .before .args .flags .now) (c .before .before .before .before .before .before .before .before .before .before .before .before .before .before .args .self)) _ _ _ _ (c .before .before .before .before .before .before .before .before .before .before .before .before .before .before .pre .1 .0) (c .before .before .shorts .ensures .0 _)
-      (ap (λ (a : Stand). shortSteps stored (definitionsAt (c .before .before .before .before .before .before .before .before .before .before .before .before .before .before .args .image .now) (c .before .before .before .before .before .before .before .before .before .before .before .before .before .before .args .from)) a (codesIn (take (c .before .before .before .before .before .before .before .before .before .before .before .before .before .before .args .at + 3 + c .before .before .before .before .before .before .before .before .before .before .before .before .before .before .args .bytes - (c .before .before .before .before .before .before .before .before .before .before .before .before .before .before .args .at + 3 + 1)) (drop (c .before .before .before .before .before .before .before .before .before .before .before .before .before .before .args .at + 3 + 1) (c .before .before .before .before .before .before .before .before .before .before .before .before .before .before .args .words .now))))) (stand-by (c .before .before .before .before .before .before .before .before .before .before .before .before .before .before .args .words .now) (c .before .before .before .before .before .before .before .before .before .before .before .before .before .before .args .image .now) (c .before .before .before .before .before .before .before .before .before .before .before .before .before .before .args .rest .now) (held (c .before .before .before .before .before .before .before .before .before .before .before .before .before .before .args .options .now) (c .before .before .before .before .before .before .before .before .before .before .before .before .before .before .args .flags .now) (c .before .before .before .before .before .before .before .before .before .before .before .before .before .before .args .self)) Going (c .before .before .before .before .before .before .before .before .before .before .before .before .before .before .pre .1 .1))
-      ∙ ap (λ (x : List ℕ). shortSteps stored (definitionsAt (c .before .before .before .before .before .before .before .before .before .before .before .before .before .before .args .image .now) (c .before .before .before .before .before .before .before .before .before .before .before .before .before .before .args .from)) (go (foundOf (c .before .before .before .before .before .before .before .before .before .before .before .before .before .before .args .words .now) (c .before .before .before .before .before .before .before .before .before .before .before .before .before .before .args .image .now) (c .before .before .before .before .before .before .before .before .before .before .before .before .before .before .args .rest .now) (held (c .before .before .before .before .before .before .before .before .before .before .before .before .before .before .args .options .now) (c .before .before .before .before .before .before .before .before .before .before .before .before .before .before .args .flags .now) (c .before .before .before .before .before .before .before .before .before .before .before .before .before .before .args .self)))) (codesIn x)) (word-after (c .before .before .before .before .before .before .before .before .before .before .before .before .before .before .args .words .now) (c .before .before .before .before .before .before .before .before .before .before .before .before .before .before .args .at) (c .before .before .before .before .before .before .before .before .before .before .before .before .before .before .pre .0 .1 .0) (c .before .before .before .before .before .before .before .before .before .before .before .before .before .before .args .bytes) (c .before .before .before .before .before .before .before .before .before .before .before .before .before .before .pre .0 .1 .1) 1)
-      ∙ sym (ap (formStep stored (definitionsAt (c .before .before .before .before .before .before .before .before .before .before .before .before .before .before .args .image .now) (c .before .before .before .before .before .before .before .before .before .before .before .before .before .before .args .from)) (foundOf (c .before .before .before .before .before .before .before .before .before .before .before .before .before .before .args .words .now) (c .before .before .before .before .before .before .before .before .before .before .before .before .before .before .args .image .now) (c .before .before .before .before .before .before .before .before .before .before .before .before .before .before .args .rest .now) (held (c .before .before .before .before .before .before .before .before .before .before .before .before .before .before .args .options .now) (c .before .before .before .before .before .before .before .before .before .before .before .before .before .before .args .flags .now) (c .before .before .before .before .before .before .before .before .before .before .before .before .before .before .args .self))) (partOf (c .before .before .before .before .before .before .before .before .before .before .before .before .before .before .args .words .now) (c .before .before .before .before .before .before .before .before .before .before .before .before .before .before .args .at + 3) (c .before .before .before .before .before .before .before .before .before .before .before .before .before .before .args .bytes))) (form-shorts (c .before .before .before .before .before .before .before .before .before .before .before .before .before .before .args .words .now) (c .before .before .before .before .before .before .before .before .before .before .before .before .before .before .args .at) (c .before .before .before .before .before .before .before .before .before .before .before .before .before .before .pre .0 .1 .0) (c .before .before .before .before .before .before .before .before .before .before .before .before .before .before .args .bytes) (c .before .before .before .before .before .before .before .before .before .before .before .before .before .before .pre .0 .1 .1) (c .before .before .before .before .before .before .before .before .if1 .left) (c .before .before .before .before .before .before .if2 .left) (c .before .before .before .before .if3 .left)))),
-  fit-as _ _ _ (c .before .before .shorts .ensures .2) (c .before .before .before .before .before .before .before .before .before .before .before .before .before .before .pre .1 .3),
-  c .before .before .shorts .ensures .1,
-)
+returns-4 c =
+    let args = c .before .before .before .before .before .before .before .before .before .before .before .before .before .before .args in
+    let pre = c .before .before .before .before .before .before .before .before .before .before .before .before .before .before .pre in
+    let if1 = c .before .before .before .before .before .before .before .before .if1 in
+    let if2 = c .before .before .before .before .before .before .if2 in
+    let if3 = c .before .before .before .before .if3 in
+    let shorts = c .before .before .shorts in (
+      moved-stepped (args .words .now) (args .image .now) (args .rest .now) (held (args .options .now) (args .flags .now) (args .self)) _ _ _ _ (pre .1 .0) (shorts .ensures .0 _)
+          (ap (λ (a : Stand). shortSteps stored (definitionsAt (args .image .now) (args .from)) a (codesIn (take (args .at + 3 + args .bytes - (args .at + 3 + 1)) (drop (args .at + 3 + 1) (args .words .now))))) (stand-by (args .words .now) (args .image .now) (args .rest .now) (held (args .options .now) (args .flags .now) (args .self)) Going (pre .1 .1))
+          ∙ ap (λ (x : List ℕ). shortSteps stored (definitionsAt (args .image .now) (args .from)) (go (foundOf (args .words .now) (args .image .now) (args .rest .now) (held (args .options .now) (args .flags .now) (args .self)))) (codesIn x)) (word-after (args .words .now) (args .at) (pre .0 .1 .0) (args .bytes) (pre .0 .1 .1) 1)
+          ∙ sym (ap (formStep stored (definitionsAt (args .image .now) (args .from)) (foundOf (args .words .now) (args .image .now) (args .rest .now) (held (args .options .now) (args .flags .now) (args .self))) (partOf (args .words .now) (args .at + 3) (args .bytes))) (form-shorts (args .words .now) (args .at) (pre .0 .1 .0) (args .bytes) (pre .0 .1 .1) (if1 .left) (if2 .left) (if3 .left)))),
+      fit-as _ _ _ (shorts .ensures .2) (pre .1 .3),
+      shorts .ensures .1,
+    )
 
 pub argument-spec : {M : Type 1} → statement M
 argument-spec =

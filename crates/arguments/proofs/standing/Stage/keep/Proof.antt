@@ -13,7 +13,10 @@ same-length : tie.Need-same-length
 same-length c = search needs
 
 returns : tie.Need-returns
-returns c = (λ o f. kept-after _ _ _ (held o f (c .before .before .before .before .before .before .args .self)) _ (c .before .before .before .before .before .before .pre) (c .before .before .push .ensures), refl, refl)
+returns c =
+    let args = c .before .before .before .before .before .before .args in
+    let pre = c .before .before .before .before .before .before .pre in
+    (λ o f. kept-after _ _ _ (held o f (args .self)) _ (pre) (c .before .before .push .ensures), refl, refl)
 
 pub keep-spec : {M : Type 1} → statement M
 keep-spec = tie.close (tie.spec push-requires same-length returns)

@@ -26,7 +26,9 @@ before-equals-requires : tie.Need-before-equals-requires
 before-equals-requires c κs = search needs
 
 slice-aggregate-option-of : tie.Need-slice-aggregate-option-of
-slice-aggregate-option-of c = sym (length-take-le _ (take (c .before .before .before .before .before .before .before .before .args .end - c .before .before .before .before .before .before .before .before .args .start) (drop (c .before .before .before .before .before .before .before .before .args .start) (c .before .before .before .before .before .before .before .before .args .words .now))) (c .before .before .before-equals .ensures .1))
+slice-aggregate-option-of c =
+    let args = c .before .before .before .before .before .before .before .before .args in
+    sym (length-take-le _ (take (args .end - args .start) (drop (args .start) (args .words .now))) (c .before .before .before-equals .ensures .1))
 
 option-of-requires : tie.Need-option-of-requires
 option-of-requires c κs = search needs
@@ -41,12 +43,17 @@ at-requires : tie.Need-at-requires
 at-requires c κs = search needs
 
 returns : tie.Need-returns
-returns c = (
-  λ w.
-      long-valued-unknown (c .before .before .before .before .before .before .before .before .before .before .before .before .args .words .now) (c .before .before .before .before .before .before .before .before .before .before .before .before .args .image .now) (held (c .before .before .before .before .before .before .before .before .before .before .before .before .args .options .now) (c .before .before .before .before .before .before .before .before .before .before .before .before .args .flags .now) (c .before .before .before .before .before .before .before .before .before .before .before .before .args .self)) _ (definitionsAt (c .before .before .before .before .before .before .before .before .before .before .before .before .args .image .now) (c .before .before .before .before .before .before .before .before .before .before .before .before .args .from)) w (take (c .before .before .before .before .before .before .before .before .before .before .before .before .args .end - c .before .before .before .before .before .before .before .before .before .before .before .before .args .start) (drop (c .before .before .before .before .before .before .before .before .before .before .before .before .args .start) (c .before .before .before .before .before .before .before .before .before .before .before .before .args .words .now))) (c .before .before .before .before .before .before .before .before .before .before .before .before .args .start) _ (c .before .before .before .before .before .before .before-equals .ensures .0) _ (c .at .ensures .0 _ _ _ _) (c .before .before .before .before .before .if1 .taken) (no-option _ (c .before .before .before .before .before .before .before .before .before .before .before .before .args .image .now) (c .before .before .before .before .before .before .before .before .before .before .before .before .args .from) (sym (c .before .before .before .option-of .ensures) ∙ c .before .enum-told2 .given .1)) (piece-front (c .before .before .before .before .before .before .before .before .before .before .before .before .args .words .now) (c .before .before .before .before .before .before .before .before .before .before .before .before .args .start) (c .before .before .before .before .before .before .before .before .before .before .before .before .args .end) (c .before .before .before .before .before .before .before .before .before .before .before .before .pre .1) (c .before .before .before .before .before .before .before .before .before .before .before .before .pre .2) _ (c .before .before .before .before .before .before .before-equals .ensures .1)) (λ rest. refl),
-  fit-as _ _ _ (c .at .ensures .1) (c .before .before .before .before .before .before .before .before .before .before .before .before .pre .3),
-  fit-as _ _ _ (c .at .ensures .2) (c .before .before .before .before .before .before .before .before .before .before .before .before .pre .4),
-)
+returns c =
+    let args = c .before .before .before .before .before .before .before .before .before .before .before .before .args in
+    let pre = c .before .before .before .before .before .before .before .before .before .before .before .before .pre in
+    let before-equals = c .before .before .before .before .before .before .before-equals in
+    let if1 = c .before .before .before .before .before .if1 in
+    let option-of = c .before .before .before .option-of in (
+      λ w.
+          long-valued-unknown (args .words .now) (args .image .now) (held (args .options .now) (args .flags .now) (args .self)) _ (definitionsAt (args .image .now) (args .from)) w (take (args .end - args .start) (drop (args .start) (args .words .now))) (args .start) _ (before-equals .ensures .0) _ (c .at .ensures .0 _ _ _ _) (if1 .taken) (no-option _ (args .image .now) (args .from) (sym (option-of .ensures) ∙ c .before .enum-told2 .given .1)) (piece-front (args .words .now) (args .start) (args .end) (pre .1) (pre .2) _ (before-equals .ensures .1)) (λ rest. refl),
+      fit-as _ _ _ (c .at .ensures .1) (pre .3),
+      fit-as _ _ _ (c .at .ensures .2) (pre .4),
+    )
 
 add-t22 : tie.Need-add-t22
 add-t22 c = search needs
@@ -68,12 +75,20 @@ same-length c = search needs
 
 returns-2 : tie.Need-returns-2
 unfolding Bytes
-returns-2 c = (
-  λ w.
-      long-valued (c .before .before .before .before .before .before .before .before .before .before .before .before .before .before .before .args .words .now) (c .before .before .before .before .before .before .before .before .before .before .before .before .before .before .before .args .image .now) (held (c .before .before .before .before .before .before .before .before .before .before .before .before .before .before .before .args .options .now) (c .before .before .before .before .before .before .before .before .before .before .before .before .before .before .before .args .flags .now) (c .before .before .before .before .before .before .before .before .before .before .before .before .before .before .before .args .self)) _ (definitionsAt (c .before .before .before .before .before .before .before .before .before .before .before .before .before .before .before .args .image .now) (c .before .before .before .before .before .before .before .before .before .before .before .before .before .before .before .args .from)) w (take (c .before .before .before .before .before .before .before .before .before .before .before .before .before .before .before .args .end - c .before .before .before .before .before .before .before .before .before .before .before .before .before .before .before .args .start) (drop (c .before .before .before .before .before .before .before .before .before .before .before .before .before .before .before .args .start) (c .before .before .before .before .before .before .before .before .before .before .before .before .before .before .before .args .words .now))) (c .before .before .before .before .before .before .before .before .before .before .before .before .before .before .before .args .start) _ (c .before .before .before .before .before .before .before .before .before .before-equals .ensures .0) _ (c .before .before .with-option .ensures .0 _) (c .before .before .before .before .before .before .before .before .if1 .taken) (is-option _ (c .before .before .before .before .before .before .before .before .before .before .before .before .before .before .before .args .image .now) (c .before .before .before .before .before .before .before .before .before .before .before .before .before .before .before .args .from) _ (λ i. c .before .before .before .before .before .before .before .before .before .before .before .before .before .shared-slice-known2 .given i .fits) (sym (c .before .before .before .before .before .before .option-of .ensures) ∙ c .before .before .before .before .enum-told .given .1)) (c .before .before .before .before .before .before .before .before .before .before .before .before .before .before .before .args .start + c .before .before .before .before .before .before .before .before .before .before-equals .result + 1) (length (take (c .before .before .before .before .before .before .before .before .before .before .before .before .before .before .before .args .end - c .before .before .before .before .before .before .before .before .before .before .before .before .before .before .before .args .start) (drop (c .before .before .before .before .before .before .before .before .before .before .before .before .before .before .before .args .start) (c .before .before .before .before .before .before .before .before .before .before .before .before .before .before .before .args .words .now))) - c .before .before .before .before .before .before .before .before .before .before-equals .result - 1) (piece-front (c .before .before .before .before .before .before .before .before .before .before .before .before .before .before .before .args .words .now) (c .before .before .before .before .before .before .before .before .before .before .before .before .before .before .before .args .start) (c .before .before .before .before .before .before .before .before .before .before .before .before .before .before .before .args .end) (c .before .before .before .before .before .before .before .before .before .before .before .before .before .before .before .pre .1) (c .before .before .before .before .before .before .before .before .before .before .before .before .before .before .before .pre .2) _ (c .before .before .before .before .before .before .before .before .before .before-equals .ensures .1)) (piece-after (c .before .before .before .before .before .before .before .before .before .before .before .before .before .before .before .args .words .now) (c .before .before .before .before .before .before .before .before .before .before .before .before .before .before .before .args .start) (c .before .before .before .before .before .before .before .before .before .before .before .before .before .before .before .args .end) (c .before .before .before .before .before .before .before .before .before .before .before .before .before .before .before .pre .1) (c .before .before .before .before .before .before .before .before .before .before .before .before .before .before .before .pre .2) _ (c .before .before .before .before .before .before .before .before .if1 .taken)) (λ rest. refl),
-  c .before .before .with-option .ensures .1,
-  fit-as _ _ _ (c .before .before .with-option .ensures .2) (c .before .before .before .before .before .before .before .before .before .before .before .before .before .before .before .pre .4),
-)
+returns-2 c =
+    let args = c .before .before .before .before .before .before .before .before .before .before .before .before .before .before .before .args in
+    let pre = c .before .before .before .before .before .before .before .before .before .before .before .before .before .before .before .pre in
+    let shared-slice-known2 = c .before .before .before .before .before .before .before .before .before .before .before .before .before .shared-slice-known2 in
+    let before-equals = c .before .before .before .before .before .before .before .before .before .before-equals in
+    let if1 = c .before .before .before .before .before .before .before .before .if1 in
+    let option-of = c .before .before .before .before .before .before .option-of in
+    let enum-told = c .before .before .before .before .enum-told in
+    let with-option = c .before .before .with-option in (
+      λ w.
+          long-valued (args .words .now) (args .image .now) (held (args .options .now) (args .flags .now) (args .self)) _ (definitionsAt (args .image .now) (args .from)) w (take (args .end - args .start) (drop (args .start) (args .words .now))) (args .start) _ (before-equals .ensures .0) _ (with-option .ensures .0 _) (if1 .taken) (is-option _ (args .image .now) (args .from) _ (λ i. shared-slice-known2 .given i .fits) (sym (option-of .ensures) ∙ enum-told .given .1)) (args .start + before-equals .result + 1) (length (take (args .end - args .start) (drop (args .start) (args .words .now))) - before-equals .result - 1) (piece-front (args .words .now) (args .start) (args .end) (pre .1) (pre .2) _ (before-equals .ensures .1)) (piece-after (args .words .now) (args .start) (args .end) (pre .1) (pre .2) _ (if1 .taken)) (λ rest. refl),
+      with-option .ensures .1,
+      fit-as _ _ _ (with-option .ensures .2) (pre .4),
+    )
 
 definition-of-requires : tie.Need-definition-of-requires
 definition-of-requires c κs = search needs
@@ -101,35 +116,54 @@ same-length-2 c = search needs
 
 returns-3 : tie.Need-returns-3
 unfolding Bytes
-returns-3 c = (
-  λ w.
-      let h : length (take (c .before .before .before .before .before .before .before .before .before .before .before .before .before .before .args .end - c .before .before .before .before .before .before .before .before .before .before .before .before .before .before .args .start) (drop (c .before .before .before .before .before .before .before .before .before .before .before .before .before .before .args .start) (c .before .before .before .before .before .before .before .before .before .before .before .before .before .before .args .words .now))) ≤ c .before .before .before .before .before .before .before .before .before-equals .result = c .before .before .before .before .before .before .before .if1 .left in
-      let m = flag-meant (hasKey (take (c .before .before .before .before .before .before .before .before .before .before .before .before .before .before .args .end - c .before .before .before .before .before .before .before .before .before .before .before .before .before .before .args .start) (drop (c .before .before .before .before .before .before .before .before .before .before .before .before .before .before .args .start) (c .before .before .before .before .before .before .before .before .before .before .before .before .before .before .args .words .now)))) (c .before .before .before .before .before .before .before .before .before .before .before .before .before .before .args .image .now) (c .before .before .before .before .before .before .before .before .before .before .before .before .before .before .args .from) _ (λ i. c .before .before .before .before .before .before .before .before .before .before .before .before .shared-slice-known2 .given i .fits) (sym (c .before .before .before .before .before .before .definition-of .ensures) ∙ c .before .before .before .before .enum-told3 .given .1) in
-      long-flag (c .before .before .before .before .before .before .before .before .before .before .before .before .before .before .args .words .now) (c .before .before .before .before .before .before .before .before .before .before .before .before .before .before .args .image .now) (held (c .before .before .before .before .before .before .before .before .before .before .before .before .before .before .args .options .now) (c .before .before .before .before .before .before .before .before .before .before .before .before .before .before .args .flags .now) (c .before .before .before .before .before .before .before .before .before .before .before .before .before .before .args .self)) _ (definitionsAt (c .before .before .before .before .before .before .before .before .before .before .before .before .before .before .args .image .now) (c .before .before .before .before .before .before .before .before .before .before .before .before .before .before .args .from)) w (take (c .before .before .before .before .before .before .before .before .before .before .before .before .before .before .args .end - c .before .before .before .before .before .before .before .before .before .before .before .before .before .before .args .start) (drop (c .before .before .before .before .before .before .before .before .before .before .before .before .before .before .args .start) (c .before .before .before .before .before .before .before .before .before .before .before .before .before .before .args .words .now))) (c .before .before .before .before .before .before .before .before .before .before .before .before .before .before .args .start) _ (c .before .before .before .before .before .before .before .before .before-equals .ensures .0) _ (c .before .before .with-flag .ensures .0 _) _ h (m .is) (piece-whole (c .before .before .before .before .before .before .before .before .before .before .before .before .before .before .args .words .now) (c .before .before .before .before .before .before .before .before .before .before .before .before .before .before .args .start) (c .before .before .before .before .before .before .before .before .before .before .before .before .before .before .args .end) (c .before .before .before .before .before .before .before .before .before .before .before .before .before .before .pre .1) (c .before .before .before .before .before .before .before .before .before .before .before .before .before .before .pre .2) _ (c .before .before .before .before .before .before .before .before .before-equals .ensures .1) h) (λ rest. refl),
-  fit-as _ _ _ (c .before .before .with-flag .ensures .2) (c .before .before .before .before .before .before .before .before .before .before .before .before .before .before .pre .3),
-  c .before .before .with-flag .ensures .1,
-)
+returns-3 c =
+    let args = c .before .before .before .before .before .before .before .before .before .before .before .before .before .before .args in
+    let pre = c .before .before .before .before .before .before .before .before .before .before .before .before .before .before .pre in
+    let shared-slice-known2 = c .before .before .before .before .before .before .before .before .before .before .before .before .shared-slice-known2 in
+    let before-equals = c .before .before .before .before .before .before .before .before .before-equals in
+    let if1 = c .before .before .before .before .before .before .before .if1 in
+    let definition-of = c .before .before .before .before .before .before .definition-of in
+    let enum-told3 = c .before .before .before .before .enum-told3 in
+    let with-flag = c .before .before .with-flag in (
+      λ w.
+          let h : length (take (args .end - args .start) (drop (args .start) (args .words .now))) ≤ before-equals .result = if1 .left in
+          let m = flag-meant (hasKey (take (args .end - args .start) (drop (args .start) (args .words .now)))) (args .image .now) (args .from) _ (λ i. shared-slice-known2 .given i .fits) (sym (definition-of .ensures) ∙ enum-told3 .given .1) in
+          long-flag (args .words .now) (args .image .now) (held (args .options .now) (args .flags .now) (args .self)) _ (definitionsAt (args .image .now) (args .from)) w (take (args .end - args .start) (drop (args .start) (args .words .now))) (args .start) _ (before-equals .ensures .0) _ (with-flag .ensures .0 _) _ h (m .is) (piece-whole (args .words .now) (args .start) (args .end) (pre .1) (pre .2) _ (before-equals .ensures .1) h) (λ rest. refl),
+      fit-as _ _ _ (with-flag .ensures .2) (pre .3),
+      with-flag .ensures .1,
+    )
 
 returns-4 : tie.Need-returns-4
 unfolding Bytes
-returns-4 c = (
-  λ w.
-      let h : length (take (c .before .before .before .before .before .before .before .before .before .before .before .args .end - c .before .before .before .before .before .before .before .before .before .before .before .args .start) (drop (c .before .before .before .before .before .before .before .before .before .before .before .args .start) (c .before .before .before .before .before .before .before .before .before .before .before .args .words .now))) ≤ c .before .before .before .before .before .before-equals .result = c .before .before .before .before .if1 .left in
-      let m = option-meant (hasKey (take (c .before .before .before .before .before .before .before .before .before .before .before .args .end - c .before .before .before .before .before .before .before .before .before .before .before .args .start) (drop (c .before .before .before .before .before .before .before .before .before .before .before .args .start) (c .before .before .before .before .before .before .before .before .before .before .before .args .words .now)))) (c .before .before .before .before .before .before .before .before .before .before .before .args .image .now) (c .before .before .before .before .before .before .before .before .before .before .before .args .from) _ (λ i. c .before .before .before .before .before .before .before .before .before .shared-slice-known2 .given i .fits) (sym (c .before .before .before .definition-of .ensures) ∙ c .before .enum-told4 .given .1) in
-      long-option (c .before .before .before .before .before .before .before .before .before .before .before .args .words .now) (c .before .before .before .before .before .before .before .before .before .before .before .args .image .now) (held (c .before .before .before .before .before .before .before .before .before .before .before .args .options .now) (c .before .before .before .before .before .before .before .before .before .before .before .args .flags .now) (c .before .before .before .before .before .before .before .before .before .before .before .args .self)) _ (definitionsAt (c .before .before .before .before .before .before .before .before .before .before .before .args .image .now) (c .before .before .before .before .before .before .before .before .before .before .before .args .from)) w (take (c .before .before .before .before .before .before .before .before .before .before .before .args .end - c .before .before .before .before .before .before .before .before .before .before .before .args .start) (drop (c .before .before .before .before .before .before .before .before .before .before .before .args .start) (c .before .before .before .before .before .before .before .before .before .before .before .args .words .now))) (c .before .before .before .before .before .before .before .before .before .before .before .args .start) _ (c .before .before .before .before .before .before-equals .ensures .0) _ (c .at2 .ensures .0 _ _ _ _) _ h (m .is) (piece-whole (c .before .before .before .before .before .before .before .before .before .before .before .args .words .now) (c .before .before .before .before .before .before .before .before .before .before .before .args .start) (c .before .before .before .before .before .before .before .before .before .before .before .args .end) (c .before .before .before .before .before .before .before .before .before .before .before .pre .1) (c .before .before .before .before .before .before .before .before .before .before .before .pre .2) _ (c .before .before .before .before .before .before-equals .ensures .1) h) (λ rest. refl),
-  fit-as _ _ _ (c .at2 .ensures .1) (c .before .before .before .before .before .before .before .before .before .before .before .pre .3),
-  fit-as _ _ _ (c .at2 .ensures .2) (c .before .before .before .before .before .before .before .before .before .before .before .pre .4),
-)
+returns-4 c =
+    let args = c .before .before .before .before .before .before .before .before .before .before .before .args in
+    let pre = c .before .before .before .before .before .before .before .before .before .before .before .pre in
+    let shared-slice-known2 = c .before .before .before .before .before .before .before .before .before .shared-slice-known2 in
+    let before-equals = c .before .before .before .before .before .before-equals in
+    let if1 = c .before .before .before .before .if1 in
+    let definition-of = c .before .before .before .definition-of in (
+      λ w.
+          let h : length (take (args .end - args .start) (drop (args .start) (args .words .now))) ≤ before-equals .result = if1 .left in
+          let m = option-meant (hasKey (take (args .end - args .start) (drop (args .start) (args .words .now)))) (args .image .now) (args .from) _ (λ i. shared-slice-known2 .given i .fits) (sym (definition-of .ensures) ∙ c .before .enum-told4 .given .1) in
+          long-option (args .words .now) (args .image .now) (held (args .options .now) (args .flags .now) (args .self)) _ (definitionsAt (args .image .now) (args .from)) w (take (args .end - args .start) (drop (args .start) (args .words .now))) (args .start) _ (before-equals .ensures .0) _ (c .at2 .ensures .0 _ _ _ _) _ h (m .is) (piece-whole (args .words .now) (args .start) (args .end) (pre .1) (pre .2) _ (before-equals .ensures .1) h) (λ rest. refl),
+      fit-as _ _ _ (c .at2 .ensures .1) (pre .3),
+      fit-as _ _ _ (c .at2 .ensures .2) (pre .4),
+    )
 
 returns-5 : tie.Need-returns-5
-returns-5 c = (
-  λ w.
-      let h : length (take (c .before .before .before .before .before .before .before .before .before .before .before .args .end - c .before .before .before .before .before .before .before .before .before .before .before .args .start) (drop (c .before .before .before .before .before .before .before .before .before .before .before .args .start) (c .before .before .before .before .before .before .before .before .before .before .before .args .words .now))) ≤ c .before .before .before .before .before .before-equals .result = c .before .before .before .before .if1 .left in
-      let m = nothing-meant (hasKey (take (c .before .before .before .before .before .before .before .before .before .before .before .args .end - c .before .before .before .before .before .before .before .before .before .before .before .args .start) (drop (c .before .before .before .before .before .before .before .before .before .before .before .args .start) (c .before .before .before .before .before .before .before .before .before .before .before .args .words .now)))) (c .before .before .before .before .before .before .before .before .before .before .before .args .image .now) (c .before .before .before .before .before .before .before .before .before .before .before .args .from) (sym (c .before .before .before .definition-of .ensures) ∙ c .before .enum-told5 .given .1) in
-      long-unknown (c .before .before .before .before .before .before .before .before .before .before .before .args .words .now) (c .before .before .before .before .before .before .before .before .before .before .before .args .image .now) (held (c .before .before .before .before .before .before .before .before .before .before .before .args .options .now) (c .before .before .before .before .before .before .before .before .before .before .before .args .flags .now) (c .before .before .before .before .before .before .before .before .before .before .before .args .self)) _ (definitionsAt (c .before .before .before .before .before .before .before .before .before .before .before .args .image .now) (c .before .before .before .before .before .before .before .before .before .before .before .args .from)) w (take (c .before .before .before .before .before .before .before .before .before .before .before .args .end - c .before .before .before .before .before .before .before .before .before .before .before .args .start) (drop (c .before .before .before .before .before .before .before .before .before .before .before .args .start) (c .before .before .before .before .before .before .before .before .before .before .before .args .words .now))) (c .before .before .before .before .before .before .before .before .before .before .before .args .start) _ (c .before .before .before .before .before .before-equals .ensures .0) _ (c .at3 .ensures .0 _ _ _ _) h m (piece-whole (c .before .before .before .before .before .before .before .before .before .before .before .args .words .now) (c .before .before .before .before .before .before .before .before .before .before .before .args .start) (c .before .before .before .before .before .before .before .before .before .before .before .args .end) (c .before .before .before .before .before .before .before .before .before .before .before .pre .1) (c .before .before .before .before .before .before .before .before .before .before .before .pre .2) _ (c .before .before .before .before .before .before-equals .ensures .1) h) (λ rest. refl),
-  fit-as _ _ _ (c .at3 .ensures .1) (c .before .before .before .before .before .before .before .before .before .before .before .pre .3),
-  fit-as _ _ _ (c .at3 .ensures .2) (c .before .before .before .before .before .before .before .before .before .before .before .pre .4),
-)
+returns-5 c =
+    let args = c .before .before .before .before .before .before .before .before .before .before .before .args in
+    let pre = c .before .before .before .before .before .before .before .before .before .before .before .pre in
+    let before-equals = c .before .before .before .before .before .before-equals in
+    let if1 = c .before .before .before .before .if1 in
+    let definition-of = c .before .before .before .definition-of in (
+      λ w.
+          let h : length (take (args .end - args .start) (drop (args .start) (args .words .now))) ≤ before-equals .result = if1 .left in
+          let m = nothing-meant (hasKey (take (args .end - args .start) (drop (args .start) (args .words .now)))) (args .image .now) (args .from) (sym (definition-of .ensures) ∙ c .before .enum-told5 .given .1) in
+          long-unknown (args .words .now) (args .image .now) (held (args .options .now) (args .flags .now) (args .self)) _ (definitionsAt (args .image .now) (args .from)) w (take (args .end - args .start) (drop (args .start) (args .words .now))) (args .start) _ (before-equals .ensures .0) _ (c .at3 .ensures .0 _ _ _ _) h m (piece-whole (args .words .now) (args .start) (args .end) (pre .1) (pre .2) _ (before-equals .ensures .1) h) (λ rest. refl),
+      fit-as _ _ _ (c .at3 .ensures .1) (pre .3),
+      fit-as _ _ _ (c .at3 .ensures .2) (pre .4),
+    )
 
 pub long-spec : {M : Type 1} → statement M
 long-spec =

@@ -31,7 +31,10 @@ part-letters-end : tie.Need-part-letters-end Inv-loop μ-loop
 part-letters-end c = search needs
 
 loop-holds : tie.Need-loop-holds Inv-loop μ-loop
-loop-holds c = (λ o. shorts-start (c .before .before .before .before .args .words .now) (c .before .before .before .before .args .image .now) (definitionsAt (c .before .before .before .before .args .image .now) (c .before .before .before .before .args .from)) (take (c .before .before .before .before .args .end - c .before .before .before .before .args .start) (drop (c .before .before .before .before .args .start) (c .before .before .before .before .args .words .now))) (held o (c .before .before .before .before .args .flags .now) (c .before .before .before .before .args .self)) (c .before .before .before .before .pre .3), c .before .before .before .before .pre .4, refl, letters-start (take (c .before .before .before .before .args .end - c .before .before .before .before .args .start) (drop (c .before .before .before .before .args .start) (c .before .before .before .before .args .words .now))) (c .before .before .before .before .pre .5))
+loop-holds c =
+    let args = c .before .before .before .before .args in
+    let pre = c .before .before .before .before .pre in
+    (λ o. shorts-start (args .words .now) (args .image .now) (definitionsAt (args .image .now) (args .from)) (take (args .end - args .start) (drop (args .start) (args .words .now))) (held o (args .flags .now) (args .self)) (pre .3), pre .4, refl, letters-start (take (args .end - args .start) (drop (args .start) (args .words .now))) (pre .5))
 
 decode-requires : tie.Need-decode-requires Inv-loop μ-loop
 decode-requires c κs = search needs
@@ -46,45 +49,79 @@ at-requires : tie.Need-at-requires Inv-loop μ-loop
 at-requires c κs = tt
 
 same-length : tie.Need-same-length Inv-loop μ-loop
-same-length c = c .before .before .before .before .loop .inv .1 .full ∙ sym (c .before .before .before .before .before .before .before .before .before .pre .4 .full)
+same-length c =
+    let pre = c .before .before .before .before .before .before .before .before .before .pre in
+    let loop = c .before .before .before .before .loop in
+    loop .inv .1 .full ∙ sym (pre .4 .full)
 
 returns : tie.Need-returns Inv-loop μ-loop
-returns c = absurd (letter-begins (take (c .before .before .before .before .before .before .before .before .before .args .end - c .before .before .before .before .before .before .before .before .before .args .start) (drop (c .before .before .before .before .before .before .before .before .before .args .start) (c .before .before .before .before .before .before .before .before .before .args .words .now))) (c .before .before .before .before .loop .at) _ (c .before .before .before .before .loop .inv .3) (c .before .before .before .loop-test .taken) (sym (c .before .before .decode .ensures)) (c .before .match .keys2))
+returns c =
+    let args = c .before .before .before .before .before .before .before .before .before .args in
+    let loop = c .before .before .before .before .loop in
+    let loop-test = c .before .before .before .loop-test in
+    absurd (letter-begins (take (args .end - args .start) (drop (args .start) (args .words .now))) (loop .at) _ (loop .inv .3) (loop-test .taken) (sym (c .before .before .decode .ensures)) (c .before .match .keys2))
 
 add-short : tie.Need-add-short Inv-loop μ-loop
 add-short c =
-    let e = sym (c .before .before .before .before .decode .ensures) ∙ c .before .before .code .given .1 in
-    let fit : c .before .before .before .before .before .before .loop .at + c .before .before .code .given .0 .1 .0 ≤ length (take (c .before .before .before .before .before .before .before .before .before .before .before .args .end - c .before .before .before .before .before .before .before .before .before .before .before .args .start) (drop (c .before .before .before .before .before .before .before .before .before .before .before .args .start) (c .before .before .before .before .before .before .before .before .before .before .before .args .words .now))) = character-fits (take (c .before .before .before .before .before .before .before .before .before .before .before .args .end - c .before .before .before .before .before .before .before .before .before .before .before .args .start) (drop (c .before .before .before .before .before .before .before .before .before .before .before .args .start) (c .before .before .before .before .before .before .before .before .before .before .before .args .words .now))) (c .before .before .before .before .before .before .loop .at) _ _ e in
-    let k = piece-length (c .before .before .before .before .before .before .before .before .before .before .before .args .words .now) (c .before .before .before .before .before .before .before .before .before .before .before .args .start) (c .before .before .before .before .before .before .before .before .before .before .before .args .end) (c .before .before .before .before .before .before .before .before .before .before .before .pre .1) (c .before .before .before .before .before .before .before .before .before .before .before .pre .2) in
-    let z = c .before .before .before .before .before .before .before .before .before .before .before .pre .0 .0 in
+    let args = c .before .before .before .before .before .before .before .before .before .before .before .args in
+    let pre = c .before .before .before .before .before .before .before .before .before .before .before .pre in
+    let loop = c .before .before .before .before .before .before .loop in
+    let decode = c .before .before .before .before .decode in
+    let code = c .before .before .code in
+    let e = sym (decode .ensures) ∙ code .given .1 in
+    let fit : loop .at + code .given .0 .1 .0 ≤ length (take (args .end - args .start) (drop (args .start) (args .words .now))) = character-fits (take (args .end - args .start) (drop (args .start) (args .words .now))) (loop .at) _ _ e in
+    let k = piece-length (args .words .now) (args .start) (args .end) (pre .1) (pre .2) in
+    let z = pre .0 .0 in
     omega arith
 
 short-requires : tie.Need-short-requires Inv-loop μ-loop
-short-requires c κs = (c .before .before .before .before .before .before .before .before .before .before .before .pre .0, letter-part (c .before .before .before .before .before .before .before .before .before .before .before .args .words .now) (c .before .before .before .before .before .before .before .before .before .before .before .args .start) (c .before .before .before .before .before .before .before .before .before .before .before .args .end) _ _ _ (sym (c .before .before .before .before .decode .ensures) ∙ c .before .before .code .given .1), c .before .before .before .before .before .before .loop .inv .1)
+short-requires c κs =
+    let pre = c .before .before .before .before .before .before .before .before .before .before .before .pre in
+    let args = c .before .before .before .before .before .before .before .before .before .before .before .args in
+    let loop = c .before .before .before .before .before .before .loop in
+    let decode = c .before .before .before .before .decode in
+    (pre .0, letter-part (args .words .now) (args .start) (args .end) _ _ _ (sym (decode .ensures) ∙ c .before .before .code .given .1), loop .inv .1)
 
 add-at : tie.Need-add-at Inv-loop μ-loop
 add-at c =
-    let e = sym (c .before .before .before .before .before .before .before .decode .ensures) ∙ c .before .before .before .before .before .code .given .1 in
-    let fit : c .before .before .before .before .before .before .before .before .before .loop .at + c .before .before .before .before .before .code .given .0 .1 .0 ≤ length (take (c .before .before .before .before .before .before .before .before .before .before .before .before .before .before .args .end - c .before .before .before .before .before .before .before .before .before .before .before .before .before .before .args .start) (drop (c .before .before .before .before .before .before .before .before .before .before .before .before .before .before .args .start) (c .before .before .before .before .before .before .before .before .before .before .before .before .before .before .args .words .now))) = character-fits (take (c .before .before .before .before .before .before .before .before .before .before .before .before .before .before .args .end - c .before .before .before .before .before .before .before .before .before .before .before .before .before .before .args .start) (drop (c .before .before .before .before .before .before .before .before .before .before .before .before .before .before .args .start) (c .before .before .before .before .before .before .before .before .before .before .before .before .before .before .args .words .now))) (c .before .before .before .before .before .before .before .before .before .loop .at) _ _ e in
-    let k = piece-length (c .before .before .before .before .before .before .before .before .before .before .before .before .before .before .args .words .now) (c .before .before .before .before .before .before .before .before .before .before .before .before .before .before .args .start) (c .before .before .before .before .before .before .before .before .before .before .before .before .before .before .args .end) (c .before .before .before .before .before .before .before .before .before .before .before .before .before .before .pre .1) (c .before .before .before .before .before .before .before .before .before .before .before .before .before .before .pre .2) in
-    let z = c .before .before .before .before .before .before .before .before .before .before .before .before .before .before .pre .0 .0 in
+    let args = c .before .before .before .before .before .before .before .before .before .before .before .before .before .before .args in
+    let pre = c .before .before .before .before .before .before .before .before .before .before .before .before .before .before .pre in
+    let loop = c .before .before .before .before .before .before .before .before .before .loop in
+    let decode = c .before .before .before .before .before .before .before .decode in
+    let code = c .before .before .before .before .before .code in
+    let e = sym (decode .ensures) ∙ code .given .1 in
+    let fit : loop .at + code .given .0 .1 .0 ≤ length (take (args .end - args .start) (drop (args .start) (args .words .now))) = character-fits (take (args .end - args .start) (drop (args .start) (args .words .now))) (loop .at) _ _ e in
+    let k = piece-length (args .words .now) (args .start) (args .end) (pre .1) (pre .2) in
+    let z = pre .0 .0 in
     omega arith
 
 loop-less : tie.Need-loop-less Inv-loop μ-loop
 loop-less c =
-    let e = sym (c .before .before .before .before .before .before .before .decode .ensures) ∙ c .before .before .before .before .before .code .given .1 in
-    let fit : c .before .before .before .before .before .before .before .before .before .loop .at + c .before .before .before .before .before .code .given .0 .1 .0 ≤ length (take (c .before .before .before .before .before .before .before .before .before .before .before .before .before .before .args .end - c .before .before .before .before .before .before .before .before .before .before .before .before .before .before .args .start) (drop (c .before .before .before .before .before .before .before .before .before .before .before .before .before .before .args .start) (c .before .before .before .before .before .before .before .before .before .before .before .before .before .before .args .words .now))) = character-fits (take (c .before .before .before .before .before .before .before .before .before .before .before .before .before .before .args .end - c .before .before .before .before .before .before .before .before .before .before .before .before .before .before .args .start) (drop (c .before .before .before .before .before .before .before .before .before .before .before .before .before .before .args .start) (c .before .before .before .before .before .before .before .before .before .before .before .before .before .before .args .words .now))) (c .before .before .before .before .before .before .before .before .before .loop .at) _ _ e in
-    let some = character-some (drop (c .before .before .before .before .before .before .before .before .before .loop .at) (take (c .before .before .before .before .before .before .before .before .before .before .before .before .before .before .args .end - c .before .before .before .before .before .before .before .before .before .before .before .before .before .before .args .start) (drop (c .before .before .before .before .before .before .before .before .before .before .before .before .before .before .args .start) (c .before .before .before .before .before .before .before .before .before .before .before .before .before .before .args .words .now)))) _ _ e in
+    let args = c .before .before .before .before .before .before .before .before .before .before .before .before .before .before .args in
+    let loop = c .before .before .before .before .before .before .before .before .before .loop in
+    let decode = c .before .before .before .before .before .before .before .decode in
+    let code = c .before .before .before .before .before .code in
+    let e = sym (decode .ensures) ∙ code .given .1 in
+    let fit : loop .at + code .given .0 .1 .0 ≤ length (take (args .end - args .start) (drop (args .start) (args .words .now))) = character-fits (take (args .end - args .start) (drop (args .start) (args .words .now))) (loop .at) _ _ e in
+    let some = character-some (drop (loop .at) (take (args .end - args .start) (drop (args .start) (args .words .now)))) _ _ e in
     omega arith
 
 loop-again : tie.Need-loop-again Inv-loop μ-loop
-loop-again c = (λ o. shorts-turn (c .before .before .before .before .before .before .before .before .before .before .before .before .before .before .args .words .now) (c .before .before .before .before .before .before .before .before .before .before .before .before .before .before .args .image .now) (definitionsAt (c .before .before .before .before .before .before .before .before .before .before .before .before .before .before .args .image .now) (c .before .before .before .before .before .before .before .before .before .before .before .before .before .before .args .from)) (take (c .before .before .before .before .before .before .before .before .before .before .before .before .before .before .args .end - c .before .before .before .before .before .before .before .before .before .before .before .before .before .before .args .start) (drop (c .before .before .before .before .before .before .before .before .before .before .before .before .before .before .args .start) (c .before .before .before .before .before .before .before .before .before .before .before .before .before .before .args .words .now))) (held o (c .before .before .before .before .before .before .before .before .before .before .before .before .before .before .args .flags .now) (c .before .before .before .before .before .before .before .before .before .before .before .before .before .before .args .self)) _ _ _ _ _ (c .before .before .before .before .before .before .before .before .before .loop .inv .0 o) (sym (c .before .before .before .before .before .before .before .decode .ensures) ∙ c .before .before .before .before .before .code .given .1) (c .before .before .short .ensures .0 o), c .before .before .short .ensures .1, c .before .before .short .ensures .2 ∙ c .before .before .before .before .before .before .before .before .before .loop .inv .2, prefix-turn (take (c .before .before .before .before .before .before .before .before .before .before .before .before .before .before .args .end - c .before .before .before .before .before .before .before .before .before .before .before .before .before .before .args .start) (drop (c .before .before .before .before .before .before .before .before .before .before .before .before .before .before .args .start) (c .before .before .before .before .before .before .before .before .before .before .before .before .before .before .args .words .now))) (c .before .before .before .before .before .before .before .before .before .loop .at) _ _ _ (sym (c .before .before .before .before .before .before .before .decode .ensures) ∙ c .before .before .before .before .before .code .given .1) (c .before .before .before .before .before .before .before .before .before .loop .inv .3))
+loop-again c =
+    let args = c .before .before .before .before .before .before .before .before .before .before .before .before .before .before .args in
+    let loop = c .before .before .before .before .before .before .before .before .before .loop in
+    let decode = c .before .before .before .before .before .before .before .decode in
+    let code = c .before .before .before .before .before .code in
+    let short = c .before .before .short in
+    (λ o. shorts-turn (args .words .now) (args .image .now) (definitionsAt (args .image .now) (args .from)) (take (args .end - args .start) (drop (args .start) (args .words .now))) (held o (args .flags .now) (args .self)) _ _ _ _ _ (loop .inv .0 o) (sym (decode .ensures) ∙ code .given .1) (short .ensures .0 o), short .ensures .1, short .ensures .2 ∙ loop .inv .2, prefix-turn (take (args .end - args .start) (drop (args .start) (args .words .now))) (loop .at) _ _ _ (sym (decode .ensures) ∙ code .given .1) (loop .inv .3))
 
 same-length-2 : tie.Need-same-length-2 Inv-loop μ-loop
 same-length-2 c = c .before .loop .inv .1 .full ∙ sym (c .before .before .before .before .before .before .pre .4 .full)
 
 returns-2 : tie.Need-returns-2 Inv-loop μ-loop
-returns-2 c = (λ o. shorts-end (c .before .before .before .before .before .before .args .words .now) (c .before .before .before .before .before .before .args .image .now) (definitionsAt (c .before .before .before .before .before .before .args .image .now) (c .before .before .before .before .before .before .args .from)) (take (c .before .before .before .before .before .before .args .end - c .before .before .before .before .before .before .args .start) (drop (c .before .before .before .before .before .before .args .start) (c .before .before .before .before .before .before .args .words .now))) (held o (c .before .before .before .before .before .before .args .flags .now) (c .before .before .before .before .before .before .args .self)) _ (c .before .loop .at) (c .before .loop .inv .0 o) (codes-end (take (c .before .before .before .before .before .before .args .end - c .before .before .before .before .before .before .args .start) (drop (c .before .before .before .before .before .before .args .start) (c .before .before .before .before .before .before .args .words .now))) (c .before .loop .at) (c .loop-test .left)), c .before .loop .inv .1, c .before .loop .inv .2)
+returns-2 c =
+    let args = c .before .before .before .before .before .before .args in
+    (λ o. shorts-end (args .words .now) (args .image .now) (definitionsAt (args .image .now) (args .from)) (take (args .end - args .start) (drop (args .start) (args .words .now))) (held o (args .flags .now) (args .self)) _ (c .before .loop .at) (c .before .loop .inv .0 o) (codes-end (take (args .end - args .start) (drop (args .start) (args .words .now))) (c .before .loop .at) (c .loop-test .left)), c .before .loop .inv .1, c .before .loop .inv .2)
 
 pub shorts-spec : {M : Type 1} → statement M
 shorts-spec =

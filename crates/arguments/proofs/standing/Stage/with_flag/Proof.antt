@@ -18,8 +18,10 @@ same-length c = search needs
 returns : tie.Need-returns
 returns c =
     let p = c .before .before .before .before .before .before .before .before .pre in
+    let args = c .before .before .before .before .before .before .before .before .args in
+    let entry = c .before .before .before .entry in
     let q = c .before .before .put .ensures in
-    (λ o. flag-moved _ _ (c .before .before .before .before .before .before .before .before .args .source) _ _ 0 0 _ (held o (c .before .before .before .before .before .before .before .before .args .flags .now) (c .before .before .before .before .before .before .before .before .args .self)) _ (p .0) (p .1) (c .before .before .before .entry .ensures) (q .0), q .1, refl)
+    (λ o. flag-moved _ _ (args .source) _ _ 0 0 _ (held o (args .flags .now) (args .self)) _ (p .0) (p .1) (entry .ensures) (q .0), q .1, refl)
 
 pub with-flag-spec : {M : Type 1} → statement M
 with-flag-spec = tie.close (tie.spec entry-requires put-requires same-length returns)

@@ -18,8 +18,10 @@ same-length c = search needs
 returns : tie.Need-returns
 returns c =
     let p = c .before .before .before .before .before .before .before .before .pre in
+    let args = c .before .before .before .before .before .before .before .before .args in
+    let entry = c .before .before .before .entry in
     let q = c .before .before .put .ensures in
-    (λ f. option-moved _ _ (c .before .before .before .before .before .before .before .before .args .source) _ _ _ _ _ (held (c .before .before .before .before .before .before .before .before .args .options .now) f (c .before .before .before .before .before .before .before .before .args .self)) _ (p .0) (p .1) (p .2) (p .3) (c .before .before .before .entry .ensures) (q .0), q .1, refl)
+    (λ f. option-moved _ _ (args .source) _ _ _ _ _ (held (args .options .now) f (args .self)) _ (p .0) (p .1) (p .2) (p .3) (entry .ensures) (q .0), q .1, refl)
 
 pub with-option-spec : {M : Type 1} → statement M
 with-option-spec = tie.close (tie.spec entry-requires put-requires same-length returns)

@@ -20,13 +20,19 @@ enum-told-3 : tie.Need-enum-told-3
 enum-told-3 c = search needs
 
 erase-key-requires : tie.Need-erase-key-requires
-erase-key-requires c κs = (good-parts (c .before .before .before .before .before .before .before .args .self) (c .before .before .before .before .before .before .before .args .history) (c .before .before .before .before .before .before .before .args .slots .now) (c .before .before .before .before .before .before .before .pre .0) .0, c .before .before .before .before .before .before .before .pre .1 .0)
+erase-key-requires c κs =
+    let args = c .before .before .before .before .before .before .before .args in
+    let pre = c .before .before .before .before .before .before .before .pre in
+    (good-parts (args .self) (args .history) (args .slots .now) (pre .0) .0, pre .1 .0)
 
 enum-known-action : tie.Need-enum-known-action
 enum-known-action c = search needs
 
 insert-key-requires : tie.Need-insert-key-requires
-insert-key-requires c κs = (good-parts (c .before .before .before .before .before .before .before .before .args .self) (c .before .before .before .before .before .before .before .before .args .history) (c .before .before .before .before .before .before .before .before .args .slots .now) (c .before .before .before .before .before .before .before .before .pre .0) .0, c .before .before .before .before .before .before .before .before .pre .1 .0)
+insert-key-requires c κs =
+    let args = c .before .before .before .before .before .before .before .before .args in
+    let pre = c .before .before .before .before .before .before .before .before .pre in
+    (good-parts (args .self) (args .history) (args .slots .now) (pre .0) .0, pre .1 .0)
 
 enum-told-4 : tie.Need-enum-told-4
 enum-told-4 c = search needs
@@ -44,16 +50,25 @@ enum-told-6 : tie.Need-enum-told-6
 enum-told-6 c = search needs
 
 right-requires : tie.Need-right-requires
-right-requires c κs = good-parts (c .before .before .before .before .before .before .before .args .self) (c .before .before .before .before .before .before .before .args .history) (c .before .before .before .before .before .before .before .args .slots .now) (c .before .before .before .before .before .before .before .pre .0) .0
+right-requires c κs =
+    let args = c .before .before .before .before .before .before .before .args in
+    let pre = c .before .before .before .before .before .before .before .pre in
+    good-parts (args .self) (args .history) (args .slots .now) (pre .0) .0
 
 enum-told-7 : tie.Need-enum-told-7
 enum-told-7 c = search needs
 
 left-requires : tie.Need-left-requires
-left-requires c κs = good-parts (c .before .before .before .before .before .before .before .args .self) (c .before .before .before .before .before .before .before .args .history) (c .before .before .before .before .before .before .before .args .slots .now) (c .before .before .before .before .before .before .before .pre .0) .0
+left-requires c κs =
+    let args = c .before .before .before .before .before .before .before .args in
+    let pre = c .before .before .before .before .before .before .before .pre in
+    good-parts (args .self) (args .history) (args .slots .now) (pre .0) .0
 
 returns : tie.Need-returns
-returns c = acted (c .before .before .before .before .before .before .args .self) (c .before .before .before .before .before .before .args .history) (c .before .before .before .before .before .before .args .slots .now) (c .before .before .before .before .before .before .args .prompt .now) (c .before .before .before .before .before .before .args .line .now) (c .before .before .before .before .before .before .args .screen .now) _ _ (c .enum-told .given .1) _ _ (good-parts (c .before .before .before .before .before .before .args .self) (c .before .before .before .before .before .before .args .history) (c .before .before .before .before .before .before .args .slots .now) (c .before .before .before .before .before .before .pre .0) .1) (quiet-keeps (c .before .before .before .before .before .before .args .prompt .now) (stateOf (c .before .before .before .before .before .before .args .self) (c .before .before .before .before .before .before .args .history) (c .before .before .before .before .before .before .args .slots .now))) (quiet (c .before .before .before .before .before .before .args .self) (c .before .before .before .before .before .before .args .history) (c .before .before .before .before .before .before .args .slots .now) (c .before .before .before .before .before .before .args .screen .now) (good-parts (c .before .before .before .before .before .before .args .self) (c .before .before .before .before .before .before .args .history) (c .before .before .before .before .before .before .args .slots .now) (c .before .before .before .before .before .before .pre .0) .0))
+returns c =
+    let args = c .before .before .before .before .before .before .args in
+    let pre = c .before .before .before .before .before .before .pre in
+    acted (args .self) (args .history) (args .slots .now) (args .prompt .now) (args .line .now) (args .screen .now) _ _ (c .enum-told .given .1) _ _ (good-parts (args .self) (args .history) (args .slots .now) (pre .0) .1) (quiet-keeps (args .prompt .now) (stateOf (args .self) (args .history) (args .slots .now))) (quiet (args .self) (args .history) (args .slots .now) (args .screen .now) (good-parts (args .self) (args .history) (args .slots .now) (pre .0) .0))
 
 same-length : tie.Need-same-length
 same-length c = search needs
@@ -65,19 +80,31 @@ same-length-3 : tie.Need-same-length-3
 same-length-3 c = search needs
 
 returns-2 : tie.Need-returns-2
-returns-2 c = entered (c .before .before .before .before .before .before .before .before .before .before .before .before .before .before .before .before .args .self) (c .before .before .before .before .before .before .before .before .before .before .before .before .before .before .before .before .args .history) (c .before .before .before .before .before .before .before .before .before .before .before .before .before .before .before .before .args .slots .now) (c .before .before .before .before .before .before .before .before .before .before .before .before .before .before .before .before .args .prompt .now) (c .before .before .before .before .before .before .before .before .before .before .before .before .before .before .before .before .args .line .now) (c .before .before .before .before .before .before .before .before .before .before .before .before .before .before .before .before .args .screen .now) _ _ (c .before .before .before .before .before .before .before .before .before .before .enum-told2 .given .1) _ _ _ _ (c .before .before .before .before .before .before .enter .ensures)
+returns-2 c =
+    let args = c .before .before .before .before .before .before .before .before .before .before .before .before .before .before .before .before .args in
+    let enum-told2 = c .before .before .before .before .before .before .before .before .before .before .enum-told2 in
+    let enter = c .before .before .before .before .before .before .enter in
+    entered (args .self) (args .history) (args .slots .now) (args .prompt .now) (args .line .now) (args .screen .now) _ _ (enum-told2 .given .1) _ _ _ _ (enter .ensures)
 
 same-length-4 : tie.Need-same-length-4
 same-length-4 c = search needs
 
 returns-3 : tie.Need-returns-3
-returns-3 c = acted (c .before .before .before .before .before .before .before .before .before .before .args .self) (c .before .before .before .before .before .before .before .before .before .before .args .history) (c .before .before .before .before .before .before .before .before .before .before .args .slots .now) (c .before .before .before .before .before .before .before .before .before .before .args .prompt .now) (c .before .before .before .before .before .before .before .before .before .before .args .line .now) (c .before .before .before .before .before .before .before .before .before .before .args .screen .now) _ _ (c .before .before .before .before .enum-told3 .given .1) _ _ (good-parts (c .before .before .before .before .before .before .before .before .before .before .args .self) (c .before .before .before .before .before .before .before .before .before .before .args .history) (c .before .before .before .before .before .before .before .before .before .before .args .slots .now) (c .before .before .before .before .before .before .before .before .before .before .pre .0) .1) (erase-keeps (c .before .before .before .before .before .before .before .before .before .before .args .prompt .now) (stateOf (c .before .before .before .before .before .before .before .before .before .before .args .self) (c .before .before .before .before .before .before .before .before .before .before .args .history) (c .before .before .before .before .before .before .before .before .before .before .args .slots .now))) (c .before .before .erase-key .ensures (c .before .before .before .before .before .before .before .before .before .before .args .slots .now))
+returns-3 c =
+    let args = c .before .before .before .before .before .before .before .before .before .before .args in
+    let pre = c .before .before .before .before .before .before .before .before .before .before .pre in
+    let enum-told3 = c .before .before .before .before .enum-told3 in
+    acted (args .self) (args .history) (args .slots .now) (args .prompt .now) (args .line .now) (args .screen .now) _ _ (enum-told3 .given .1) _ _ (good-parts (args .self) (args .history) (args .slots .now) (pre .0) .1) (erase-keeps (args .prompt .now) (stateOf (args .self) (args .history) (args .slots .now))) (c .before .before .erase-key .ensures (args .slots .now))
 
 same-length-5 : tie.Need-same-length-5
 same-length-5 c = search needs
 
 returns-4 : tie.Need-returns-4
-returns-4 c = acted (c .before .before .before .before .before .before .before .before .before .before .before .args .self) (c .before .before .before .before .before .before .before .before .before .before .before .args .history) (c .before .before .before .before .before .before .before .before .before .before .before .args .slots .now) (c .before .before .before .before .before .before .before .before .before .before .before .args .prompt .now) (c .before .before .before .before .before .before .before .before .before .before .before .args .line .now) (c .before .before .before .before .before .before .before .before .before .before .before .args .screen .now) _ _ (c .before .before .before .before .before .action .given .1) _ _ (good-parts (c .before .before .before .before .before .before .before .before .before .before .before .args .self) (c .before .before .before .before .before .before .before .before .before .before .before .args .history) (c .before .before .before .before .before .before .before .before .before .before .before .args .slots .now) (c .before .before .before .before .before .before .before .before .before .before .before .pre .0) .1) (insert-keeps (c .before .before .before .before .before .before .before .before .before .before .before .args .prompt .now) (stateOf (c .before .before .before .before .before .before .before .before .before .before .before .args .self) (c .before .before .before .before .before .before .before .before .before .before .before .args .history) (c .before .before .before .before .before .before .before .before .before .before .before .args .slots .now)) _) (c .before .before .insert-key .ensures (c .before .before .before .before .before .before .before .before .before .before .before .args .slots .now))
+returns-4 c =
+    let args = c .before .before .before .before .before .before .before .before .before .before .before .args in
+    let pre = c .before .before .before .before .before .before .before .before .before .before .before .pre in
+    let action = c .before .before .before .before .before .action in
+    acted (args .self) (args .history) (args .slots .now) (args .prompt .now) (args .line .now) (args .screen .now) _ _ (action .given .1) _ _ (good-parts (args .self) (args .history) (args .slots .now) (pre .0) .1) (insert-keeps (args .prompt .now) (stateOf (args .self) (args .history) (args .slots .now)) _) (c .before .before .insert-key .ensures (args .slots .now))
 
 same-length-6 : tie.Need-same-length-6
 same-length-6 c = search needs
@@ -86,7 +113,11 @@ same-length-7 : tie.Need-same-length-7
 same-length-7 c = search needs
 
 returns-5 : tie.Need-returns-5
-returns-5 c = acted (c .before .before .before .before .before .before .before .before .before .before .before .args .self) (c .before .before .before .before .before .before .before .before .before .before .before .args .history) (c .before .before .before .before .before .before .before .before .before .before .before .args .slots .now) (c .before .before .before .before .before .before .before .before .before .before .before .args .prompt .now) (c .before .before .before .before .before .before .before .before .before .before .before .args .line .now) (c .before .before .before .before .before .before .before .before .before .before .before .args .screen .now) _ _ (c .before .before .before .before .before .enum-told4 .given .1) _ _ (good-parts (c .before .before .before .before .before .before .before .before .before .before .before .args .self) (c .before .before .before .before .before .before .before .before .before .before .before .args .history) (c .before .before .before .before .before .before .before .before .before .before .before .args .slots .now) (c .before .before .before .before .before .before .before .before .before .before .before .pre .0) .1) (up-keeps (c .before .before .before .before .before .before .before .before .before .before .before .args .prompt .now) (stateOf (c .before .before .before .before .before .before .before .before .before .before .before .args .self) (c .before .before .before .before .before .before .before .before .before .before .before .args .history) (c .before .before .before .before .before .before .before .before .before .before .before .args .slots .now))) (c .before .before .up .ensures)
+returns-5 c =
+    let args = c .before .before .before .before .before .before .before .before .before .before .before .args in
+    let pre = c .before .before .before .before .before .before .before .before .before .before .before .pre in
+    let enum-told4 = c .before .before .before .before .before .enum-told4 in
+    acted (args .self) (args .history) (args .slots .now) (args .prompt .now) (args .line .now) (args .screen .now) _ _ (enum-told4 .given .1) _ _ (good-parts (args .self) (args .history) (args .slots .now) (pre .0) .1) (up-keeps (args .prompt .now) (stateOf (args .self) (args .history) (args .slots .now))) (c .before .before .up .ensures)
 
 same-length-8 : tie.Need-same-length-8
 same-length-8 c = search needs
@@ -95,19 +126,31 @@ same-length-9 : tie.Need-same-length-9
 same-length-9 c = search needs
 
 returns-6 : tie.Need-returns-6
-returns-6 c = acted (c .before .before .before .before .before .before .before .before .before .before .before .args .self) (c .before .before .before .before .before .before .before .before .before .before .before .args .history) (c .before .before .before .before .before .before .before .before .before .before .before .args .slots .now) (c .before .before .before .before .before .before .before .before .before .before .before .args .prompt .now) (c .before .before .before .before .before .before .before .before .before .before .before .args .line .now) (c .before .before .before .before .before .before .before .before .before .before .before .args .screen .now) _ _ (c .before .before .before .before .before .enum-told5 .given .1) _ _ (good-parts (c .before .before .before .before .before .before .before .before .before .before .before .args .self) (c .before .before .before .before .before .before .before .before .before .before .before .args .history) (c .before .before .before .before .before .before .before .before .before .before .before .args .slots .now) (c .before .before .before .before .before .before .before .before .before .before .before .pre .0) .1) (down-keeps (c .before .before .before .before .before .before .before .before .before .before .before .args .prompt .now) (stateOf (c .before .before .before .before .before .before .before .before .before .before .before .args .self) (c .before .before .before .before .before .before .before .before .before .before .before .args .history) (c .before .before .before .before .before .before .before .before .before .before .before .args .slots .now))) (c .before .before .down .ensures)
+returns-6 c =
+    let args = c .before .before .before .before .before .before .before .before .before .before .before .args in
+    let pre = c .before .before .before .before .before .before .before .before .before .before .before .pre in
+    let enum-told5 = c .before .before .before .before .before .enum-told5 in
+    acted (args .self) (args .history) (args .slots .now) (args .prompt .now) (args .line .now) (args .screen .now) _ _ (enum-told5 .given .1) _ _ (good-parts (args .self) (args .history) (args .slots .now) (pre .0) .1) (down-keeps (args .prompt .now) (stateOf (args .self) (args .history) (args .slots .now))) (c .before .before .down .ensures)
 
 same-length-10 : tie.Need-same-length-10
 same-length-10 c = search needs
 
 returns-7 : tie.Need-returns-7
-returns-7 c = acted (c .before .before .before .before .before .before .before .before .before .before .args .self) (c .before .before .before .before .before .before .before .before .before .before .args .history) (c .before .before .before .before .before .before .before .before .before .before .args .slots .now) (c .before .before .before .before .before .before .before .before .before .before .args .prompt .now) (c .before .before .before .before .before .before .before .before .before .before .args .line .now) (c .before .before .before .before .before .before .before .before .before .before .args .screen .now) _ _ (c .before .before .before .before .enum-told6 .given .1) _ _ (good-parts (c .before .before .before .before .before .before .before .before .before .before .args .self) (c .before .before .before .before .before .before .before .before .before .before .args .history) (c .before .before .before .before .before .before .before .before .before .before .args .slots .now) (c .before .before .before .before .before .before .before .before .before .before .pre .0) .1) (right-keeps (c .before .before .before .before .before .before .before .before .before .before .args .prompt .now) (stateOf (c .before .before .before .before .before .before .before .before .before .before .args .self) (c .before .before .before .before .before .before .before .before .before .before .args .history) (c .before .before .before .before .before .before .before .before .before .before .args .slots .now))) (c .before .before .right .ensures (c .before .before .before .before .before .before .before .before .before .before .args .slots .now))
+returns-7 c =
+    let args = c .before .before .before .before .before .before .before .before .before .before .args in
+    let pre = c .before .before .before .before .before .before .before .before .before .before .pre in
+    let enum-told6 = c .before .before .before .before .enum-told6 in
+    acted (args .self) (args .history) (args .slots .now) (args .prompt .now) (args .line .now) (args .screen .now) _ _ (enum-told6 .given .1) _ _ (good-parts (args .self) (args .history) (args .slots .now) (pre .0) .1) (right-keeps (args .prompt .now) (stateOf (args .self) (args .history) (args .slots .now))) (c .before .before .right .ensures (args .slots .now))
 
 same-length-11 : tie.Need-same-length-11
 same-length-11 c = search needs
 
 returns-8 : tie.Need-returns-8
-returns-8 c = acted (c .before .before .before .before .before .before .before .before .before .before .args .self) (c .before .before .before .before .before .before .before .before .before .before .args .history) (c .before .before .before .before .before .before .before .before .before .before .args .slots .now) (c .before .before .before .before .before .before .before .before .before .before .args .prompt .now) (c .before .before .before .before .before .before .before .before .before .before .args .line .now) (c .before .before .before .before .before .before .before .before .before .before .args .screen .now) _ _ (c .before .before .before .before .enum-told7 .given .1) _ _ (good-parts (c .before .before .before .before .before .before .before .before .before .before .args .self) (c .before .before .before .before .before .before .before .before .before .before .args .history) (c .before .before .before .before .before .before .before .before .before .before .args .slots .now) (c .before .before .before .before .before .before .before .before .before .before .pre .0) .1) (left-keeps (c .before .before .before .before .before .before .before .before .before .before .args .prompt .now) (stateOf (c .before .before .before .before .before .before .before .before .before .before .args .self) (c .before .before .before .before .before .before .before .before .before .before .args .history) (c .before .before .before .before .before .before .before .before .before .before .args .slots .now))) (c .before .before .left .ensures (c .before .before .before .before .before .before .before .before .before .before .args .slots .now))
+returns-8 c =
+    let args = c .before .before .before .before .before .before .before .before .before .before .args in
+    let pre = c .before .before .before .before .before .before .before .before .before .before .pre in
+    let enum-told7 = c .before .before .before .before .enum-told7 in
+    acted (args .self) (args .history) (args .slots .now) (args .prompt .now) (args .line .now) (args .screen .now) _ _ (enum-told7 .given .1) _ _ (good-parts (args .self) (args .history) (args .slots .now) (pre .0) .1) (left-keeps (args .prompt .now) (stateOf (args .self) (args .history) (args .slots .now))) (c .before .before .left .ensures (args .slots .now))
 
 pub act-spec : {M : Type 1} → statement M
 act-spec =

@@ -19,30 +19,50 @@ fresh-requires : tie.Need-fresh-requires
 fresh-requires c κs = search needs
 
 redraw-requires : tie.Need-redraw-requires
-redraw-requires c κs = let f = fresh-fits _ (c .before .fresh .ensures) in (f .0, f .1, c .before .before .before .before .before .before .before .before .pre .1)
+redraw-requires c κs =
+    let pre = c .before .before .before .before .before .before .before .before .pre in
+    let f = fresh-fits _ (c .before .fresh .ensures) in (f .0, f .1, pre .1)
 
 same-length : tie.Need-same-length
 same-length c = search needs
 
 returns : tie.Need-returns
-returns c = down-cleared (c .before .before .before .before .before .before .before .before .before .before .before .args .self) (c .before .before .before .before .before .before .before .before .before .before .before .args .history) (c .before .before .before .before .before .before .before .before .before .before .before .args .slots .now) (c .before .before .before .before .before .before .before .before .before .before .before .args .screen .now) (c .before .before .before .before .before .before .before .before .before .before .before .pre .0) (c .before .before .before .before .before .before .before .next .result) (c .before .before .before .before .before .before .before .next .ensures) _ _ _ (c .before .before .before .before .before .before .before .before .before .before .before .args .prompt .now) _ (c .before .before .before .before .before .enum-told .given .1) refl (c .before .before .before .before .fresh .ensures) (c .before .before .redraw .ensures)
+returns c =
+    let args = c .before .before .before .before .before .before .before .before .before .before .before .args in
+    let pre = c .before .before .before .before .before .before .before .before .before .before .before .pre in
+    let next = c .before .before .before .before .before .before .before .next in
+    let enum-told = c .before .before .before .before .before .enum-told in
+    let fresh = c .before .before .before .before .fresh in
+    down-cleared (args .self) (args .history) (args .slots .now) (args .screen .now) (pre .0) (next .result) (next .ensures) _ _ _ (args .prompt .now) _ (enum-told .given .1) refl (fresh .ensures) (c .before .before .redraw .ensures)
 
 recall-requires : tie.Need-recall-requires
 recall-requires c κs = search needs
 
 recalled-requires : tie.Need-recalled-requires
-recalled-requires c κs = short-enough _ (recalled-short (c .before .before .before .before .before .before .before .before .args .self) (c .before .before .before .before .before .before .before .before .args .history) (c .before .before .before .before .before .before .before .before .args .slots .now) (c .before .before .before .before .before .before .before .before .args .screen .now) (c .before .before .before .before .before .before .before .before .pre .0) _ _ (c .recall .ensures))
+recalled-requires c κs =
+    let args = c .before .before .before .before .before .before .before .before .args in
+    let pre = c .before .before .before .before .before .before .before .before .pre in
+    short-enough _ (recalled-short (args .self) (args .history) (args .slots .now) (args .screen .now) (pre .0) _ _ (c .recall .ensures))
 
 redraw-requires-2 : tie.Need-redraw-requires-2
 redraw-requires-2 c κs =
-    let f = held-fits _ _ _ _ (c .before .recalled2 .ensures) (recalled-short (c .before .before .before .before .before .before .before .before .before .before .args .self) (c .before .before .before .before .before .before .before .before .before .before .args .history) (c .before .before .before .before .before .before .before .before .before .before .args .slots .now) (c .before .before .before .before .before .before .before .before .before .before .args .screen .now) (c .before .before .before .before .before .before .before .before .before .before .pre .0) _ _ (c .before .before .recall .ensures)) in
-    (f .0, f .1, c .before .before .before .before .before .before .before .before .before .before .pre .1)
+    let args = c .before .before .before .before .before .before .before .before .before .before .args in
+    let pre = c .before .before .before .before .before .before .before .before .before .before .pre in
+    let f = held-fits _ _ _ _ (c .before .recalled2 .ensures) (recalled-short (args .self) (args .history) (args .slots .now) (args .screen .now) (pre .0) _ _ (c .before .before .recall .ensures)) in
+    (f .0, f .1, pre .1)
 
 same-length-2 : tie.Need-same-length-2
 same-length-2 c = search needs
 
 returns-2 : tie.Need-returns-2
-returns-2 c = down-shown (c .before .before .before .before .before .before .before .before .before .before .before .before .before .args .self) (c .before .before .before .before .before .before .before .before .before .before .before .before .before .args .history) (c .before .before .before .before .before .before .before .before .before .before .before .before .before .args .slots .now) (c .before .before .before .before .before .before .before .before .before .before .before .before .before .args .screen .now) (c .before .before .before .before .before .before .before .before .before .before .before .before .before .pre .0) (c .before .before .before .before .before .before .before .before .before .next .result) (c .before .before .before .before .before .before .before .before .before .next .ensures) _ _ _ (c .before .before .before .before .before .before .before .before .before .before .before .before .before .args .prompt .now) _ _ _ (c .before .before .before .before .before .before .before .recalled .given .1) refl (c .before .before .before .before .before .recall .ensures) (c .before .before .before .before .recalled2 .ensures) (c .before .before .redraw2 .ensures)
+returns-2 c =
+    let args = c .before .before .before .before .before .before .before .before .before .before .before .before .before .args in
+    let pre = c .before .before .before .before .before .before .before .before .before .before .before .before .before .pre in
+    let next = c .before .before .before .before .before .before .before .before .before .next in
+    let recalled = c .before .before .before .before .before .before .before .recalled in
+    let recall = c .before .before .before .before .before .recall in
+    let recalled2 = c .before .before .before .before .recalled2 in
+    down-shown (args .self) (args .history) (args .slots .now) (args .screen .now) (pre .0) (next .result) (next .ensures) _ _ _ (args .prompt .now) _ _ _ (recalled .given .1) refl (recall .ensures) (recalled2 .ensures) (c .before .before .redraw2 .ensures)
 
 pub down-spec : {M : Type 1} → statement M
 down-spec =

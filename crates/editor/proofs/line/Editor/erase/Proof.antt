@@ -21,40 +21,62 @@ sub-i c = c .before .before .before .pre .1
 
 loop-holds : tie.Need-loop-holds Inv-loop μ-loop
 loop-holds c =
-    let g = good-line (c .before .before .before .args .self) (c .before .before .before .pre .0) in let a = g .short in let b = g .within in
-    (omega (arith, c .before .before .before .pre .1), omega arith, erase-start (c .before .before .before .args .self) g (c .before .before .before .pre .1))
+    let args = c .before .before .before .args in
+    let pre = c .before .before .before .pre in
+    let g = good-line (args .self) (pre .0) in let a = g .short in let b = g .within in
+    (omega (arith, pre .1), omega arith, erase-start (args .self) g (pre .1))
 
 add-line : tie.Need-add-line Inv-loop μ-loop
-add-line c = let g = good-line (c .before .before .before .before .before .args .self) (c .before .before .before .before .before .pre .0) in let a = g .short in let b = g .within in omega arith
+add-line c =
+    let args = c .before .before .before .before .before .args in
+    let pre = c .before .before .before .before .before .pre in
+    let g = good-line (args .self) (pre .0) in let a = g .short in let b = g .within in omega arith
 
 array-read-line : tie.Need-array-read-line Inv-loop μ-loop
-array-read-line c = let g = good-line (c .before .before .before .before .before .args .self) (c .before .before .before .before .before .pre .0) in let a = g .short in let b = g .within in omega arith
+array-read-line c =
+    let args = c .before .before .before .before .before .args in
+    let pre = c .before .before .before .before .before .pre in
+    let g = good-line (args .self) (pre .0) in let a = g .short in let b = g .within in omega arith
 
 array-write-line : tie.Need-array-write-line Inv-loop μ-loop
-array-write-line c = let g = good-line (c .before .before .before .before .before .args .self) (c .before .before .before .before .before .pre .0) in let a = g .short in let b = g .within in omega arith
+array-write-line c =
+    let args = c .before .before .before .before .before .args in
+    let pre = c .before .before .before .before .before .pre in
+    let g = good-line (args .self) (pre .0) in let a = g .short in let b = g .within in omega arith
 
 add-i : tie.Need-add-i Inv-loop μ-loop
-add-i c = let g = good-line (c .before .before .before .before .before .args .self) (c .before .before .before .before .before .pre .0) in let a = g .short in let b = g .within in omega arith
+add-i c =
+    let args = c .before .before .before .before .before .args in
+    let pre = c .before .before .before .before .before .pre in
+    let g = good-line (args .self) (pre .0) in let a = g .short in let b = g .within in omega arith
 
 loop-less : tie.Need-loop-less Inv-loop μ-loop
 loop-less c = omega arith
 
 loop-again : tie.Need-loop-again Inv-loop μ-loop
 loop-again c =
-    let g = good-line (c .before .before .before .before .before .args .self) (c .before .before .before .before .before .pre .0) in let a = g .short in let b = g .within in
-    let n = length-of (c .before .before .before .before .before .args .self) g .1 in
-    (omega arith, omega arith, erase-turn (lineOf (c .before .before .before .before .before .args .self)) (255 - c .before .before .before .before .before .args .self .length) (c .before .before .before .before .before .args .self .cursor) (c .before .loop .line) (c .before .loop .i) (c .before .before .before .before .before .pre .1) (omega arith) (omega arith) (c .before .loop .inv .2))
+    let args = c .before .before .before .before .before .args in
+    let pre = c .before .before .before .before .before .pre in
+    let g = good-line (args .self) (pre .0) in let a = g .short in let b = g .within in
+    let n = length-of (args .self) g .1 in
+    (omega arith, omega arith, erase-turn (lineOf (args .self)) (255 - args .self .length) (args .self .cursor) (c .before .loop .line) (c .before .loop .i) (pre .1) (omega arith) (omega arith) (c .before .loop .inv .2))
 
 array-write-line-2 : tie.Need-array-write-line-2 Inv-loop μ-loop
-array-write-line-2 c = let g = good-line (c .before .before .before .before .before .args .self) (c .before .before .before .before .before .pre .0) in let a = g .short in let b = g .within in omega arith
+array-write-line-2 c =
+    let args = c .before .before .before .before .before .args in
+    let pre = c .before .before .before .before .before .pre in
+    let g = good-line (args .self) (pre .0) in let a = g .short in let b = g .within in omega arith
 
 sub-self : tie.Need-sub-self Inv-loop μ-loop
 sub-self c = c .before .before .before .before .before .before .pre .1
 
 returns : tie.Need-returns Inv-loop μ-loop
 returns c =
-    let g = good-line (c .before .before .before .before .before .before .args .self) (c .before .before .before .before .before .before .pre .0) in let a = g .short in let b = g .within in
-    erase-end (c .before .before .before .before .before .before .args .self) (c .before .before .loop .line) (c .before .before .loop .i) g (c .before .before .before .before .before .before .pre .1) (omega arith) (c .before .before .loop .inv .2)
+    let args = c .before .before .before .before .before .before .args in
+    let pre = c .before .before .before .before .before .before .pre in
+    let loop = c .before .before .loop in
+    let g = good-line (args .self) (pre .0) in let a = g .short in let b = g .within in
+    erase-end (args .self) (loop .line) (loop .i) g (pre .1) (omega arith) (loop .inv .2)
 
 pub erase-spec : {M : Type 1} → statement M
 erase-spec =

@@ -16,13 +16,21 @@ part-greatest-byte-start : tie.Need-part-greatest-byte-start
 part-greatest-byte-start c = search needs
 
 part-greatest-byte-end : tie.Need-part-greatest-byte-end
-part-greatest-byte-end c = omega (arith, whole-line (c .before .before .before .before .before .args .self .line) (c .before .before .before .before .before .good .0 .1 .1 .0 .1 .0 .1))
+part-greatest-byte-end c =
+    let args = c .before .before .before .before .before .args in
+    let good = c .before .before .before .before .before .good in
+    omega (arith, whole-line (args .self .line) (good .0 .1 .1 .0 .1 .0 .1))
 
 greatest-byte-requires : tie.Need-greatest-byte-requires
 greatest-byte-requires c κs = search needs
 
 returns-3 : tie.Need-returns-3
-returns-3 c = zeros-after (c .before .before .before .before .before .before .before .args .self) _ (whole-line (c .before .before .before .before .before .before .before .args .self .line) (c .before .before .before .before .before .before .before .good .0 .1 .1 .0 .1 .0 .1)) (c .before .before .before .before .before .before .if1 .left) (c .before .before .before .before .if2 .left) (c .greatest-byte .ensures)
+returns-3 c =
+    let args = c .before .before .before .before .before .before .before .args in
+    let good = c .before .before .before .before .before .before .before .good in
+    let if1 = c .before .before .before .before .before .before .if1 in
+    let if2 = c .before .before .before .before .if2 in
+    zeros-after (args .self) _ (whole-line (args .self .line) (good .0 .1 .1 .0 .1 .0 .1)) (if1 .left) (if2 .left) (c .greatest-byte .ensures)
 
 pub is-good-spec : {M : Type 1} → statement M
 is-good-spec =

@@ -19,7 +19,10 @@ returns c =
     bad-state (a .self) (a .history) (a .slots .now) (a .prompt .now) (a .byte) (a .line .now) (a .screen .now) bad
 
 key-tested-requires : tie.Need-key-tested-requires
-key-tested-requires c κs = sym (c .before .before .before .before .is-good-with .ensures) ∙ not-false (c .before .before .before .before .is-good-with .result) (c .before .before .before .if1 .left)
+key-tested-requires c κs =
+    let is-good-with = c .before .before .before .before .is-good-with in
+    let if1 = c .before .before .before .if1 in
+    sym (is-good-with .ensures) ∙ not-false (is-good-with .result) (if1 .left)
 
 same-length-2 : tie.Need-same-length-2
 same-length-2 c = search needs

@@ -5,7 +5,9 @@ use Rattle.editor.proofs.line.Editor.left.Statement.{statement}
 use Rattle.editor.proofs.line.Editor.left.Tie as tie
 
 returns : tie.Need-returns
-returns c = λ slots. left-quiet (c .before .before .args .self) (c .before .before .args .history) slots (c .before .before .args .screen .now) (c .before .before .pre) (c .if1 .taken)
+returns c =
+    let args = c .before .before .args in
+    λ slots. left-quiet (args .self) (args .history) slots (args .screen .now) (c .before .before .pre) (c .if1 .taken)
 
 sub-moved : tie.Need-sub-moved
 sub-moved c = search needs
@@ -20,7 +22,12 @@ same-length : tie.Need-same-length
 same-length c = search needs
 
 returns-2 : tie.Need-returns-2
-returns-2 c = λ slots. left-shown (c .before .before .before .before .before .before .before .args .self) (c .before .before .before .before .before .before .before .args .history) slots (c .before .before .before .before .before .before .before .args .screen .now) (c .before .before .before .before .before .before .before .pre) _ _ _ (c .before .before .before .before .before .if1 .left) (c .before .before .before .before .moved .ensures) (c .before .before .show-arrow .ensures)
+returns-2 c =
+    let args = c .before .before .before .before .before .before .before .args in
+    let pre = c .before .before .before .before .before .before .before .pre in
+    let if1 = c .before .before .before .before .before .if1 in
+    let moved = c .before .before .before .before .moved in
+    λ slots. left-shown (args .self) (args .history) slots (args .screen .now) (pre) _ _ _ (if1 .left) (moved .ensures) (c .before .before .show-arrow .ensures)
 
 pub left-spec : {M : Type 1} → statement M
 left-spec =

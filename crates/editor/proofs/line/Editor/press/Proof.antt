@@ -14,7 +14,11 @@ in-mode-requires : tie.Need-in-mode-requires
 in-mode-requires c κs = search needs
 
 act-requires : tie.Need-act-requires
-act-requires c κs = (moded-good (c .before .before .before .before .before .before .before .before .before .args .self) (c .before .before .before .before .before .before .before .before .before .args .history) (c .before .before .before .before .before .before .before .before .before .args .slots .now) _ _ (c .before .before .before .in-mode .ensures) (c .before .before .before .before .before .before .before .before .before .pre .0), c .before .before .before .before .before .before .before .before .before .pre .1)
+act-requires c κs =
+    let args = c .before .before .before .before .before .before .before .before .before .args in
+    let pre = c .before .before .before .before .before .before .before .before .before .pre in
+    let in-mode = c .before .before .before .in-mode in
+    (moded-good (args .self) (args .history) (args .slots .now) _ _ (in-mode .ensures) (pre .0), pre .1)
 
 is-refusal-requires : tie.Need-is-refusal-requires
 is-refusal-requires c κs = search needs
@@ -29,7 +33,12 @@ same-length-3 : tie.Need-same-length-3
 same-length-3 c = search needs
 
 returns : tie.Need-returns
-returns c = does-as (c .before .before .before .before .before .before .before .before .before .before .before .before .before .before .before .before .before .before .args .self) (c .before .before .before .before .before .before .before .before .before .before .before .before .before .before .before .before .before .before .args .history) _ (c .before .before .before .before .before .before .before .before .before .before .before .before .before .before .before .before .before .before .args .slots .now) (c .before .before .before .before .before .before .before .before .before .before .before .before .before .before .before .before .before .before .args .line .now) (c .before .before .before .before .before .before .before .before .before .before .before .before .before .before .before .before .before .before .args .screen .now) _ _ _ _ _ (turn-in (c .before .before .before .before .before .before .before .before .before .before .before .before .before .before .before .before .before .before .args .prompt .now) (c .before .before .before .before .before .before .before .before .before .before .before .before .before .before .before .before .before .before .args .self) _ (c .before .before .before .before .before .before .before .before .before .before .before .before .before .before .before .before .before .before .args .history) (c .before .before .before .before .before .before .before .before .before .before .before .before .before .before .before .before .before .before .args .slots .now) (c .before .before .before .before .before .before .before .before .before .before .before .before .before .before .before .before .before .before .args .byte) (c .before .before .before .before .before .before .before .before .before .before .before .before .before .meaning-of .result) (c .before .before .before .before .before .before .before .before .before .before .before .before .before .meaning-of .ensures) (c .before .before .before .before .before .before .before .before .before .before .before .before .in-mode .ensures)) (does-refused (c .before .before .before .before .before .before .before .before .before .before .before .before .before .before .before .before .before .before .args .self) _ (c .before .before .before .before .before .before .before .before .before .before .before .before .before .before .before .before .before .before .args .history) _ (c .before .before .before .before .before .before .before .before .before .before .before .before .before .before .before .before .before .before .args .slots .now) (c .before .before .before .before .before .before .before .before .before .before .before .before .before .before .before .before .before .before .args .line .now) (c .before .before .before .before .before .before .before .before .before .before .before .before .before .before .before .before .before .before .args .screen .now) _ _ _ _ (c .before .before .before .before .before .before .before .before .act .ensures) (sym (c .before .is-refusal .ensures) ∙ c .if1 .taken))
+returns c =
+    let args = c .before .before .before .before .before .before .before .before .before .before .before .before .before .before .before .before .before .before .args in
+    let meaning-of = c .before .before .before .before .before .before .before .before .before .before .before .before .before .meaning-of in
+    let in-mode = c .before .before .before .before .before .before .before .before .before .before .before .before .in-mode in
+    let act = c .before .before .before .before .before .before .before .before .act in
+    does-as (args .self) (args .history) _ (args .slots .now) (args .line .now) (args .screen .now) _ _ _ _ _ (turn-in (args .prompt .now) (args .self) _ (args .history) (args .slots .now) (args .byte) (meaning-of .result) (meaning-of .ensures) (in-mode .ensures)) (does-refused (args .self) _ (args .history) _ (args .slots .now) (args .line .now) (args .screen .now) _ _ _ _ (act .ensures) (sym (c .before .is-refusal .ensures) ∙ c .if1 .taken))
 
 same-length-4 : tie.Need-same-length-4
 same-length-4 c = search needs
@@ -41,7 +50,12 @@ same-length-6 : tie.Need-same-length-6
 same-length-6 c = search needs
 
 returns-2 : tie.Need-returns-2
-returns-2 c = does-as (c .before .before .before .before .before .before .before .before .before .before .before .before .before .before .before .before .before .before .args .self) (c .before .before .before .before .before .before .before .before .before .before .before .before .before .before .before .before .before .before .args .history) _ (c .before .before .before .before .before .before .before .before .before .before .before .before .before .before .before .before .before .before .args .slots .now) (c .before .before .before .before .before .before .before .before .before .before .before .before .before .before .before .before .before .before .args .line .now) (c .before .before .before .before .before .before .before .before .before .before .before .before .before .before .before .before .before .before .args .screen .now) _ _ _ _ _ (turn-in (c .before .before .before .before .before .before .before .before .before .before .before .before .before .before .before .before .before .before .args .prompt .now) (c .before .before .before .before .before .before .before .before .before .before .before .before .before .before .before .before .before .before .args .self) _ (c .before .before .before .before .before .before .before .before .before .before .before .before .before .before .before .before .before .before .args .history) (c .before .before .before .before .before .before .before .before .before .before .before .before .before .before .before .before .before .before .args .slots .now) (c .before .before .before .before .before .before .before .before .before .before .before .before .before .before .before .before .before .before .args .byte) (c .before .before .before .before .before .before .before .before .before .before .before .before .before .meaning-of .result) (c .before .before .before .before .before .before .before .before .before .before .before .before .before .meaning-of .ensures) (c .before .before .before .before .before .before .before .before .before .before .before .before .in-mode .ensures)) (does-taken (c .before .before .before .before .before .before .before .before .before .before .before .before .before .before .before .before .before .before .args .self) _ (c .before .before .before .before .before .before .before .before .before .before .before .before .before .before .before .before .before .before .args .history) _ (c .before .before .before .before .before .before .before .before .before .before .before .before .before .before .before .before .before .before .args .slots .now) (c .before .before .before .before .before .before .before .before .before .before .before .before .before .before .before .before .before .before .args .line .now) (c .before .before .before .before .before .before .before .before .before .before .before .before .before .before .before .before .before .before .args .screen .now) _ _ _ _ (c .before .before .before .before .before .before .before .before .act .ensures) (sym (c .before .is-refusal .ensures) ∙ c .if1 .left))
+returns-2 c =
+    let args = c .before .before .before .before .before .before .before .before .before .before .before .before .before .before .before .before .before .before .args in
+    let meaning-of = c .before .before .before .before .before .before .before .before .before .before .before .before .before .meaning-of in
+    let in-mode = c .before .before .before .before .before .before .before .before .before .before .before .before .in-mode in
+    let act = c .before .before .before .before .before .before .before .before .act in
+    does-as (args .self) (args .history) _ (args .slots .now) (args .line .now) (args .screen .now) _ _ _ _ _ (turn-in (args .prompt .now) (args .self) _ (args .history) (args .slots .now) (args .byte) (meaning-of .result) (meaning-of .ensures) (in-mode .ensures)) (does-taken (args .self) _ (args .history) _ (args .slots .now) (args .line .now) (args .screen .now) _ _ _ _ (act .ensures) (sym (c .before .is-refusal .ensures) ∙ c .if1 .left))
 
 pub press-spec : {M : Type 1} → statement M
 press-spec =

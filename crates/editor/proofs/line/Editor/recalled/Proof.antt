@@ -37,12 +37,18 @@ loop-less c = omega arith
 
 loop-again : tie.Need-loop-again Inv-loop μ-loop
 loop-again c =
-    let h = within-limit _ (c .before .before .before .before .before .before .pre) in
+    let pre = c .before .before .before .before .before .before .pre in
+    let args = c .before .before .before .before .before .before .args in
+    let loop = c .before .before .loop in
+    let h = within-limit _ (pre) in
     let z = length-zeros 255 in
-    (omega arith, rw (c .before .before .loop .inv .1) (copy-step (c .before .before .before .before .before .before .args .text .now) (zeros 255) (c .before .before .loop .i) (omega arith) (omega arith)))
+    (omega arith, rw (loop .inv .1) (copy-step (args .text .now) (zeros 255) (loop .i) (omega arith) (omega arith)))
 
 returns : tie.Need-returns Inv-loop μ-loop
-returns c = recall-end (c .before .before .before .before .before .args .text .now) (c .before .loop .line) (c .before .loop .i) _ (within-limit _ (c .before .before .before .before .before .pre)) (omega arith) (c .before .loop .inv .1)
+returns c =
+    let args = c .before .before .before .before .before .args in
+    let pre = c .before .before .before .before .before .pre in
+    recall-end (args .text .now) (c .before .loop .line) (c .before .loop .i) _ (within-limit _ (pre)) (omega arith) (c .before .loop .inv .1)
 
 pub recalled-spec : {M : Type 1} → statement M
 recalled-spec =

@@ -13,7 +13,10 @@ nothing-requires : tie.Need-nothing-requires
 nothing-requires c κs = search needs
 
 returns : tie.Need-returns
-returns c = no-head (c .before .before .before .before .args .bytes .now) _ (sym (c .before .before .has-mode .ensures) ∙ not-true (c .before .before .has-mode .result) (c .before .if1 .taken)) (c .nothing .ensures)
+returns c =
+    let args = c .before .before .before .before .args in
+    let has-mode = c .before .before .has-mode in
+    no-head (args .bytes .now) _ (sym (has-mode .ensures) ∙ not-true (has-mode .result) (c .before .if1 .taken)) (c .nothing .ensures)
 
 saved-in-requires : tie.Need-saved-in-requires
 saved-in-requires c κs = head-size _ (sym (c .before .has-mode .ensures) ∙ not-false (c .before .has-mode .result) (c .if1 .left))
@@ -26,15 +29,23 @@ nothing-requires-2 c κs = search needs
 
 returns-2 : tie.Need-returns-2
 returns-2 c =
-    let head = sym (c .before .before .before .before .before .has-mode .ensures) ∙ not-false (c .before .before .before .before .before .has-mode .result) (c .before .before .before .before .if1 .left) in
-    let bad = sym (c .before .before .is-good .ensures) ∙ not-true (c .before .before .is-good .result) (c .before .if2 .taken) in
-    bad-line (c .before .before .before .before .before .before .before .args .bytes .now) _ _ head (c .before .before .before .saved-in .ensures) bad (c .nothing2 .ensures)
+    let args = c .before .before .before .before .before .before .before .args in
+    let has-mode = c .before .before .before .before .before .has-mode in
+    let if1 = c .before .before .before .before .if1 in
+    let saved-in = c .before .before .before .saved-in in
+    let is-good = c .before .before .is-good in
+    let head = sym (has-mode .ensures) ∙ not-false (has-mode .result) (if1 .left) in
+    let bad = sym (is-good .ensures) ∙ not-true (is-good .result) (c .before .if2 .taken) in
+    bad-line (args .bytes .now) _ _ head (saved-in .ensures) bad (c .nothing2 .ensures)
 
 returns-3 : tie.Need-returns-3
 returns-3 c =
-    let head = sym (c .before .before .before .before .has-mode .ensures) ∙ not-false (c .before .before .before .before .has-mode .result) (c .before .before .before .if1 .left) in
+    let args = c .before .before .before .before .before .before .args in
+    let has-mode = c .before .before .before .before .has-mode in
+    let if1 = c .before .before .before .if1 in
+    let head = sym (has-mode .ensures) ∙ not-false (has-mode .result) (if1 .left) in
     let is = sym (c .before .is-good .ensures) ∙ not-false (c .before .is-good .result) (c .if2 .left) in
-    line-restored (c .before .before .before .before .before .before .args .bytes .now) _ head (c .before .before .saved-in .ensures) is
+    line-restored (args .bytes .now) _ head (c .before .before .saved-in .ensures) is
 
 pub restored-spec : {M : Type 1} → statement M
 restored-spec =

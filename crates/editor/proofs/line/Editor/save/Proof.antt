@@ -28,13 +28,24 @@ slice-aggregate-push-2 : tie.Need-slice-aggregate-push-2
 slice-aggregate-push-2 c = search needs
 
 push-requires-2 : tie.Need-push-requires-2
-push-requires-2 c κs = line-room _ (c .before .before .before .before .before .before .before .before .before .before .before .before .args .self .line) (c .before .before .before .before .before .before .before .before .before .before .before .before .args .out .now) _ (c .before .before .before .before .before .before .before .before .before .before .before .before .args .at) _ refl (whole-line (c .before .before .before .before .before .before .before .before .before .before .before .before .args .self .line) (c .before .before .before .before .before .before .before .before .before .before .before .before .good .0 .1 .1 .0 .1 .0 .1)) (c .before .before .before .before .before .before .before .before .before .before .before .before .pre .1) (c .before .before .before .before .push .ensures)
+push-requires-2 c κs =
+    let args = c .before .before .before .before .before .before .before .before .before .before .before .before .args in
+    let good = c .before .before .before .before .before .before .before .before .before .before .before .before .good in
+    let pre = c .before .before .before .before .before .before .before .before .before .before .before .before .pre in
+    let push = c .before .before .before .before .push in
+    line-room _ (args .self .line) (args .out .now) _ (args .at) _ refl (whole-line (args .self .line) (good .0 .1 .1 .0 .1 .0 .1)) (pre .1) (push .ensures)
 
 same-length : tie.Need-same-length
 same-length c = search needs
 
 returns : tie.Need-returns
-returns c = save-written (c .before .before .before .before .before .before .before .before .before .before .before .before .before .before .before .args .self) _ (c .before .before .before .before .before .before .before .before .before .before .before .before .before .before .before .args .out .now) _ _ (c .before .before .before .before .before .before .before .before .before .before .before .before .before .before .before .args .at) _ _ (c .before .before .before .before .before .before .before .before .before .before .before .before .mode-number .ensures) (whole-line (c .before .before .before .before .before .before .before .before .before .before .before .before .before .before .before .args .self .line) (c .before .before .before .before .before .before .before .before .before .before .before .before .before .before .before .good .0 .1 .1 .0 .1 .0 .1)) (c .before .before .before .before .before .before .before .before .before .before .before .before .before .before .before .pre .1) (c .before .before .before .before .before .before .before .push .ensures) (c .before .before .push2 .ensures)
+returns c =
+    let args = c .before .before .before .before .before .before .before .before .before .before .before .before .before .before .before .args in
+    let good = c .before .before .before .before .before .before .before .before .before .before .before .before .before .before .before .good in
+    let pre = c .before .before .before .before .before .before .before .before .before .before .before .before .before .before .before .pre in
+    let mode-number = c .before .before .before .before .before .before .before .before .before .before .before .before .mode-number in
+    let push = c .before .before .before .before .before .before .before .push in
+    save-written (args .self) _ (args .out .now) _ _ (args .at) _ _ (mode-number .ensures) (whole-line (args .self .line) (good .0 .1 .1 .0 .1 .0 .1)) (pre .1) (push .ensures) (c .before .before .push2 .ensures)
 
 pub save-spec : {M : Type 1} → statement M
 save-spec =

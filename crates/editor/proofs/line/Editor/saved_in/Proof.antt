@@ -23,7 +23,13 @@ mode-of-requires : tie.Need-mode-of-requires
 mode-of-requires c κs = search needs
 
 returns : tie.Need-returns
-returns c = editor-read (c .before .before .before .before .before .before .before .before .args .bytes .now) _ (c .before .before .before .before .before .recalled .result) _ _ _ _ (c .before .before .before .before .before .before .before .before .pre) (c .before .before .before .before .before .before .rest .ensures) (c .before .before .before .before .before .recalled .ensures) (c .before .before .before .byte-at .ensures .byte) (c .before .before .byte-at2 .ensures .byte) (c .before .byte-at3 .ensures .byte) (c .mode-of .ensures)
+returns c =
+    let args = c .before .before .before .before .before .before .before .before .args in
+    let pre = c .before .before .before .before .before .before .before .before .pre in
+    let rest = c .before .before .before .before .before .before .rest in
+    let recalled = c .before .before .before .before .before .recalled in
+    let byte-at = c .before .before .before .byte-at in
+    editor-read (args .bytes .now) _ (recalled .result) _ _ _ _ (pre) (rest .ensures) (recalled .ensures) (byte-at .ensures .byte) (c .before .before .byte-at2 .ensures .byte) (c .before .byte-at3 .ensures .byte) (c .mode-of .ensures)
 
 pub saved-in-spec : {M : Type 1} → statement M
 saved-in-spec =

@@ -18,7 +18,10 @@ same-length c = search needs
 
 returns : tie.Need-returns
 unfolding slotsOf layout
-returns c = record { state = c .fresh .ensures; bytes = c .before .before .before .clear .ensures ∙ all-cleared _ (c .before .before .before .before .before .before .pre) }
+returns c =
+    let pre = c .before .before .before .before .before .before .pre in
+    let clear = c .before .before .before .clear in
+    record { state = c .fresh .ensures; bytes = clear .ensures ∙ all-cleared _ (pre) }
 
 pub fresh-in-spec : {M : Type 1} → statement M
 fresh-in-spec = tie.close (tie.spec clear-requires fresh-requires same-length returns)

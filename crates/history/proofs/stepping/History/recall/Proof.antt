@@ -10,13 +10,17 @@ part-requires : tie.Need-part-requires
 part-requires c κs = search needs
 
 returns : tie.Need-returns
-returns c = c .part .ensures ∙ recall-past (c .before .before .before .before .args .self) (c .before .before .before .before .args .slots .now) (c .before .before .before .before .args .number) (c .before .if1 .taken)
+returns c =
+    let args = c .before .before .before .before .args in
+    c .part .ensures ∙ recall-past (args .self) (args .slots .now) (args .number) (c .before .if1 .taken)
 
 part-requires-2 : tie.Need-part-requires-2
 part-requires-2 c κs = search needs
 
 returns-2 : tie.Need-returns-2
-returns-2 c = c .part2 .ensures ∙ recall-none (c .before .before .before .before .before .args .self) (c .before .before .before .before .before .args .slots .now) (c .before .before .before .before .before .args .number) (omega (arith, c .before .before .if1 .left)) (c .before .if2 .taken)
+returns-2 c =
+    let args = c .before .before .before .before .before .args in
+    c .part2 .ensures ∙ recall-none (args .self) (args .slots .now) (args .number) (omega (arith, c .before .before .if1 .left)) (c .before .if2 .taken)
 
 mul-at : tie.Need-mul-at
 mul-at c = search needs
@@ -31,7 +35,10 @@ part-requires-3 : tie.Need-part-requires-3
 part-requires-3 c κs = search needs
 
 returns-3 : tie.Need-returns-3
-returns-3 c = c .part3 .ensures ∙ recall-there (c .before .before .before .before .before .before .args .self) (c .before .before .before .before .before .before .args .slots .now) (c .before .before .before .before .before .before .args .number) (omega (arith, c .before .before .before .if1 .left)) _ (c .before .byte-at .ensures .byte)
+returns-3 c =
+    let args = c .before .before .before .before .before .before .args in
+    let if1 = c .before .before .before .if1 in
+    c .part3 .ensures ∙ recall-there (args .self) (args .slots .now) (args .number) (omega (arith, if1 .left)) _ (c .before .byte-at .ensures .byte)
 
 pub recall-spec : {M : Type 1} → statement M
 recall-spec =

@@ -7,7 +7,9 @@ use Rattle.history.proofs.stepping.History.restored.Statement.{statemen
 use Rattle.history.proofs.stepping.History.restored.Tie as tie
 
 returns : tie.Need-returns
-returns c = wrong-length (c .before .before .before .args .bytes .now) (c .before .before .before .args .slots .now) (c .if1 .taken)
+returns c =
+    let args = c .before .before .before .args in
+    wrong-length (args .bytes .now) (args .slots .now) (c .if1 .taken)
 
 byte-at-requires : tie.Need-byte-at-requires
 byte-at-requires c κs = search needs
@@ -21,14 +23,18 @@ is-good-requires c κs = search needs
 returns-2 : tie.Need-returns-2
 returns-2 c =
     let a = c .before .before .before .before .before .before .before .args in
+    let if1 = c .before .before .before .before .if1 in
+    let byte-at = c .before .before .before .byte-at in
     let bad = sym (c .before .is-good .ensures) ∙ not-true (c .before .is-good .result) (c .if2 .taken) in
-    read-bad (a .bytes .now) (a .slots .now) _ _ (c .before .before .before .before .if1 .left) (c .before .before .before .byte-at .ensures .byte) (c .before .before .byte-at2 .ensures .byte) bad
+    read-bad (a .bytes .now) (a .slots .now) _ _ (if1 .left) (byte-at .ensures .byte) (c .before .before .byte-at2 .ensures .byte) bad
 
 returns-3 : tie.Need-returns-3
 returns-3 c =
     let a = c .before .before .before .before .before .before .before .args in
+    let if1 = c .before .before .before .before .if1 in
+    let byte-at = c .before .before .before .byte-at in
     let is = sym (c .before .is-good .ensures) ∙ not-false (c .before .is-good .result) (c .if2 .left) in
-    read-good (a .bytes .now) (a .slots .now) _ _ (c .before .before .before .before .if1 .left) (c .before .before .before .byte-at .ensures .byte) (c .before .before .byte-at2 .ensures .byte) is
+    read-good (a .bytes .now) (a .slots .now) _ _ (if1 .left) (byte-at .ensures .byte) (c .before .before .byte-at2 .ensures .byte) is
 
 pub restored-spec : {M : Type 1} → statement M
 restored-spec =

@@ -38,8 +38,9 @@ same-requires c κs = search needs
 returns : tie.Need-returns Inv-loop μ-loop
 returns c =
     let a = c .before .before .before .before .before .before .before .before .before .before .args in
-    let h : c .before .before .before .before .before .loop .i < sizeOf (a .t1) = omega arith in
-    sym (has-here (a .words .now) (a .image .now) (a .t1) (a .wanted .now) _ _ h (c .before .before .key .ensures) (sym (c .before .same .ensures) ∙ c .if1 .taken)) ∙ c .before .before .before .before .before .loop .inv .1
+    let loop = c .before .before .before .before .before .loop in
+    let h : loop .i < sizeOf (a .t1) = omega arith in
+    sym (has-here (a .words .now) (a .image .now) (a .t1) (a .wanted .now) _ _ h (c .before .before .key .ensures) (sym (c .before .same .ensures) ∙ c .if1 .taken)) ∙ loop .inv .1
 
 add-i : tie.Need-add-i Inv-loop μ-loop
 add-i c = search needs
@@ -50,8 +51,9 @@ loop-less c = search needs
 loop-again : tie.Need-loop-again Inv-loop μ-loop
 loop-again c =
     let a = c .before .before .before .before .before .before .before .before .before .before .args in
-    let h : c .before .before .before .before .before .loop .i < sizeOf (a .t1) = omega arith in
-    (omega arith, sym (has-on (a .words .now) (a .image .now) (a .t1) (a .wanted .now) _ _ h (c .before .before .key .ensures) (sym (c .before .same .ensures) ∙ c .if1 .left)) ∙ c .before .before .before .before .before .loop .inv .1)
+    let loop = c .before .before .before .before .before .loop in
+    let h : loop .i < sizeOf (a .t1) = omega arith in
+    (omega arith, sym (has-on (a .words .now) (a .image .now) (a .t1) (a .wanted .now) _ _ h (c .before .before .key .ensures) (sym (c .before .same .ensures) ∙ c .if1 .left)) ∙ loop .inv .1)
 
 returns-2 : tie.Need-returns-2 Inv-loop μ-loop
 returns-2 c =

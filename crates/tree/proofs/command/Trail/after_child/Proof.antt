@@ -9,7 +9,9 @@ enum-known-next : tie.Need-enum-known-next
 enum-known-next c = search needs
 
 after-name-requires : tie.Need-after-name-requires
-after-name-requires c κs = (c .before .before .before .before .before .pre .0, (c .before .before .before .before .before .pre .1, c .before .next .given .1))
+after-name-requires c κs =
+    let pre = c .before .before .before .before .before .pre in
+    (pre .0, (pre .1, c .before .next .given .1))
 
 enum-told : tie.Need-enum-told
 enum-told c = search needs
@@ -19,7 +21,10 @@ returns c = search needs
 
 returns-2 : tie.Need-returns-2
 unfolding Bytes
-returns-2 c = (after-no-word (c .before .before .before .before .args .words .now) (c .before .before .before .before .args .image .now) (λ i. c .before .before .shared-slice-known2 .given i .fits) (c .before .before .before .before .args .at) (c .before .before .before .before .pre .0 .2) (c .before .before .before .before .args .self) (c .before .before .before .before .pre .1 .0) (c .before .before .before .before .pre .1 .1) (c .before .before .before .before .pre .1 .2) (c .before .before .before .before .pre .0 .3) (c .enum-told .given .1), c .before .before .before .before .pre .0 .3)
+returns-2 c =
+    let args = c .before .before .before .before .args in
+    let pre = c .before .before .before .before .pre in
+    (after-no-word (args .words .now) (args .image .now) (λ i. c .before .before .shared-slice-known2 .given i .fits) (args .at) (pre .0 .2) (args .self) (pre .1 .0) (pre .1 .1) (pre .1 .2) (pre .0 .3) (c .enum-told .given .1), pre .0 .3)
 
 pub after-child-spec : {M : Type 1} → statement M
 after-child-spec =

@@ -12,7 +12,10 @@ enum-told : tie.Need-enum-told
 enum-told c = search needs
 
 add-t9 : tie.Need-add-t9
-add-t9 c = let l = closed-least (c .before .before .before .args .self .done) (c .before .before .before .args .self .word) in omega (arith, c .before .before .before .pre .0, c .before .before .before .pre .1)
+add-t9 c =
+    let args = c .before .before .before .args in
+    let pre = c .before .before .before .pre in
+    let l = closed-least (args .self .done) (args .self .word) in omega (arith, pre .0, pre .1)
 
 enum-told-2 : tie.Need-enum-told-2
 enum-told-2 c = search needs
