@@ -12,7 +12,7 @@ use Rattle.tree.proofs.Forests.{StandsFor}
 use Rattle.editor.specs.Turns.{turnOf}
 use Rattle.editor.proofs.Fine.{Fine, turn-fine}
 use Rattle.session.specs.Prints.{prompt}
-use Rattle.session.specs.Lines.{Form, keys, lineForm, Standing, withKeys, inState, takeForm, takeLine, Course, beyond, pressKey, pressKeys, onTaking, lineCourse, session}
+use Rattle.session.specs.Lines.{Form, keys, lineForm, Standing, withKeys, inState, takeForm, takeLine, Course, preceded, pressKey, pressKeys, onTaking, lineCourse, session}
 use Rattle.rust.specs.Tree.{commandsOf}
 use Rattle.rust.specs.Loop.{Shell, Loop, turned, promptWithoutFs, rustKey, rustKeys}
 use Rattle.rust.specs.Same.{shellOf}
@@ -42,7 +42,7 @@ keys-keep s fine (k ∷ bytes) =
     by (pressKey s k .ends) kept (keys-keep next kept bytes)
   where
     by : (b : Bool) → Fine (turnOf prompt (s .state) k .after) → Keeps (inState s (turnOf prompt (s .state) k .after)) (pressKeys (inState s (turnOf prompt (s .state) k .after)) bytes .after)
-        → Keeps s (cond b (pressKey s k) (beyond (pressKey s k .prints) (pressKeys (inState s (turnOf prompt (s .state) k .after)) bytes)) .after)
+        → Keeps s (cond b (pressKey s k) (preceded (pressKey s k .prints) (pressKeys (inState s (turnOf prompt (s .state) k .after)) bytes)) .after)
     by true kept rest = record { image = refl; lines = refl; fine = kept }
     by false kept rest = record { image = rest .image; lines = rest .lines; fine = rest .fine }
 
