@@ -60,9 +60,7 @@ loop-less : tie.Need-loop-less Inv-loop μ-loop
 loop-less c = search needs
 
 loop-again : tie.Need-loop-again Inv-loop μ-loop
-loop-again c =
-    let turn = c .before .before .before .before .before .before .before .before .before .before .turn in
-    (turn .ensures .0, turn .ensures .1, search needs, search needs)
+loop-again c = (c .before .before .before .before .before .before .before .before .before .before .turn .ensures .0, c .before .before .before .before .before .before .before .before .before .before .turn .ensures .1, search needs, search needs)
 
 same-length-6 : tie.Need-same-length-6 Inv-loop μ-loop
 same-length-6 c =
