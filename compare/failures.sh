@@ -1,8 +1,12 @@
 #!/bin/sh
 # Holds the program `console` to what it does when its output or its input fails: a message on standard error, nothing more written, status 1 by console.sh.
-# Run `rt check console` first.
+# Run `rt check console` first. On a machine that is not x86-64 the program runs under the kit's emulator.
 set -eu
 cd "${0%/*}/.."
+if [ -z "${RISSEMAT_CONSOLE:-}" ] && [ "$(uname -m)" != x86_64 ]; then
+    RISSEMAT_CONSOLE=$(compare/emulated.sh console)
+    export RISSEMAT_CONSOLE
+fi
 made=$(mktemp -d)
 trap 'rm -rf "$made"' EXIT
 faults=0
