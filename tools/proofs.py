@@ -147,4 +147,7 @@ def named(head, body):
             taken.add(name)
             names[depth, thing] = name
     lets = ''.join(f'let {name} = c{" .before" * depth} .{thing} in\n' for (depth, thing), name in names.items())
-    return lets + PATH.sub(lambda m: names.get((m[1].count('.before'), m[2]), m[0]), body)
+    body = PATH.sub(lambda m: names.get((m[1].count('.before'), m[2]), m[0]), body)
+    for name in names.values():
+        body = body.replace(f'({name})', name)
+    return lets + body
