@@ -1,5 +1,6 @@
-// One key, a letter at the end of a line, with several histories: against a pass of from_utf8 and against the original's key.
-use crate::table::key_row;
+// One key, a letter at the end of a line, with several histories: against a pass of from_utf8 and against the original's key; and keys
+// of both profiles against each other.
+use crate::table::{key_row, profile_row};
 use crate::timing::medians;
 use axstd::console::typed;
 use original::Original;
@@ -12,7 +13,7 @@ const ERASE: u8 = 0x7F;
 /// The letter, and the key that takes it back.
 pub const PAIR: [u8; 2] = [LETTER, ERASE];
 /// The lengths of a saved state, of its slots, of the line buffer, and more than any redraw writes.
-const STATE: usize = 260;
+const STATE: usize = 263;
 const SLOTS: usize = 25_600;
 const LINE: usize = 255;
 const SCREEN: usize = 512;
@@ -30,6 +31,21 @@ const HISTORIES: [(&str, &str, usize); 6] = [
     ("full, 1 byte each", "vm start ", 1),
     ("full, 255, non-ASCII", "größe ", 255),
 ];
+
+/// The numbers of the key profiles: the Rust's, and ECMA-48's.
+const PROFILES: [u8; 2] = [0, 1];
+/// Keys of both profiles: a name, and for each the keys before the one that is timed, and that one.
+const KEYS: [(&str, [&[u8]; 2]); 7] = [
+    ("a letter", [b"x", b"x"]),
+    ("backspace", [b"\x7F", b"\x7F"]),
+    ("ESC", [b"\x1B", b"\x1B"]),
+    ("[ after ESC", [b"\x1B[", b"\x1B["]),
+    ("D after ESC [", [b"\x1B[D", b"\x1B[D"]),
+    ("3 after ESC [", [b"\x1B[3", b"\x1B[3"]),
+    ("backspace; delete's last byte", [b"\x1B[D\x7F", b"\x1B[D\x1B[3~"]),
+];
+/// The histories with which they are timed.
+const PROFILE_HISTORIES: [(&str, &str, usize); 2] = [HISTORIES[0], HISTORIES[3]];
 
 /// The original types a letter and takes it back, so many times, in one run.
 const PAIRS: usize = 1_000;
@@ -56,6 +72,25 @@ fn line_rows(length: usize) {
     }
 }
 
+/// Each key of both profiles, in the same rounds.
+pub fn profile_rows() {
+    for length in LINES {
+        let line = vec![b'a'; length];
+        for (history, text, bytes) in PROFILE_HISTORIES {
+            for (name, keys) in KEYS {
+                let [mut rust, mut ecma48] = [0, 1].map(|at| {
+                    let (&key, before) = keys[at].split_last().expect("a key");
+                    let mut ours = Ours::with(PROFILES[at], &line, text, bytes);
+                    ours.type_before(before);
+                    (ours, key)
+                });
+                let times = medians([&mut || _ = rust.0.press_key(rust.1), &mut || _ = ecma48.0.press_key(ecma48.1)]);
+                profile_row(length, history, name, times);
+            }
+        }
+    }
+}
+
 /// A saved state with what a key is lent.
 pub struct Ours {
     before: [u8; STATE],
@@ -67,8 +102,12 @@ pub struct Ours {
 
 impl Ours {
     pub fn new(line: &[u8], text: &str, bytes: usize) -> Self {
+        Ours::with(PROFILES[0], line, text, bytes)
+    }
+
+    fn with(profile: u8, line: &[u8], text: &str, bytes: usize) -> Self {
         let (mut before, mut slots) = ([0; STATE], vec![0; SLOTS]);
-        assert_eq!(calls::fresh(&mut before, &mut slots), 0);
+        assert_eq!(calls::fresh_with(profile, &mut before, &mut slots), 0);
         for entry in entries(text, bytes) {
             assert_eq!(calls::history_add(&mut before, &mut slots, entry.as_bytes()), 0);
         }
@@ -80,9 +119,22 @@ impl Ours {
 
     /// One letter typed to the state as it was before.
     fn press(&mut self) -> u64 {
+        self.press_key(LETTER)
+    }
+
+    /// One key typed to the state as it was before.
+    fn press_key(&mut self, key: u8) -> u64 {
         self.state = self.before;
         let Ours { state, slots, line, screen, .. } = self;
-        black_box(calls::key(black_box(state), slots, PROMPT, LETTER, line, screen))
+        black_box(calls::key(black_box(state), slots, PROMPT, key, line, screen))
+    }
+
+    /// Keys that are typed before the one that is timed.
+    fn type_before(&mut self, keys: &[u8]) {
+        for &key in keys {
+            assert_eq!(self.press_key(key) >> 32, 0);
+            self.before = self.state;
+        }
     }
 
     /// The letter typed and taken back. What the second key shows is on the screen.

@@ -1,4 +1,4 @@
-// Times the proved library against the original shell, both from this one driver, and prints seven tables, or five where
+// Times the proved library against the original shell, both from this one driver, and prints eight tables, or six where
 // the program `console` runs under an emulator.
 mod help;
 mod keys;
@@ -15,6 +15,8 @@ fn main() {
     words::rows();
     table::key_heading();
     keys::rows();
+    table::profile_heading();
+    keys::profile_rows();
     table::tree_heading();
     tree::rows();
     table::parse_heading();

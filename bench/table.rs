@@ -27,6 +27,18 @@ pub fn key_row(line: usize, history: &str, pass: f64, rust: f64, ours: f64) {
     );
 }
 
+pub fn profile_heading() {
+    println!();
+    println!("| line | history              | key                           | Rust's keys ns | ECMA-48's ns | ECMA-48's / Rust's |");
+    println!("|-----:|----------------------|-------------------------------|---------------:|-------------:|-------------------:|");
+}
+
+/// Prints the row of one key with each profile.
+pub fn profile_row(line: usize, history: &str, key: &str, [rust, ecma48]: [f64; 2]) {
+    let ratio = ecma48 / rust;
+    println!("| {line:>4} | {history:<20} | {key:<29} | {rust:>14.0} | {ecma48:>12.0} | {ratio:>18.2} |");
+}
+
 pub fn tree_heading() {
     println!();
     println!("| image of         | bytes | Rust ns | ours ns | ours / Rust | ours ns a byte |");

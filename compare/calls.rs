@@ -2,8 +2,8 @@
 #[path = "../crates/rissemat/rissemat.rs"]
 mod rissemat;
 
-use rissemat::{rissemat_fresh, rissemat_help, rissemat_history_add, rissemat_key, rissemat_parse};
-use rissemat::{rissemat_quote, rissemat_run, rissemat_tree, rissemat_words};
+use rissemat::{rissemat_fresh, rissemat_fresh_with, rissemat_help, rissemat_history_add, rissemat_key};
+use rissemat::{rissemat_parse, rissemat_quote, rissemat_run, rissemat_tree, rissemat_words};
 
 /// Writes the words of a line as frames of kind 14.
 pub fn words(line: &[u8], out: &mut [u8]) -> u64 {
@@ -18,6 +18,11 @@ pub fn quote(words: &[u8], out: &mut [u8]) -> u64 {
 /// Makes a saved state and its slots fresh.
 pub fn fresh(state: &mut [u8], slots: &mut [u8]) -> u64 {
     unsafe { rissemat_fresh(state.as_mut_ptr(), state.len(), slots.as_mut_ptr(), slots.len()) }
+}
+
+/// The same with a key profile, by its number.
+pub fn fresh_with(profile: u8, state: &mut [u8], slots: &mut [u8]) -> u64 {
+    unsafe { rissemat_fresh_with(profile, state.as_mut_ptr(), state.len(), slots.as_mut_ptr(), slots.len()) }
 }
 
 /// Has a saved state take one key; writes what it shows, and at Enter the line.

@@ -1,5 +1,6 @@
 #!/bin/sh
-# Holds the program `console` to what it does when its output or its input fails: a message on standard error, nothing more written, status 1 by console.sh.
+# Holds the program `console` to what it does when its output or its input fails: a message on standard error, nothing more written, status 1 by
+# console.sh; and when it is given words that it does not take: a message, nothing read and nothing written, status 2.
 # Run `rt check console` first. On a machine that is not x86-64 the program runs under the kit's emulator.
 set -eu
 cd "${0%/*}/.."
@@ -22,7 +23,36 @@ told() {
     : >"$made/out"
 }
 
-run() { sh crates/console/console.sh; }
+# refused NAME WORDS..: words that are not taken. What is left of the input is all of it.
+refused() {
+    name=$1
+    shift
+    status=0
+    {
+        run "$@" >"$made/out" 2>"$made/err" || status=$?
+        cat >"$made/left"
+    } <crates/console/stdin
+    if [ "$status" = 2 ] && [ -s "$made/err" ] && [ ! -s "$made/out" ] && cmp -s "$made/left" crates/console/stdin; then
+        echo "$name: as expected"
+    else
+        echo "$name: status $status, told '$(cat "$made/err")', printed $(wc -c <"$made/out") bytes, left $(wc -c <"$made/left") to read"
+        faults=$((faults + 1))
+    fi
+}
+
+# taken WORD INPUT OUTPUT: a word that is taken, and what is printed with it
+taken() {
+    status=0
+    printf '%s\n' "$2" | run "$1" >"$made/out" 2>"$made/err" || status=$?
+    if [ "$status" = 0 ] && [ "$(cat "$made/out")" = "$3" ] && [ ! -s "$made/err" ]; then
+        echo "the word $1: as expected"
+    else
+        echo "the word $1: status $status, told '$(cat "$made/err")', printed '$(cat "$made/out")'"
+        faults=$((faults + 1))
+    fi
+}
+
+run() { sh crates/console/console.sh "$@"; }
 : >"$made/out"
 status=0
 run <crates/console/stdin >/dev/full 2>"$made/err" || status=$?
@@ -41,4 +71,20 @@ else
     echo "an input that ends: status $status, printed '$(cat "$made/out")'"
     faults=$((faults + 1))
 fi
+refused 'another word' help
+refused 'no word' ''
+refused 'an unknown profile' keys=vt100
+refused 'no profile' keys=
+refused 'another case' keys=ECMA-48
+refused 'a space behind the word' 'keys=rust '
+refused 'a word twice' keys=ecma-48 keys=ecma-48
+refused 'both words' keys=rust keys=ecma-48
+refused 'a word and no word' keys=rust ''
+# a letter, Home, and a letter before it, which the Rust's keys type behind it
+shown=220d1b5b324b61787669736f723a2420
+taken keys=rust 20611b5b4862 "${shown}61
+${shown}6162"
+taken keys=ecma-48 20611b5b4862 "${shown}61
+${shown}611b5b3144
+${shown}62611b5b3144"
 [ "$faults" = 0 ]

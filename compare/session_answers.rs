@@ -1,4 +1,5 @@
-// Writes the input and the output of the program replay_session: whole sessions, and what the original's loop and shell print for them in frames.
+// Writes the input and the output of the program replay_session: whole sessions, and what the original's loop and shell print for them in frames;
+// with ECMA-48's keys, what the model and the original's shell print.
 #[path = "comparer/frames.rs"]
 #[allow(dead_code)]
 mod frames;
@@ -6,6 +7,11 @@ mod frames;
 mod hex;
 #[path = "comparer/console/lines.rs"]
 mod lines;
+#[path = "comparer/model/mod.rs"]
+#[allow(dead_code)]
+mod model;
+#[path = "comparer/console/modelled.rs"]
+mod modelled;
 #[path = "comparer/planting.rs"]
 #[allow(dead_code)]
 mod planting;
@@ -24,8 +30,13 @@ mod told;
 
 use hex::{hex, or_dash};
 use lines::{house, key_lines, tree_lines};
+use model::Profile;
+use modelled::told_with;
 use planting::{Tree, examples, handlers, marked, named};
 use told::told;
+
+/// What stands before a session of ECMA-48's keys.
+const MARK: &str = "+";
 
 /// The session of the standard.
 const STANDARD: &str = "01000002036c6f67104368616e6765206c6f67206c6576656c0b6c6f67205b4c4556454c5d\n206c6f670d\n";
@@ -84,6 +95,27 @@ const LINES: [&str; 22] = [
     "03000166ff00\n",
 ];
 
+/// ECMA-48's keys: sequences that act at the begin, inside and at the end of a line, Delete before parts of a character, sequences
+/// that do nothing, such as are broken off, and such as are too long.
+const SEQUENCES: [&[u8]; 6] = [
+    b"ac\x1B[Db\x1B[H\x1B[3~",
+    b"xy\x1B[1~\x1B[1~\x1B[4~\x1B[4~\x1B[7~\x1B[8~\x1B[1H\x1B[1F\x1B[H\x1B[F",
+    b"\x1B[3~\xC3\xA9a\x1B[3~\x1B[H\x1B[3~\x1B[3~\x1B[3~\x1B[3~",
+    b"bc\x1B[D\x1B[01~\x1B[03~\x1B[3;5~\x1B[2~\x1B[5~\x1B[15~\x1B[1;5C\x1B[?25h\
+      \x1B[ !p\x1B[2A\x1B[3D\x1B[4H\x1B[1 D\x1B[E\x1B[~\x1B[Z\x1B[[\x1B[}a",
+    b"\x1B[3\ra\x1B[\nb\x1B[\x1B[Ac\x1B[\x7Fd\x1B[3\x80~\x1B[\xFFe\x1B[1\x00f\x1B[1\x08g",
+    b"a\x1B[000000000000000Db\x1B[3333333333333333~\x1B[;;;;;;;;;;;;;;;;;H\x1B[///////////////\x1Bz",
+];
+
+/// Arrows with a parameter and without, behind the session of the standard.
+const ARROWS: &[u8] = b"\x1B[A\x1B[1A\x1B[H\x1B[3~\x1B[B\x1B[1B\x1B[1A\x1B[1D\x1B[1C\x1B[1C\r";
+
+/// The keys of lines that begin and end inside of sequences, one of them without a key.
+const SPLIT: [&[u8]; 11] = [b"ab", b"\x1B", b"[", b"", b"1", b"~", b"\x1B[", b"3", b"~", b"\x1B[4", b"~x"];
+
+/// An exit with a key and a bad line behind it; a bad line inside of a sequence; a line without an end there; nothing.
+const ENDS: [&str; 4] = ["207869741b5b48650d6162\nzz\n", "20611b5b31\n2\n207e\n", "20611b5b31", ""];
+
 /// A line at each place of a session, and as its last line without an end.
 fn with_line(sessions: &mut Vec<String>, line: &str) {
     let whole = tree_lines(&examples().0) + &key_lines(b"log\rexit\r", 5);
@@ -125,11 +157,31 @@ fn all() -> Vec<String> {
     sessions
 }
 
+/// The sessions of ECMA-48's keys.
+fn ecma48() -> Vec<String> {
+    let mut sessions = SEQUENCES.map(|keys| key_lines(keys, 511)).to_vec();
+    sessions.push(STANDARD.to_string() + &key_lines(ARROWS, 511));
+    sessions.push(SPLIT.map(|keys| house(&[b" ", keys].concat())).concat());
+    sessions.extend(ENDS.map(str::to_string));
+    sessions
+}
+
+/// What a session of the Rust's keys prints. The model has to say what the original's loop says.
+fn answer(session: &[u8]) -> String {
+    let output = told(session).output;
+    assert_eq!(output, told_with(Profile::Rust, session).output, "the model of the Rust's keys is the original");
+    output
+}
+
 fn main() {
     let folder = std::env::args().nth(1).expect("the folder of the program");
-    let sessions = all();
-    let input: String = sessions.iter().map(|session| hex(session.as_bytes()) + "\n").collect();
-    let output: String = sessions.iter().map(|session| or_dash(hex(told(session.as_bytes()).output.as_bytes())) + "\n").collect();
+    let rust = all().into_iter().map(|session| (hex(session.as_bytes()), answer(session.as_bytes())));
+    let ecma48 = ecma48().into_iter().map(|session| {
+        (MARK.to_string() + &hex(session.as_bytes()), told_with(Profile::Ecma48, session.as_bytes()).output)
+    });
+    let sessions: Vec<(String, String)> = rust.chain(ecma48).collect();
+    let input: String = sessions.iter().map(|(session, _)| format!("{session}\n")).collect();
+    let output: String = sessions.iter().map(|(_, answer)| or_dash(hex(answer.as_bytes())) + "\n").collect();
     assert!(input.len() < 262_144, "the program reads at most 262,143 bytes");
     std::fs::write(format!("{folder}/stdin"), &input).expect("stdin is written");
     std::fs::write(format!("{folder}/stdout"), &output).expect("stdout is written");

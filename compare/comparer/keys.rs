@@ -1,6 +1,6 @@
 // Keys: the library against the original's own loop, key by key, and against the model in all that it answers and leaves.
 use crate::lent::Lent;
-use crate::model::{LINE, Model, saved};
+use crate::model::{LINE, Mode, Model, Profile, saved};
 use crate::named::named;
 use crate::part::{Part, hex};
 use crate::shell::{PLAIN, Shell, WITH_FS, walk};
@@ -11,18 +11,32 @@ const MIXED: usize = 120_000;
 const MIXED_FS: usize = 80_000;
 const SEED: u64 = 0x6B65_7973_0000_0001;
 const SEED_FS: u64 = 0x6B65_7973_6673_0001;
+const SHORT_ALIKE: usize = 3;
+const MIXED_ALIKE: usize = 30_000;
+const SEED_ALIKE: u64 = 0x6B65_7973_6563_0001;
 /// Buffers that are too short are tried at every key of so many, and at the last of a stream.
 const TRIED: usize = 32;
 
-/// Types a stream to both, walks through their histories, and compares these.
+/// Types a stream to both from the fresh state.
 fn check(part: &mut Part, lent: &mut Lent, shell: &Shell, stream: &[u8]) {
     part.input(stream);
+    if lent.fresh(part, saved::STATE, saved::SLOTS) {
+        both(part, lent, Model::fresh(), shell, stream);
+    }
+}
+
+/// The same with the keys of ECMA-48 for ours.
+fn check_ecma48(part: &mut Part, lent: &mut Lent, stream: &[u8]) {
+    part.input(stream);
+    if lent.fresh_with(part, Profile::Ecma48 as u8, saved::STATE, saved::SLOTS) {
+        both(part, lent, Model::fresh_with(Profile::Ecma48), &PLAIN, stream);
+    }
+}
+
+/// Types a stream to both, walks through their histories, and compares these.
+fn both(part: &mut Part, lent: &mut Lent, mut model: Model, shell: &Shell, stream: &[u8]) {
     let keys = [stream, &walk(stream)].concat();
     let screens = shell.screens(&keys);
-    let mut model = Model::fresh();
-    if !lent.fresh(part, saved::STATE, saved::SLOTS) {
-        return;
-    }
     for (number, (&key, screen)) in keys.iter().zip(&screens).enumerate() {
         let short = number % TRIED == TRIED - 1 || number + 1 == stream.len();
         let press = if short { Lent::press_short } else { Lent::press };
@@ -86,6 +100,30 @@ pub fn limits(part: &mut Part) {
     let longest: Vec<u8> =
         (0..102).flat_map(|number| [vec![b'0' + number % 70; LINE + 1], vec![b'\n']].concat()).collect();
     check(part, &mut lent, &PLAIN, &longest);
+}
+
+/// Short, named and mixed streams that both profiles read alike: the original's loop is then the measure of ECMA-48's keys too.
+pub fn alike(part: &mut Part) {
+    let mut lent = Lent::new();
+    let mut one = |stream: &[u8]| {
+        if !parting(stream) {
+            check_ecma48(part, &mut lent, stream);
+        }
+    };
+    every_stream(SHORT_ALIKE, &mut one);
+    named().iter().for_each(|stream| one(stream));
+    let mut typist = Typist::new(SEED_ALIKE);
+    (0..MIXED_ALIKE).for_each(|_| one(&typist.stream()));
+}
+
+/// Whether ESC `[` is gone on with by a byte that the profiles read in two ways: a parameter, an intermediate, Home or End.
+fn parting(stream: &[u8]) -> bool {
+    let mut model = Model::fresh();
+    stream.iter().any(|&key| {
+        let parts = model.mode == Mode::Bracket && matches!(key, 0x20..0x40 | b'H' | b'F');
+        model.press(PLAIN.prompt, key);
+        parts
+    })
 }
 
 pub fn mixed_streams(part: &mut Part) {

@@ -35,15 +35,19 @@ impl Lent {
 
     /// Makes buffers of these lengths fresh. A refusal leaves them as they were.
     pub fn fresh(&mut self, part: &mut Part, state: usize, slots: usize) -> bool {
-        self.state.clear(state);
-        self.slots.clear(slots);
-        self.room(NONE);
         let answer = answers::fresh(state, slots);
-        if answer == 0 {
-            self.leave(&Model::fresh(), true);
-        }
+        self.begin(state, slots, (answer == 0).then(Model::fresh));
         let given = calls::fresh(self.state.lent(), self.slots.lent());
         self.judge(part, answer, given, || "fresh".to_string())
+    }
+
+    /// The same with the profile of this number, which may be none.
+    pub fn fresh_with(&mut self, part: &mut Part, profile: u8, state: usize, slots: usize) -> bool {
+        let answer = answers::fresh_with(profile, state, slots);
+        let model = saved::numbered(profile).filter(|_| answer == 0).map(Model::fresh_with);
+        self.begin(state, slots, model);
+        let given = calls::fresh_with(profile, self.state.lent(), self.slots.lent());
+        self.judge(part, answer, given, || format!("fresh with profile {profile}"))
     }
 
     /// Puts a saved state there.
@@ -117,6 +121,14 @@ impl Lent {
             Some(answer) => self.refuse(part, prompt, key, Room { line, screen }, answer),
             None => true,
         })
+    }
+
+    // Buffers of these lengths, and what the call has to leave in them, if anything.
+    fn begin(&mut self, state: usize, slots: usize, model: Option<Model>) {
+        self.state.clear(state);
+        self.slots.clear(slots);
+        self.room(NONE);
+        model.iter().for_each(|model| self.leave(model, true));
     }
 
     fn room(&mut self, room: Room) {

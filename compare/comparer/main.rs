@@ -20,6 +20,7 @@ mod ran;
 mod random;
 mod reports;
 mod run;
+mod sequences;
 mod session;
 mod shell;
 mod states;
@@ -33,7 +34,7 @@ mod workers;
 use part::Part;
 use std::process::ExitCode;
 
-const PARTS: [(&str, fn(&mut Part)); 64] = [
+const PARTS: [(&str, fn(&mut Part)); 74] = [
     ("session: the original under keys", session::compare),
     ("marked: M1 to M8", marked::compare),
     ("words: every short line", words::short_lines),
@@ -55,9 +56,17 @@ const PARTS: [(&str, fn(&mut Part)); 64] = [
     ("keys: streams about the limits", keys::limits),
     ("keys: mixed streams", keys::mixed_streams),
     ("keys: mixed streams with fs", keys::mixed_streams_fs),
+    ("keys: alike in both profiles", keys::alike),
     ("keys: prompts", prompts::compare),
+    ("sequences: every short one", sequences::short_ones),
+    ("sequences: each byte in each mode", sequences::every_byte),
+    ("sequences: long ones", sequences::long_ones),
+    ("sequences: named streams", sequences::named_streams),
+    ("sequences: mixed streams", sequences::mixed_streams),
     ("states: every byte of the head", states::heads),
     ("states: lengths, cursors, places", states::pairs),
+    ("states: profiles and sequences", states::sequences),
+    ("states: mixed damage", states::mixed),
     ("states: every byte of the slots", states::slots),
     ("states: entries that are bad", states::entries),
     ("states: buffers of other lengths", states::lengths),
@@ -98,6 +107,8 @@ const PARTS: [(&str, fn(&mut Part)); 64] = [
     ("console: line by line", console::dialogues),
     ("console: outputs that are closed", console::closed_outputs),
     ("console: mixed sessions", console::mixed_sessions),
+    ("console: keys of ECMA-48", console::ecma48),
+    ("console: words that are refused", console::refused_words),
 ];
 
 /// Runs the parts whose names begin with one of the words given, all if there are none.

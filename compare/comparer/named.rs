@@ -99,6 +99,77 @@ fn limits(list: &mut Vec<Vec<u8>>) {
     list.push(format!("{lines}{}{}", UP.repeat(102), DOWN.repeat(3)).into_bytes());
 }
 
+/// The control sequences that act.
+const ACTING: [&str; 17] =
+    ["A", "B", "C", "D", "H", "F", "1A", "1B", "1C", "1D", "1H", "1F", "1~", "7~", "4~", "8~", "3~"];
+
+/// Control sequences that do nothing: no digit that says something alone, several parameters, a sign, intermediates, other final
+/// bytes, 15 and 16 bytes, and such as are broken off.
+const IDLE: [&str; 27] = [
+    "~",
+    "0A",
+    "2A",
+    "01A",
+    "11A",
+    "1;5A",
+    ";A",
+    "?A",
+    " A",
+    "1 A",
+    " 1A",
+    "3A",
+    "7H",
+    "4F",
+    "01~",
+    "03~",
+    "30~",
+    "3;5~",
+    "3 ~",
+    "5~",
+    "@",
+    "1z",
+    "3\r",
+    "3\x1B",
+    "3\x7F",
+    "111111111111111A",
+    "3333333333333333~",
+];
+
+/// Streams of ECMA-48's keys: what acts at the begin, in the middle and at the end of a line; what does nothing; characters that
+/// are split and made whole again; the profile behind Enter; arrows with a parameter and without.
+pub fn sequences() -> Vec<Vec<u8>> {
+    let mut list: Vec<Vec<u8>> = Vec::new();
+    let mut add = |keys: String| list.push(keys.into_bytes());
+    for bytes in ACTING {
+        add(format!("old\rab{LEFT}\x1B[{bytes}z\x1B[H\x1B[{bytes}y\x1B[F\x1B[{bytes}x"));
+    }
+    IDLE.iter().for_each(|bytes| add(format!("old\rab{LEFT}\x1B[{bytes}z")));
+    for text in ["é", "語b"] {
+        add(format!("{text}\x1B[H\x1B[3~\x1B[3~x\x1B[Fy\r{UP}"));
+        add(format!("{text}{LEFT}\x1B[3~\x1B[1~\x1B[3~\x1B[3~\x1B[3~\x1B[4~z\r"));
+        add(format!("{text}{LEFT}{LEFT}\x1B[3~\x1B[3~\r{UP}"));
+    }
+    for keys in ["", "a", "ab\x1B[H", "ab\x1B[7~"] {
+        add(format!("{keys}\x1B[3~\x1B[H\x1B[3~\x1B[3~\x1B[F\x1B[Hx"));
+    }
+    add(format!("a\r\x1B[Hb\n\x1B[1A\x1B[1A\x1B[3~c\x1B[1B{DOWN}{UP}\x1B[H\x1B[1C\x1B[1Dx\r"));
+    add(format!("a\rb\r{UP}{UP}\x1B[1A\x1B[1B{DOWN}\x1B[1B\x1B[1Ay\r\x1B[1A"));
+    add(format!("a\rb\r\x1B[2A\x1B[1;1A\x1B[01B\x1B[1A\r"));
+    for broken in
+        ["\x1B\x1B[H", "\x1B[\x1B[H", "\x1B[1\x1B[H", "\x1BOH", "\x1B[\r\r", "\x1B[1;\nz\r", "\x1B[[H", "\x1B["]
+    {
+        add(format!("ab{broken}z"));
+    }
+    for count in [14, 15, 16] {
+        add(format!("ab\x1B[{}Az", ";".repeat(count)));
+        add(format!("ab\x1B[{}\rz\r", " ".repeat(count)));
+    }
+    list.push(b"ab\x1B[D\x1B[3\x9B~z".to_vec());
+    list.push(b"ab\x9BHz\x1B[H\xC3\x1B[3~\xA9\x1B[3~\r".to_vec());
+    list.push(b"\xC3\xA9\x1B[D\x1B[3~\xA9\x1B[H\x1B[3~\xE9\x1B[8~\xFF\r".to_vec());
+    list
+}
+
 pub fn named() -> Vec<Vec<u8>> {
     let mut list = Vec::new();
     for add in [parting, escapes, bytes, characters, history, limits] {

@@ -2,14 +2,18 @@
 use crate::lent::{Lent, NONE, Room};
 use crate::lines::{Mixer, every_character};
 use crate::model::answers::BAD_STATE;
-use crate::model::saved::{EDITOR, HEAD, SLOT, SLOTS, STATE};
-use crate::model::{LINE, Mode, Model};
+use crate::model::saved::{EDITOR, HEAD, PARAMETER, PROFILE, READ, SLOT, SLOTS, STATE};
+use crate::model::{LINE, Mode, Model, Profile};
 use crate::part::Part;
 
 const SEED: u64 = 0x7374_6174_0000_0001;
+const SEED_DAMAGED: u64 = 0x7374_6174_0000_0002;
+const DAMAGED: usize = 100_000;
 const PROMPT: &[u8] = b"axvisor:$ ";
 /// The keys that come in turn.
-pub const KEYS: [u8; 8] = [b'x', b'\r', 0x1B, b'A', 0x7F, b'B', 0xC3, 0x01];
+pub const KEYS: [u8; 13] = [b'x', b'\r', 0x1B, b'A', 0x7F, b'B', 0xC3, 0x01, b'~', b'H', b'[', b'1', b'F'];
+/// A length that is no state's, three bytes short.
+const WITHOUT_PROFILE: usize = 260;
 /// What bytes of the slots are changed to, besides their neighbours.
 const BYTES: [u8; 5] = [0, b' ', b'a', 0x85, 0xFF];
 /// What a bad state is lent: all that it needs, and a prompt, a text and buffers that would be refused as well.
@@ -52,6 +56,13 @@ impl Saved<'_> {
         self.check(&state, slots);
     }
 
+    /// A state with another mode, profile, number of bytes read and parameter.
+    fn keyed(&mut self, state: &[u8], slots: &[u8], keys: [u8; 4]) {
+        let mut state = state.to_vec();
+        put_keys(&mut state, keys);
+        self.check(&state, slots);
+    }
+
     /// Slots with some bytes put at a place. The input is the state, and behind it the place, in four bytes, and the bytes.
     fn put(&mut self, state: &[u8], slots: &mut [u8], place: usize, bytes: &[u8]) {
         let before = slots[place..][..bytes.len()].to_vec();
@@ -67,7 +78,8 @@ fn saved(part: &mut Part) -> Saved<'_> {
 }
 
 /// Good states: fresh; a line of three characters with the cursor inside and three entries; a full line and a full history of
-/// the longest lines; a full history of mixed lines, and an escape begun.
+/// the longest lines; a full history of mixed lines, and an escape begun; with the keys of ECMA-48 a sequence of one byte in the
+/// second of these, and the longest that goes on.
 pub fn good() -> Vec<Model> {
     let entries = |texts: &[&str]| texts.iter().map(|text| text.as_bytes().to_vec()).collect();
     let few = Model {
@@ -86,7 +98,13 @@ pub fn good() -> Vec<Model> {
         mixed.add(&mixer.text(length));
     }
     mixed.place = 50;
-    vec![Model::fresh(), few, full, mixed]
+    let one = sequence(&few, b"3");
+    vec![Model::fresh(), few, full, mixed, one, sequence(&Model::fresh(), b"1;5 ?0123456789")]
+}
+
+/// The same with the keys of ECMA-48, behind ESC `[` and these bytes.
+fn sequence(model: &Model, bytes: &[u8]) -> Model {
+    Model { profile: Profile::Ecma48, mode: Mode::Sequence, sequence: bytes.to_vec(), ..model.clone() }
 }
 
 /// Every number of editor and history in all ways, every byte of the line in some.
@@ -94,16 +112,16 @@ pub fn heads(part: &mut Part) {
     let mut saved = saved(part);
     for model in good() {
         let (state, slots) = (model.state(), model.slots());
-        for place in (0..HEAD).chain(EDITOR..STATE) {
+        for place in (0..HEAD).chain(PROFILE..STATE) {
             (0..=255).for_each(|byte| saved.changed(&state, &slots, place, byte));
         }
-        for place in HEAD..EDITOR {
+        for place in HEAD..PROFILE {
             [0, 1, b'a', 0xFF].into_iter().for_each(|byte| saved.changed(&state, &slots, place, byte));
         }
     }
 }
 
-/// Every mode with every length of the line, and cursors and places about the length and the count.
+/// Every mode and profile with every length of the line, and cursors and places about the length and the count.
 pub fn pairs(part: &mut Part) {
     let mut saved = saved(part);
     for (length, count) in (0..=LINE).map(|length| (length, length % 101)) {
@@ -111,13 +129,65 @@ pub fn pairs(part: &mut Part) {
         let model = Model { line: vec![b'a'; length], entries, ..Model::fresh() };
         let slots = model.slots();
         for (cursor, place) in [(0, 0), (length, count), (length + 1, count), (length, count + 1), (LINE, LINE)] {
-            for mode in 0..4 {
+            for (mode, profile) in (0..5).flat_map(|mode| [(mode, 0), (mode, 1)]) {
                 let mut state = model.state();
                 [state[0], state[2], state[EDITOR + 1]] = [mode, cursor as u8, place as u8];
+                state[PROFILE] = profile;
                 saved.check(&state, &slots);
             }
         }
     }
+}
+
+/// What tells of keys: modes, profiles, bytes read and parameters, good and bad ones each with each, in several states; every
+/// mode with every profile; and in a sequence every number of bytes read with every parameter.
+pub fn sequences(part: &mut Part) {
+    let mut saved = saved(part);
+    for model in good() {
+        let (state, slots) = (model.state(), model.slots());
+        for (mode, profile) in
+            [0, 1, 2, 3, 4, 255].into_iter().flat_map(|mode| [0, 1, 2, 255].map(|profile| (mode, profile)))
+        {
+            for read in (0..18).chain([254, 255]) {
+                for parameter in (0..11).chain(*b"1378").chain([254, 255]) {
+                    saved.keyed(&state, &slots, [mode, profile, read, parameter]);
+                }
+            }
+        }
+    }
+    let few = &good()[1];
+    let (state, slots) = (few.state(), few.slots());
+    for (one, other) in (0..=255).flat_map(|one| (0..=255).map(move |other| (one, other))) {
+        saved.keyed(&state, &slots, [one, other, 0, 0]);
+        saved.keyed(&state, &slots, [3, 1, one, other]);
+    }
+}
+
+/// Good states of both profiles, in every mode and within sequences, with one to three of their bytes changed: most of those that
+/// tell of keys, to numbers that are good somewhere.
+pub fn mixed(part: &mut Part) {
+    let mut saved = saved(part);
+    let mut mixer = Mixer::new(SEED_DAMAGED);
+    let good = good();
+    for _ in 0..DAMAGED {
+        let random = &mut mixer.random;
+        let model = &good[random.below(good.len())];
+        let mut state = model.state();
+        let told = [[0, 0, 0, 0], [1, 0, 0, 0], [2, 0, 0, 0], [1, 1, 0, 0], [3, 1, 0, 0], [3, 1, 1, 7], [3, 1, 9, 255]];
+        put_keys(&mut state, random.pick(&told));
+        for _ in 0..1 + random.below(3) {
+            let any = random.below(STATE);
+            let place = random.pick(&[0, 1, 2, PROFILE, READ, PARAMETER, EDITOR, EDITOR + 1, any]);
+            let any = random.below(256) as u8;
+            state[place] = random.pick(&[0, 1, 2, 3, 4, 8, 15, 16, 255, any]);
+        }
+        saved.check(&state, &model.slots());
+    }
+}
+
+/// Puts mode, profile, number of bytes read and parameter into a state.
+fn put_keys(state: &mut [u8], [mode, profile, read, parameter]: [u8; 4]) {
+    [state[0], state[PROFILE], state[READ], state[PARAMETER]] = [mode, profile, read, parameter];
 }
 
 /// Every byte of the slots changed: to its neighbour and to one of five others, in turn.
@@ -157,14 +227,15 @@ pub fn entries(part: &mut Part) {
     }
 }
 
-/// States and slots of other lengths, to keys and texts and to `fresh`.
+/// States and slots of other lengths, to keys and texts and to `fresh`, with each profile and without.
 pub fn lengths(part: &mut Part) {
     let mut saved = saved(part);
-    for state in [0, 1, HEAD, EDITOR, STATE - 1, STATE, STATE + 1] {
+    for state in [0, 1, HEAD, PROFILE, WITHOUT_PROFILE, EDITOR, STATE - 1, STATE, STATE + 1] {
         for slots in [0, 1, SLOT, SLOTS - SLOT, SLOTS - 1, SLOTS, SLOTS + 1] {
             saved.check(&vec![0; state], &vec![0; slots]);
             saved.part.input(&[]);
             saved.lent.fresh(saved.part, state, slots);
+            (0..=255).for_each(|profile| _ = saved.lent.fresh_with(saved.part, profile, state, slots));
         }
     }
 }

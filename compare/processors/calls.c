@@ -7,6 +7,7 @@ typedef unsigned long usize;
 u64 rissemat_words(const u8 *line, usize line_len, u8 *out, usize out_len);
 u64 rissemat_quote(const u8 *words, usize words_len, u8 *out, usize out_len);
 u64 rissemat_fresh(u8 *state, usize state_len, u8 *slots, usize slots_len);
+u64 rissemat_fresh_with(u8 profile, u8 *state, usize state_len, u8 *slots, usize slots_len);
 u64 rissemat_key(u8 *state, usize state_len, u8 *slots, usize slots_len, const u8 *prompt, usize prompt_len, u8 key,
                  u8 *line, usize line_len, u8 *screen, usize screen_len);
 u64 rissemat_history_add(u8 *state, usize state_len, u8 *slots, usize slots_len, const u8 *text, usize text_len);
@@ -25,7 +26,9 @@ static u64 seed = 0x9E3779B97F4A7C15ul;
 static u64 sum = 0xCBF29CE484222325ul;
 
 static u8 line[2048], words[8192], image[4096], out[65536];
-static u8 state[260], slots[25600], typed[255], screen[4096];
+/* A session with the keys of each profile, and buffers in which one is begun that has to be refused now and then. */
+static u8 states[2][263], slots[2][25600], typed[255], screen[4096];
+static u8 spare_state[264], spare_slots[25601];
 
 /* The next number of the generator, below n. */
 static usize below(usize n) {
@@ -118,24 +121,53 @@ static void command(usize n, usize room) {
     count_bytes(out, 4096);
 }
 
+/* Presses a key in the session with a profile. */
+static void press_key(usize profile, u8 key) {
+    usize room = below(17) ? sizeof screen : below(32);
+    count(rissemat_key(states[profile], sizeof *states, slots[profile], sizeof *slots, (const u8 *)"axvisor:$ ", 10, key,
+                       typed, sizeof typed, screen, room));
+    count_bytes(states[profile], sizeof *states);
+    count_bytes(typed, 32);
+    count_bytes(screen, 64);
+}
+
 /* Presses a key: half of them letters, the others Enter, backspace, arrows in parts, any byte. */
-static void press(void) {
+static void press(usize profile) {
     static const u8 keys[] = {13, 0x7F, 27, '[', 'A', 'B', 'C', 'D'};
     u8 key = (u8)('a' + below(26));
     if (below(2)) {
         key = below(5) ? keys[below(sizeof keys)] : (u8)below(256);
     }
-    usize room = below(17) ? sizeof screen : below(32);
-    count(rissemat_key(state, sizeof state, slots, sizeof slots, (const u8 *)"axvisor:$ ", 10, key,
-                       typed, sizeof typed, screen, room));
-    count_bytes(state, sizeof state);
-    count_bytes(typed, 32);
-    count_bytes(screen, 64);
+    press_key(profile, key);
+}
+
+/* Presses a control sequence: none, one or up to 17 bytes that go on, then one that ends it, now and then any byte. */
+static void press_sequence(usize profile) {
+    static const u8 first[] = {'1', '3', '4', '7', '8', '0', ';', ' '};
+    static const u8 last[] = {'A', 'B', 'C', 'D', 'H', 'F', '~', '~'};
+    press_key(profile, 27);
+    press_key(profile, '[');
+    if (below(3)) {
+        press_key(profile, first[below(sizeof first)]);
+    }
+    for (usize left = below(4) ? 0 : below(17); left > 0; left--) {
+        press_key(profile, (u8)(0x20 + below(32)));
+    }
+    press_key(profile, below(9) ? last[below(sizeof last)] : (u8)below(256));
+}
+
+/* Begins a session with any profile, most of the two that are there, and with buffers of about the lengths that they have to have. */
+static void begin(void) {
+    u8 profile = (u8)(below(4) ? below(2) : below(256));
+    count(rissemat_fresh_with(profile, spare_state, 262 + below(3), spare_slots, 25599 + below(3)));
+    count_bytes(spare_state, sizeof spare_state);
 }
 
 int main(void) {
-    count(rissemat_fresh(state, sizeof state, slots, sizeof slots));
+    count(rissemat_fresh(states[0], sizeof *states, slots[0], sizeof *slots));
+    count(rissemat_fresh_with(1, states[1], sizeof *states, slots[1], sizeof *slots));
     for (int round = 0; round < ROUNDS; round++) {
+        usize profile = round % 2;
         usize n = make_line();
         usize room = below(5) ? 4096 : below(64);
         for (usize i = 0; i < room; i++) {
@@ -143,11 +175,15 @@ int main(void) {
         }
         split(n, room);
         command(n, room);
+        begin();
         for (int i = 0; i < 24; i++) {
-            press();
+            press(profile);
         }
-        count(rissemat_history_add(state, sizeof state, slots, sizeof slots, line, n));
-        count_bytes(slots, round % 200 ? 512 : sizeof slots);
+        for (int i = 0; i < 3; i++) {
+            press_sequence(profile);
+        }
+        count(rissemat_history_add(states[profile], sizeof *states, slots[profile], sizeof *slots, line, n));
+        count_bytes(slots[profile], round % 200 < 2 ? sizeof *slots : 512);
     }
     for (int i = 60; i >= 0; i -= 4) {
         putchar("0123456789abcdef"[sum >> i & 15]);

@@ -1,12 +1,15 @@
 // Whole sessions: the program `console` against the original's loop and shell, with the frames of the standard around them.
 mod bad;
+mod keyed;
 mod lines;
 mod mixed;
+mod modelled;
 mod program;
 mod talk;
 mod told;
 
 pub use bad::bad_lines;
+pub use keyed::{ecma48, refused_words};
 pub use mixed::{damaged_trees, mixed_sessions};
 pub use talk::{closed_outputs, dialogues};
 
@@ -16,7 +19,7 @@ use crate::planting::{Tree, examples, full, handlers, marked, named as trees};
 use forest::{BYTES, Kind, NODES, Node, image, largest_tree, plain_definition, plain_node};
 use lines::{house, key_lines, tree_lines};
 use program::{Feed, output};
-use told::told;
+use told::{Told, told};
 
 /// The most keys of a line.
 const KEYS: usize = 511;
@@ -27,8 +30,12 @@ fn session(tree: &[Node], keys: &[u8]) -> String {
 
 /// Has the program print what the session has to print. Where that comes to an end by itself, so has the program.
 fn check(part: &mut Part, input: &[u8], feed: Feed) {
-    let told = told(input);
-    let difference = match output(input, feed, told.ends) {
+    check_with(part, &[], input, feed, told(input));
+}
+
+/// The same with these words behind the program's name.
+fn check_with(part: &mut Part, words: &[&str], input: &[u8], feed: Feed, told: Told) {
+    let difference = match output(words, input, feed, told.ends) {
         Ok(printed) if printed == told.output.as_bytes() => None,
         Ok(printed) => Some(format!("expected:\n{}found:\n{}", told.output, String::from_utf8_lossy(&printed))),
         Err(said) => Some(format!("expected:\n{}found:    {said}", told.output)),

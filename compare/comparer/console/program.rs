@@ -25,11 +25,11 @@ pub fn program() -> Command {
     Command::new(env::var_os("RISSEMAT_CONSOLE").expect("RISSEMAT_CONSOLE names the program"))
 }
 
-/// The program, started, and the other end of its output.
-pub fn start(stdin: impl Into<Stdio>) -> (Child, UnixStream) {
+/// The program, started with these words, and the other end of its output.
+pub fn start(words: &[&str], stdin: impl Into<Stdio>) -> (Child, UnixStream) {
     let (printed, stdout) = UnixStream::pair().expect("two ends");
     printed.set_read_timeout(Some(PATIENCE)).expect("a time to wait");
-    let child = started(program().stdin(stdin).stdout(OwnedFd::from(stdout)), |_| ());
+    let child = started(program().args(words).stdin(stdin).stdout(OwnedFd::from(stdout)), |_| ());
     (child, printed)
 }
 
@@ -42,11 +42,11 @@ pub fn started(command: &mut Command, first: impl FnOnce(&mut Child)) -> Child {
     child
 }
 
-/// What the program prints, up to its end. An input that is held open doesn't end.
-pub fn output(input: &[u8], feed: Feed, open: bool) -> Result<Vec<u8>, String> {
+/// What the program prints with these words, up to its end. An input that is held open doesn't end.
+pub fn output(words: &[&str], input: &[u8], feed: Feed, open: bool) -> Result<Vec<u8>, String> {
     match feed {
         Feed::Pipe => {
-            let (mut child, printed) = start(Stdio::piped());
+            let (mut child, printed) = start(words, Stdio::piped());
             let mut stdin = child.stdin.take().expect("a pipe");
             let write = move || {
                 // a program that has ended takes no more
@@ -57,7 +57,7 @@ pub fn output(input: &[u8], feed: Feed, open: bool) -> Result<Vec<u8>, String> {
         }
         Feed::Pieces(lengths) => {
             let (sender, stdin) = UnixDatagram::pair().expect("two ends");
-            let (child, printed) = start(OwnedFd::from(stdin));
+            let (child, printed) = start(words, OwnedFd::from(stdin));
             ended(child, printed, move || {
                 let _ = pieces(input, lengths).try_for_each(|piece| sender.send(piece).map(drop));
                 // an empty one is read as the input's end

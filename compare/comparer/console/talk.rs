@@ -23,7 +23,7 @@ pub fn dialogues(part: &mut Part) {
 }
 
 fn talk(input: &str) -> Option<String> {
-    let (mut child, mut printed) = start(Stdio::piped());
+    let (mut child, mut printed) = start(&[], Stdio::piped());
     let mut stdin = child.stdin.take().expect("a pipe");
     let (mut sent, mut seen) = (String::new(), 0);
     for line in input.split_inclusive('\n') {

@@ -10,7 +10,7 @@ use original::Original;
 const LINES: usize = 65_535;
 /// The most digits of a line.
 const DIGITS: usize = 1_024;
-const PROMPT: &[u8] = b"axvisor:$ ";
+pub const PROMPT: &[u8] = b"axvisor:$ ";
 
 /// What a session has to print.
 pub struct Told {
@@ -24,29 +24,24 @@ pub fn told(input: &[u8]) -> Told {
     let read = Lines::of(input);
     Original::plant(&read.tree);
     let run = typed(&read.keys, Original::console_init);
-    let mut output = printed(&run.screens[1..], matches!(run.end, End::Exit(_)));
-    if let (End::KeysUsed, Some(number)) = (&run.end, read.bad) {
-        output += &house(&[&[0x2F], &(number as u16).to_be_bytes()[..]].concat());
-    }
-    let stopped = read.bad.is_some() || read.count == LINES;
-    let ends = matches!(run.end, End::Exit(_)) || stopped && input.ends_with(b"\n");
-    Told { output, ends }
+    let left = matches!(run.end, End::Exit(_));
+    read.told(input, printed(&run.screens[1..], left), left)
 }
 
 /// What the lines of an input hold, up to the first that is bad.
 #[derive(Default)]
-struct Lines {
-    tree: Vec<Node>,
+pub struct Lines {
+    pub tree: Vec<Node>,
     image: Vec<u8>,
     frames: usize,
     keyed: bool,
-    keys: Vec<u8>,
+    pub keys: Vec<u8>,
     count: usize,
     bad: Option<usize>,
 }
 
 impl Lines {
-    fn of(input: &[u8]) -> Self {
+    pub fn of(input: &[u8]) -> Self {
         let mut lines = Lines::default();
         for line in input.split_inclusive(|&byte| byte == b'\n').take(LINES) {
             lines.count += 1;
@@ -56,6 +51,15 @@ impl Lines {
             }
         }
         lines
+    }
+
+    /// What the session prints: this for its keys, and then, unless they left the shell, the number of the bad line.
+    pub fn told(&self, input: &[u8], mut output: String, left: bool) -> Told {
+        if let (false, Some(number)) = (left, self.bad) {
+            output += &house(&[&[0x2F], &(number as u16).to_be_bytes()[..]].concat());
+        }
+        let stopped = self.bad.is_some() || self.count == LINES;
+        Told { output, ends: left || stopped && input.ends_with(b"\n") }
     }
 
     fn take(&mut self, frame: &[u8]) -> Option<()> {
@@ -117,6 +121,6 @@ fn as_standard(message: &[u8]) -> Vec<u8> {
 }
 
 /// Screen bytes, if there are any.
-fn shown(bytes: &[u8]) -> String {
+pub fn shown(bytes: &[u8]) -> String {
     if bytes.is_empty() { String::new() } else { house(&[&[0x22], bytes].concat()) }
 }

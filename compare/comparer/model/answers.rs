@@ -1,5 +1,5 @@
 // The answers of the calls on a saved state: 64 bits each, and which refusal comes first.
-use super::saved::{SLOTS, STATE};
+use super::saved::{SLOTS, STATE, numbered};
 use super::{Effect, LINE};
 
 const PROMPT: usize = 128;
@@ -47,12 +47,17 @@ pub fn add(text: &[u8]) -> Result<&str, u64> {
     str::from_utf8(text).map_err(|error| refusal(ILL_FORMED, error.valid_up_to()))
 }
 
-/// What `fresh` answers for buffers of these lengths.
+/// What `fresh` answers for buffers of these lengths: the first that is of another length than it has to be, the state's or the slots'.
 pub fn fresh(state: usize, slots: usize) -> u64 {
-    match (state, slots) {
-        (..STATE, _) => refusal(TOO_SHORT, STATE),
-        (_, ..SLOTS) => refusal(TOO_SHORT, SLOTS),
-        (STATE, SLOTS) => 0,
-        _ => BAD_STATE,
+    let wrong = [(state, STATE), (slots, SLOTS)].into_iter().find(|(length, needed)| length != needed);
+    match wrong {
+        Some((length, needed)) if length < needed => refusal(TOO_SHORT, needed),
+        Some(_) => BAD_STATE,
+        None => 0,
     }
+}
+
+/// What `fresh_with` answers for the profile with this number, if there is one, and for buffers of these lengths.
+pub fn fresh_with(profile: u8, state: usize, slots: usize) -> u64 {
+    numbered(profile).map_or(BAD_STATE, |_| fresh(state, slots))
 }

@@ -5,17 +5,34 @@ pub mod saved;
 /// The most bytes of a line and the most entries of a history.
 pub const LINE: usize = 255;
 pub const ENTRIES: usize = 100;
+/// The byte with this number behind `[` is the last of a control sequence in any case.
+const LAST: usize = 16;
+
+/// Whose keys are read: those of the original, or the control sequences of ECMA-48.
+#[derive(Clone, Copy, PartialEq, Debug)]
+pub enum Profile {
+    Rust,
+    Ecma48,
+}
+
+pub const PROFILES: [Profile; 2] = [Profile::Rust, Profile::Ecma48];
 
 #[derive(Clone, Copy, PartialEq, Debug)]
 pub enum Mode {
     Typing,
     Escape,
+    /// Behind ESC `[`, for the Rust's keys.
     Bracket,
+    /// Behind ESC `[`, for ECMA-48's.
+    Sequence,
 }
 
 #[derive(Clone, PartialEq, Debug)]
 pub struct Model {
+    pub profile: Profile,
     pub mode: Mode,
+    /// The bytes of a control sequence behind `[`, as far as they have come.
+    pub sequence: Vec<u8>,
     pub line: Vec<u8>,
     pub cursor: usize,
     /// From the oldest to the newest.
@@ -34,7 +51,12 @@ pub struct Effect {
 
 impl Model {
     pub fn fresh() -> Self {
-        Model { mode: Mode::Typing, line: Vec::new(), cursor: 0, entries: Vec::new(), place: 0 }
+        Model::fresh_with(Profile::Rust)
+    }
+
+    pub fn fresh_with(profile: Profile) -> Self {
+        let (sequence, line, entries) = (Vec::new(), Vec::new(), Vec::new());
+        Model { profile, mode: Mode::Typing, sequence, line, cursor: 0, entries, place: 0 }
     }
 
     /// Takes one key.
@@ -46,12 +68,11 @@ impl Model {
             (Mode::Typing, 0x1B) => self.wait(Mode::Escape),
             (Mode::Typing, 0x00..0x20) => Effect::default(),
             (Mode::Typing, byte) => self.insert(prompt, byte),
-            (Mode::Escape, b'[') => self.wait(Mode::Bracket),
-            (Mode::Bracket, b'A') => self.up(prompt),
-            (Mode::Bracket, b'B') => self.down(prompt),
-            (Mode::Bracket, b'C') => self.go(self.cursor + 1, b"\x1b[C"),
-            (Mode::Bracket, b'D') => self.go(self.cursor.wrapping_sub(1), b"\x1b[D"),
-            (Mode::Escape | Mode::Bracket, _) => Effect::default(),
+            (Mode::Escape, b'[') if self.profile == Profile::Rust => self.wait(Mode::Bracket),
+            (Mode::Escape, b'[') => self.wait(Mode::Sequence),
+            (Mode::Escape, _) => Effect::default(),
+            (Mode::Bracket, letter) => self.arrow(prompt, letter),
+            (Mode::Sequence, byte) => self.read_on(prompt, byte),
         }
     }
 
@@ -69,6 +90,57 @@ impl Model {
     fn wait(&mut self, mode: Mode) -> Effect {
         self.mode = mode;
         Effect::default()
+    }
+
+    /// A byte of a control sequence: one that goes on, a final one, or one that breaks it off.
+    fn read_on(&mut self, prompt: &[u8], byte: u8) -> Effect {
+        let mut sequence = std::mem::take(&mut self.sequence);
+        sequence.push(byte);
+        match byte {
+            0x20..0x40 if sequence.len() < LAST => {
+                self.sequence = sequence;
+                self.wait(Mode::Sequence)
+            }
+            0x40..0x7F => self.act(prompt, &sequence),
+            _ => Effect::default(),
+        }
+    }
+
+    /// What a whole control sequence does. Most do nothing.
+    fn act(&mut self, prompt: &[u8], sequence: &[u8]) -> Effect {
+        match sequence {
+            b"H" | b"1H" | b"1~" | b"7~" => self.jump(prompt, 0),
+            b"F" | b"1F" | b"4~" | b"8~" => self.jump(prompt, self.line.len()),
+            b"3~" => self.delete(prompt),
+            &[letter] | &[b'1', letter] => self.arrow(prompt, letter),
+            _ => Effect::default(),
+        }
+    }
+
+    fn arrow(&mut self, prompt: &[u8], letter: u8) -> Effect {
+        match letter {
+            b'A' => self.up(prompt),
+            b'B' => self.down(prompt),
+            b'C' => self.go(self.cursor + 1, b"\x1b[C"),
+            b'D' => self.go(self.cursor.wrapping_sub(1), b"\x1b[D"),
+            _ => Effect::default(),
+        }
+    }
+
+    fn jump(&mut self, prompt: &[u8], cursor: usize) -> Effect {
+        if self.cursor == cursor {
+            return Effect::default();
+        }
+        self.cursor = cursor;
+        self.redraw(prompt)
+    }
+
+    fn delete(&mut self, prompt: &[u8]) -> Effect {
+        if self.cursor == self.line.len() {
+            return Effect::default();
+        }
+        self.line.remove(self.cursor);
+        self.redraw(prompt)
     }
 
     fn enter(&mut self) -> Effect {

@@ -1,23 +1,34 @@
 // A saved state and its slots: how the values of the model lie in them, and which of them are bad.
-use super::{ENTRIES, LINE, Mode, Model};
+use super::{ENTRIES, LAST, LINE, Mode, Model, PROFILES, Profile};
 
-/// The editor's part: mode, length of the line, cursor, and the bytes of the line. The history's part after it: count and place.
+/// The editor's part: mode, length of the line, cursor, the bytes of the line, then the profile and what is told of a control
+/// sequence: how many bytes of it were read, and its parameter. The history's part after it: count and place.
 pub const HEAD: usize = 3;
-pub const EDITOR: usize = HEAD + LINE;
+pub const PROFILE: usize = HEAD + LINE;
+pub const READ: usize = PROFILE + 1;
+pub const PARAMETER: usize = PROFILE + 2;
+pub const EDITOR: usize = PROFILE + 3;
 pub const STATE: usize = EDITOR + 2;
 /// A slot has a length byte and room for the longest line.
 pub const SLOT: usize = 1 + LINE;
 pub const SLOTS: usize = ENTRIES * SLOT;
 
-const MODES: [Mode; 3] = [Mode::Typing, Mode::Escape, Mode::Bracket];
+const MODES: [Mode; 4] = [Mode::Typing, Mode::Escape, Mode::Bracket, Mode::Sequence];
+
+/// The digits that say something as the one byte of a sequence, as numbers.
+const DIGITS: [u8; 5] = [1, 3, 4, 7, 8];
+/// The parameter where bytes were read, and not one such digit alone.
+const OTHER: u8 = 255;
 
 impl Model {
     pub fn state(&self) -> [u8; STATE] {
         let mut state = [0; STATE];
         let head = [self.mode as usize, self.line.len(), self.cursor];
         let history = [self.entries.len(), self.place];
+        let keys = [self.profile as u8, self.sequence.len() as u8, parameter(&self.sequence)];
         state[..HEAD].copy_from_slice(&head.map(|number| number as u8));
         state[HEAD..][..self.line.len()].copy_from_slice(&self.line);
+        state[PROFILE..EDITOR].copy_from_slice(&keys);
         state[EDITOR..].copy_from_slice(&history.map(|number| number as u8));
         state
     }
@@ -34,7 +45,7 @@ impl Model {
     /// The values of a saved state, none if it is bad.
     pub fn read(state: &[u8], slots: &[u8]) -> Option<Model> {
         let (&[mode, length, cursor], rest) = state.split_first_chunk()?;
-        let (line, &[count, place]) = rest.split_last_chunk()?;
+        let (line, &[profile, read, parameter, count, place]) = rest.split_last_chunk()?;
         let [length, cursor, count, place] = [length, cursor, count, place].map(usize::from);
         if line.len() != LINE || slots.len() != SLOTS {
             return None;
@@ -47,8 +58,39 @@ impl Model {
             && cursor <= length
             && place <= count
             && entries.windows(2).all(|pair| pair[0] != pair[1]);
-        let mode = *MODES.get(usize::from(mode))?;
-        good.then(|| Model { mode, line: line.to_vec(), cursor, entries, place })
+        let (mode, profile) = (*MODES.get(usize::from(mode))?, numbered(profile)?);
+        let sequence = match (mode, profile) {
+            (Mode::Sequence, Profile::Ecma48) => sequence(read, parameter)?,
+            (Mode::Typing | Mode::Escape, _) | (Mode::Bracket, Profile::Rust) if [read, parameter] == [0, 0] => {
+                Vec::new()
+            }
+            _ => return None,
+        };
+        good.then(|| Model { profile, mode, sequence, line: line.to_vec(), cursor, entries, place })
+    }
+}
+
+/// The profile with this number.
+pub fn numbered(profile: u8) -> Option<Profile> {
+    PROFILES.get(usize::from(profile)).copied()
+}
+
+/// What is saved of the bytes of a sequence beside their number.
+fn parameter(sequence: &[u8]) -> u8 {
+    match sequence {
+        [] => 0,
+        &[byte] => DIGITS.into_iter().find(|digit| b'0' + digit == byte).unwrap_or(OTHER),
+        _ => OTHER,
+    }
+}
+
+/// Bytes of which this is saved, none if there are no such. What is not told of them does nothing: there stands `?`.
+fn sequence(read: u8, parameter: u8) -> Option<Vec<u8>> {
+    match (usize::from(read), parameter) {
+        (0, 0) => Some(Vec::new()),
+        (1, digit) if DIGITS.contains(&digit) => Some(vec![b'0' + digit]),
+        (count @ 1..LAST, OTHER) => Some(vec![b'?'; count]),
+        _ => None,
     }
 }
 

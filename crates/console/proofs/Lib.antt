@@ -1,2 +1,3 @@
 -- The laws of the program `console` that belong to no one function.
 pub mod Turning
+pub mod Words

@@ -9,6 +9,7 @@ use lib.ListN.{length, take, drop, length-drop}
 use lib.Seq.{length-take-le, drop-drop, drop-length}
 use Rattle.buffer.proofs.Choices.{true-is-not-false}
 use Rattle.history.specs.Journal.{noEntries, slotsOf}
+use Rattle.keys.specs.declared.standing.Profile.{Profile}
 use Rattle.stream.specs.Bytes.{lineRoom}
 use Rattle.stream.specs.Moves.{stepBy}
 use Rattle.stream.specs.Held.{busyWith, standOf, Sound, Stepped}
@@ -20,10 +21,10 @@ use Rattle.console.specs.Turns.{starting, stopped, pieceOf, Ready, ReadO
 use Rattle.console.specs.declared.turns.Console.{Console}
 
 -- at the beginning
-pub begins : (input line image slots out : List ℕ) → length input ≡ 65536 → length line ≡ lineRoom → length image ≡ 32768 → slots ≡ slotsOf noEntries → length out ≡ 262202
-    → Ready starting input line image slots out
-begins input line image slots out i l m s o =
-    record { sound = rw s (start-sound line image l m); order = omega arith; within = omega arith; pieces = i; room = o }
+pub begins : (profile : Profile) (input line image slots out : List ℕ) → length input ≡ 65536 → length line ≡ lineRoom → length image ≡ 32768 → slots ≡ slotsOf noEntries → length out ≡ 262202
+    → Ready (starting profile) input line image slots out
+begins profile input line image slots out i l m s o =
+    record { sound = rw s (start-sound profile line image l m); order = omega arith; within = omega arith; pieces = i; room = o }
 
 -- a line that is not at its end has a number
 pub lines-fit : (s : Stream) (line image slots : List ℕ) → Sound s line image slots → busyWith s ≡ false → s .session .lines ≤ 65535

@@ -5,6 +5,7 @@ use mathlib.Core.Bool.{true, false}
 use mathlib.Core.List.{List, []}
 use mathlib.Core.Logic.{_⊎_}
 use lib.ListN.{length, take, drop}
+use Rattle.keys.specs.declared.standing.Profile.{Profile}
 use Rattle.stream.specs.Moves.{Went, stepBy}
 use Rattle.stream.specs.Held.{starting as fresh, busyWith, standOf, Sound}
 use Rattle.stream.specs.declared.standing.Stream.{Stream}
@@ -22,9 +23,9 @@ Within Failed room = Unit {0}
 abbrev pub pieceOf : Console → List ℕ → List ℕ
 pieceOf c input = drop (c .at) (take (c .end) input)
 
--- with nothing read yet, and at its end
-abbrev pub starting : Console
-starting = record { stream = fresh; at = 0; end = 0; over = false }
+-- with nothing read yet, keys read as the profile has them (2.23), and at its end
+abbrev pub starting : Profile → Console
+starting profile = record { stream = fresh profile; at = 0; end = 0; over = false }
 
 abbrev pub stopped : Stream → Console
 stopped s = record { stream = s; at = 0; end = 0; over = true }

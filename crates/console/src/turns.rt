@@ -4,6 +4,7 @@ use crate::channels::read_piece;
 use crate::channels::write_out;
 use buffer::part;
 use buffer::rest;
+use keys::Profile;
 use session::KEY_ROOM;
 use stream::Stream;
 use stream::blank_image;
@@ -31,12 +32,12 @@ pub struct Console {
 }
 
 impl Console {
-    // With nothing read yet.
-    fn start() -> Console
-        ensures { λ r. ⌜ r ≡ starting ⌝ }
+    // With nothing read yet, and keys read as the profile has them.
+    fn start(profile: Profile) -> Console
+        ensures { λ r. ⌜ r ≡ starting profile ⌝ }
     {
         Console {
-            stream: Stream::start(),
+            stream: Stream::start(profile),
             at: 0,
             end: 0,
             over: false,
@@ -121,10 +122,17 @@ fn turn(
 }
 
 // Turns up to the end. A proved loop has to end and an input need not, so turns are counted down from a number that no run uses up.
-fn turns(input: &mut [u8], line: &mut [u8], image: &mut [u8], slots: &mut [u8], out: &mut [u8])
+fn turns(
+    profile: Profile,
+    input: &mut [u8],
+    line: &mut [u8],
+    image: &mut [u8],
+    slots: &mut [u8],
+    out: &mut [u8],
+)
     requires { ⌜ (length (now input) ≡ pieceRoom) × (length (now line) ≡ lineRoom) × (length (now image) ≡ imageLimit) × (now slots ≡ slotsOf noEntries) × (length (now out) ≡ outRoom) ⌝ }
 {
-    let mut console = Console::start();
+    let mut console = Console::start(profile);
     let mut left = u64::MAX;
     while left > 0 {
         if console.over {
@@ -144,11 +152,18 @@ fn blank_out() -> [u8; OUT_ROOM]
     [0; OUT_ROOM]
 }
 
-pub fn run() {
+pub fn run(profile: Profile) {
     let mut input = io::large_buffer();
     let mut line = blank_line();
     let mut image = blank_image();
     let mut slots = blank_slots();
     let mut out = blank_out();
-    turns(&mut input, &mut line, &mut image, &mut slots, &mut out);
+    turns(
+        profile,
+        &mut input,
+        &mut line,
+        &mut image,
+        &mut slots,
+        &mut out,
+    );
 }

@@ -1,30 +1,30 @@
--- What holds of every key: it has one answer only, two further bytes bring typing back, an empty line touches nothing, a full line drops a byte.
+-- What holds of every key: it has one answer only, it keeps the profile and leads to the mode that its byte means, an empty line touches nothing, a full line
+-- drops a byte.
 use Prim.Native.Nat.{ℕ, _≤_}
 use mathlib.Core.Path.{_≡_, refl, sym, ap, _∙_}
 use mathlib.Core.Bool.{Bool, true, false, cond}
-use mathlib.Core.List.{List, []}
-use mathlib.Core.Logic.{_⊎_, inl, inr}
+use mathlib.Core.List.{List, [], _∷_}
 use native.Mathlib.Omega.{arith}
 use lib.Dec.{eqb, ltb}
 use lib.ListN.{length}
-use borrow.Author.Tests.{eq-eqb, ne-eqb, le-ltb}
+use borrow.Author.Tests.{eq-eqb, le-ltb}
 use Rattle.buffer.proofs.Choices.{then-is, else-is}
 use Rattle.history.specs.Journal.{count}
 use Rattle.history.specs.declared.stepping.History.{History}
-use Rattle.keys.specs.declared.meaning.Mode.{Mode}
-use Rattle.keys.specs.declared.meaning.Mode.the-variants.{Typing, Escape, Sequence}
+use Rattle.keys.specs.declared.standing.Profile.{Profile}
+use Rattle.keys.specs.declared.standing.Mode.{Mode}
+use Rattle.keys.specs.declared.standing.Mode.the-variants.{Typing}
 use Rattle.editor.specs.declared.line.Editor.{Editor}
 use Rattle.editor.specs.declared.drawing.KeyAnswer.{KeyAnswer}
 use Rattle.editor.specs.declared.drawing.Pressed.{Pressed}
 use Rattle.editor.specs.Line.{limit}
-use Rattle.keys.specs.declared.meaning.Action.{Action}
-use Rattle.keys.specs.declared.meaning.Action.the-variants.{Nothing, Enter, Erase, Insert, Up, Down, Right, Left}
+use Rattle.keys.specs.declared.standing.Action.{Action}
+use Rattle.keys.specs.declared.standing.Action.the-variants.{Nothing, Enter, Erase, Insert, Up, Down, Right, Left, Home, End, Delete}
 use Rattle.keys.specs.declared.meaning.Meaning.{Meaning}
-use Rattle.keys.specs.Keys.{doing, escaped, meaning}
-use Rattle.editor.specs.Turns.{State, Turn, dropping, entering, inMode, enter, erase, insert, up, onPlace, down, right, left, turnBy, turnOf}
+use Rattle.keys.specs.Keys.{doing, meaning, modeAfter}
+use Rattle.editor.specs.Turns.{State, Turn, dropping, entering, inMode, enter, erase, insert, up, onPlace, down, right, left, goTo, delete, turnBy, turnOf, afterKeys}
 use Rattle.editor.specs.Answer.{refused, Pressing}
 use Rattle.keys.proofs.Ranges.{at-rest}
-use Rattle.keys.proofs.Awaiting.{Awaits, typing-stays, sequence-ends}
 use Rattle.editor.proofs.KeyTurns.{own-mode, turn-by}
 
 -- no second answer, state or buffer satisfies the contract
@@ -47,70 +47,57 @@ module _ (e : Editor) (h : History) (slots prompt : List ℕ) (byte : ℕ) (line
     p .shown ∙ chosen _ _ ∙ sym (q .shown),
   )
 
--- the mode after an action is the one before it, or typing
-Ends : Mode → Turn → Type 0
-Ends m t = (t .after .mode ≡ m) ⊎ (t .after .mode ≡ Typing)
+-- an action leaves the mode and the profile as they are
+record Stays (s : State) (t : Turn) : Type 0 where
+  mode : t .after .mode ≡ s .mode
+  profile : t .after .profile ≡ s .profile
 
-picks : (m : Mode) (b : Bool) (t u : Turn) → Ends m t → Ends m u → Ends m (cond b t u)
-picks m true t u p q = p
-picks m false t u p q = q
-
-action-ends : (prompt : List ℕ) (s : State) (a : Action) → Ends (s .mode) (turnBy prompt s a)
-unfolding Ends enter erase insert up down right left
-action-ends prompt s Nothing = inl refl
-action-ends prompt s Enter = picks (s .mode) (eqb (length (s .line)) 0) _ _ (inl refl) (inr refl)
-action-ends prompt s Erase = picks (s .mode) (eqb (s .cursor) 0) _ _ (inl refl) (inl refl)
-action-ends prompt s (Insert b) = picks (s .mode) (ltb (length (s .line)) limit) _ _ (inl refl) (inl refl)
-action-ends prompt s Up = picks (s .mode) (eqb (s .history .place) 0) _ _ (inl refl) (inr refl)
-action-ends prompt s Down = picks (s .mode) (ltb (onPlace (s .history)) (count (s .history))) _ _ (inr refl) (inr refl)
-action-ends prompt s Right = picks (s .mode) (ltb (s .cursor) (length (s .line))) _ _ (inl refl) (inl refl)
-action-ends prompt s Left = picks (s .mode) (eqb (s .cursor) 0) _ _ (inl refl) (inl refl)
+picks : (s : State) (b : Bool) (t u : Turn) → Stays s t → Stays s u → Stays s (cond b t u)
+picks s true t u p q = p
+picks s false t u p q = q
 
 module _ (prompt : List ℕ) where
-  own : (s : State) (b : ℕ) → Ends (meaning (s .mode) b .mode) (turnOf prompt s b)
+  action-stays : (s : State) (a : Action) → Stays s (turnBy prompt s a)
+  unfolding enter erase insert up down right left goTo delete
+  action-stays s a = by a
+    where
+      is : (t : Turn) → t .after .mode ≡ s .mode → t .after .profile ≡ s .profile → Stays s t
+      is t p q = record { mode = p; profile = q }
+
+      by : (a : Action) → Stays s (turnBy prompt s a)
+      by Nothing = is _ refl refl
+      by Enter = picks s (eqb (length (s .line)) 0) _ _ (is _ refl refl) (is _ refl refl)
+      by Erase = picks s (eqb (s .cursor) 0) _ _ (is _ refl refl) (is _ refl refl)
+      by (Insert b) = picks s (ltb (length (s .line)) limit) _ _ (is _ refl refl) (is _ refl refl)
+      by Up = picks s (eqb (s .history .place) 0) _ _ (is _ refl refl) (is _ refl refl)
+      by Down = picks s (ltb (onPlace (s .history)) (count (s .history))) _ _ (is _ refl refl) (is _ refl refl)
+      by Right = picks s (ltb (s .cursor) (length (s .line))) _ _ (is _ refl refl) (is _ refl refl)
+      by Left = picks s (eqb (s .cursor) 0) _ _ (is _ refl refl) (is _ refl refl)
+      by Home = picks s (eqb (s .cursor) 0) _ _ (is _ refl refl) (is _ refl refl)
+      by End = picks s (eqb (s .cursor) (length (s .line))) _ _ (is _ refl refl) (is _ refl refl)
+      by Delete = picks s (ltb (s .cursor) (length (s .line))) _ _ (is _ refl refl) (is _ refl refl)
+
+  -- a key leads to the mode that its meaning has, and keeps the profile
+  pub mode-after : (s : State) (b : ℕ) → turnOf prompt s b .after .mode ≡ meaning (s .profile) (s .mode) b .mode
   unfolding turnOf
-  own s b = action-ends prompt (inMode s (meaning (s .mode) b .mode)) (meaning (s .mode) b .action)
+  mode-after s b = let m : Meaning = meaning (s .profile) (s .mode) b in action-stays (inMode s (m .mode)) (m .action) .mode
 
-  -- a key ends in the mode that its meaning has, or in typing
-  turn-ends : (s : State) (b : ℕ) (m : Mode) → meaning (s .mode) b .mode ≡ m → Ends m (turnOf prompt s b)
-  turn-ends s b m e = in-it (turnOf prompt s b) (meaning (s .mode) b .mode) e (own s b)
-    where
-      in-it : (t : Turn) (n : Mode) → n ≡ m → Ends n t → Ends m t
-      in-it t n q x = rw q at x
+  pub profile-after : (s : State) (b : ℕ) → turnOf prompt s b .after .profile ≡ s .profile
+  unfolding turnOf
+  profile-after s b = let m : Meaning = meaning (s .profile) (s .mode) b in action-stays (inMode s (m .mode)) (m .action) .profile
 
-  settled : (t : Turn) → Ends Typing t → t .after .mode ≡ Typing
-  unfolding Ends
-  settled t (inl q) = q
-  settled t (inr q) = q
-
-  -- the next byte, where typing goes on or a sequence has begun
-  pub then-typing : (s : State) (b : ℕ) → (b ≡ 0x1B → ⊥) → (s .mode ≡ Typing) ⊎ (s .mode ≡ Sequence) → turnOf prompt s b .after .mode ≡ Typing
-  unfolding Awaits
-  then-typing s b n (inl m) = settled (turnOf prompt s b) (turn-ends s b Typing (ap (λ (x : Mode). meaning x b .mode) m ∙ typing-stays b n))
-  then-typing s b n (inr m) = settled (turnOf prompt s b) (turn-ends s b Typing (ap (λ (x : Mode). meaning x b .mode) m ∙ sequence-ends b))
-
-  -- one byte that is not ESC leads to one of these
-  pub after-one : (s : State) (b : ℕ) → (b ≡ 0x1B → ⊥) → (m : Mode) → s .mode ≡ m
-      → (turnOf prompt s b .after .mode ≡ Typing) ⊎ (turnOf prompt s b .after .mode ≡ Sequence)
-  unfolding escaped Ends
-  after-one s b n Typing m = inl (then-typing s b n (inl m))
-  after-one s b n Sequence m = inl (then-typing s b n (inr m))
-  after-one s b n Escape m = by (eqb b 0x5B) refl
-    where
-      is : meaning (s .mode) b ≡ escaped b
-      is = ap (λ (x : Mode). meaning x b) m
-
-      turned : (turnOf prompt s b .after .mode ≡ Sequence) ⊎ (turnOf prompt s b .after .mode ≡ Typing) → (turnOf prompt s b .after .mode ≡ Typing) ⊎ (turnOf prompt s b .after .mode ≡ Sequence)
-      turned (inl q) = inr q
-      turned (inr q) = inl q
-
-      by : (u : Bool) → eqb b 0x5B ≡ u → (turnOf prompt s b .after .mode ≡ Typing) ⊎ (turnOf prompt s b .after .mode ≡ Sequence)
-      by true q = turned (turn-ends s b Sequence (ap (λ (x : Meaning). x .mode) (is ∙ then-is _ _ _ q)))
-      by false q = inl (settled (turnOf prompt s b) (turn-ends s b Typing (ap (λ (x : Meaning). x .mode) (is ∙ else-is _ _ _ q))))
-
-  -- two further bytes, neither of them ESC, bring the editor back to typing, from every state
-  pub two-bytes : (s : State) (b b′ : ℕ) → (b ≡ 0x1B → ⊥) → (b′ ≡ 0x1B → ⊥) → turnOf prompt (turnOf prompt s b .after) b′ .after .mode ≡ Typing
-  two-bytes s b b′ n n′ = then-typing (turnOf prompt s b .after) b′ n′ (after-one s b n (s .mode) refl)
+  -- after keys: what their bytes wait for, whatever else they did
+  pub keys-after : (s : State) (keys : List ℕ)
+      → (afterKeys prompt s keys .mode ≡ modeAfter (s .profile) (s .mode) keys) × (afterKeys prompt s keys .profile ≡ s .profile)
+  unfolding afterKeys modeAfter
+  keys-after s [] = (refl, refl)
+  keys-after s (b ∷ keys) =
+      let t : State = turnOf prompt s b .after in
+      let k = keys-after t keys in
+      let p = profile-after s b in (
+        k .0 ∙ ap (λ (x : Profile). modeAfter x (t .mode) keys) p ∙ ap (λ (x : Mode). modeAfter (s .profile) x keys) (mode-after s b),
+        k .1 ∙ p,
+      )
 
   -- Enter on an empty line leaves history and its place, and all else
   pub empty-enter : (s : State) → length (s .line) ≡ 0 → enter s ≡ entering s []
@@ -122,6 +109,6 @@ module _ (prompt : List ℕ) where
   unfolding insert
   full-drops s b m l h n =
       turn-by prompt s b (doing (Insert b))
-      (ap (λ (x : Mode). meaning x b) m ∙ at-rest b (λ e. omega arith) (λ e. omega arith) (λ e. omega arith) n (λ e. omega arith) h)
+      (ap (λ (x : Mode). meaning (s .profile) x b) m ∙ at-rest b (λ e. omega arith) (λ e. omega arith) (λ e. omega arith) n (λ e. omega arith) h)
       ∙ ap (λ (x : State). insert prompt x b) (own-mode s Typing m)
       ∙ else-is _ _ _ (le-ltb (length (s .line)) limit l)

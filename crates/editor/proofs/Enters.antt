@@ -9,13 +9,12 @@ use lib.ListN.{length}
 use borrow.Author.Tests.{eq-eqb, ne-eqb}
 use Rattle.buffer.proofs.Choices.{then-is, else-is, true-is-not-false}
 use Rattle.buffer.specs.Write.{over}
-use Rattle.history.specs.Journal.{journalOf}
 use Rattle.history.specs.Answer.{Offered}
 use Rattle.history.specs.declared.stepping.History.{History}
 use Rattle.editor.specs.declared.line.Editor.{Editor}
 use Rattle.editor.specs.declared.drawing.KeyAnswer.{KeyAnswer}
 use Rattle.editor.specs.declared.drawing.Pressed.the-variants.{Entered, NoRoom}
-use Rattle.editor.specs.Line.{limit, holding, freshEditor, lineOf, goodLine, content}
+use Rattle.editor.specs.Line.{limit, holding, lineOf, goodLine, content}
 use Rattle.editor.specs.Turns.{State, Kind, shows, enters, drops, Turn, entering, afterEnter, lineFeed, enter}
 use Rattle.editor.specs.Answer.{stateOf, editorOf, historyOf, slotsOf, goodState, taken, refused}
 use Rattle.editor.specs.Inner.{attempt, keyOf, madeBy, Acts, Does}
@@ -113,7 +112,7 @@ module _ (e : Editor) (h : History) (slots line screen : List ℕ) (g : goodStat
       (sym (holds-slots e h slots (good-parts e h slots g .1))) (sym (over-nothing line)) d)
 
   pub enter-line : (h′ : History) (e′ : Editor) (slots′ line′ screen′ : List ℕ) → 0 < length screen → (e .length ≡ 0 → ⊥)
-      → e′ ≡ freshEditor → Offered h slots (content (lineOf e)) h′ slots′ → line′ ≡ over (lineOf e) line → screen′ ≡ over lineFeed screen
+      → e′ ≡ holding [] 0 (e .mode) (e .profile) → Offered h slots (content (lineOf e)) h′ slots′ → line′ ≡ over (lineOf e) line → screen′ ≡ over lineFeed screen
       → Does e h (enter (stateOf e h slots)) slots line screen (keyOf e′ h′ (Entered (e .length))) slots′ line′ screen′
   unfolding enter s stateOf editorOf holding
   enter-line h′ e′ slots′ line′ screen′ l n p o b d =
@@ -122,8 +121,8 @@ module _ (e : Editor) (h : History) (slots line screen : List ℕ) (g : goodStat
       does-as e h t slots line screen (enter s) _ _ _ _ (sym (else-is _ _ _ (ne-eqb (length (lineOf e)) 0 (λ z. n (sym size ∙ z)))))
       (does-fits e h t slots line screen _ _ _ _ l
       (ap (λ (x : Editor). keyOf x h′ (Entered (e .length))) p
-      ∙ ap (λ (x : History). keyOf freshEditor x (Entered (e .length))) (o .state)
-      ∙ ap (λ (n : ℕ). keyOf freshEditor (historyOf (afterEnter s)) (Entered n)) (sym size))
+      ∙ ap (λ (x : History). keyOf (holding [] 0 (e .mode) (e .profile)) x (Entered (e .length))) (o .state)
+      ∙ ap (λ (n : ℕ). keyOf (holding [] 0 (e .mode) (e .profile)) (historyOf (afterEnter s)) (Entered n)) (sym size))
       (o .bytes) b d)
 
 -- a refusal that hands back another editor than the one that the turn began with

@@ -1,37 +1,39 @@
 -- No key leads from a good state to a bad one, so no sequence of keys from the fresh state reaches one.
 use Prim.Native.Nat.{ℕ, _+_, _-_, _<_, _≤_}
-use mathlib.Core.Path.{_≡_, refl, ap, _∙_}
+use mathlib.Core.Path.{_≡_, refl, _∙_}
 use mathlib.Core.Bool.{Bool, true, false, cond}
 use mathlib.Core.List.{List, [], _∷_, _++_}
 use native.Mathlib.Omega.{arith}
 use lib.Dec.{eqb, ltb}
 use lib.ListN.{length}
-use borrow.Author.Tests.{eq-eqb, le-leb, ltb-true, eqb-false}
-use Rattle.buffer.proofs.Choices.{then-is}
-use Rattle.buffer.proofs.Ordering.{is-same}
+use borrow.Author.Tests.{eq-eqb, ltb-true, eqb-false}
 use Rattle.text.proofs.Prefix.{prefix-none, codes-none}
 use Rattle.text.specs.Decoding.{wellFormed}
 use Rattle.history.specs.Journal.{Journal, count, offered, atPlace}
 use Rattle.history.specs.declared.stepping.History.{History}
 use Rattle.history.proofs.Journals.{Fair, good-fair, fair-good, fair-none, fair-offered, fair-placed, fair-short}
-use Rattle.keys.specs.declared.meaning.Mode.{Mode}
-use Rattle.keys.specs.declared.meaning.Mode.the-variants.{Typing}
+use Rattle.keys.specs.declared.standing.Profile.{Profile}
+use Rattle.keys.specs.declared.standing.Mode.{Mode}
+use Rattle.keys.specs.declared.standing.Mode.the-variants.{Typing}
 use Rattle.editor.specs.declared.line.Editor.{Editor}
 use Rattle.editor.specs.declared.drawing.KeyAnswer.{KeyAnswer}
-use Rattle.editor.specs.Line.{limit, padded, holding, freshEditor, goodLine, inserted, erased, content}
-use Rattle.keys.specs.declared.meaning.Action.{Action}
-use Rattle.keys.specs.declared.meaning.Action.the-variants.{Nothing, Enter, Erase, Insert, Up, Down, Right, Left}
+use Rattle.editor.specs.Line.{limit, holding, freshEditor, goodLine, goodEditor, inserted, erased, content}
+use Rattle.keys.specs.declared.standing.Action.{Action}
+use Rattle.keys.specs.declared.standing.Action.the-variants.{Nothing, Enter, Erase, Insert, Up, Down, Right, Left, Home, End, Delete}
 use Rattle.keys.specs.declared.meaning.Meaning.{Meaning}
+use Rattle.keys.specs.Modes.{goodMode}
 use Rattle.keys.specs.Keys.{meaning}
-use Rattle.editor.specs.Turns.{State, Turn, inMode, cleared, recalled, enter, afterEnter, erase, insert, up, onPlace, down, right, left, turnBy, turnOf, freshState, afterKeys}
+use Rattle.keys.proofs.Awaiting.{mode-kept}
+use Rattle.editor.specs.Turns.{State, Turn, changed, inMode, cleared, recalled, enter, afterEnter, erase, insert, up, onPlace, down, right, left, goTo, delete, turnBy, turnOf, freshState, afterKeys}
 use Rattle.editor.specs.Answer.{stateOf, editorOf, historyOf, slotsOf, goodState, refused, Pressing}
-use Rattle.editor.proofs.Lines.{good-line, length-of, line-held, length-inserted, length-erased, content-short, below-limit}
-use Rattle.editor.proofs.States.{good-parts}
+use Rattle.editor.proofs.Lines.{good-line, length-of, length-inserted, length-erased, content-short, below-limit}
+use Rattle.editor.proofs.States.{good-parts, good-mode, good-editor, good-state, held-good}
 
 -- a state within the rules of the standard
 pub record Fine (s : State) : Type 0 where
   pub short : length (s .line) ≤ 255
   pub within : s .cursor ≤ length (s .line)
+  pub led : goodMode (s .profile) (s .mode) ≡ true
   pub fair : Fair (s .history)
 
 -- a good state is one, and what holds one is good
@@ -42,34 +44,22 @@ fine-of e h slots g =
     let n = length-of e l .1 in
     let a = l .short in
     let b = l .within in
-    record { short = omega arith; within = omega arith; fair = good-fair h slots (good-parts e h slots g .1) }
+    record { short = omega arith; within = omega arith; led = good-mode e h slots g; fair = good-fair h slots (good-parts e h slots g .1) }
 
-held-size : (line : List ℕ) (cursor : ℕ) (mode : Mode) → length line ≤ 255 → holding line cursor mode .length ≤ 255
+pub fresh-good : (profile : Profile) → goodEditor (freshEditor profile) ≡ true
 unfolding holding
-held-size line cursor mode h = h
+fresh-good profile = good-editor (freshEditor profile) refl (held-good [] 0 Typing profile (omega arith) (omega arith))
 
-held-within : (line : List ℕ) (cursor : ℕ) (mode : Mode) → cursor ≤ length line → holding line cursor mode .cursor ≤ holding line cursor mode .length
-unfolding holding
-held-within line cursor mode k = k
+held-led : (s : State) → goodMode (s .profile) (s .mode) ≡ true → goodMode (editorOf s .profile) (editorOf s .mode) ≡ true
+unfolding editorOf holding
+held-led s m = m
 
-held-bytes : (line : List ℕ) (cursor : ℕ) (mode : Mode) → padded line ≡ holding line cursor mode .line
-unfolding holding
-held-bytes line cursor mode = refl
-
-pub held-good : (line : List ℕ) (cursor : ℕ) (mode : Mode) → length line ≤ 255 → cursor ≤ length line → goodLine (holding line cursor mode) ≡ true
-unfolding goodLine limit
-held-good line cursor mode h k =
-    then-is _ _ _ (le-leb _ _ (held-size line cursor mode h))
-    ∙ then-is _ _ _ (le-leb _ _ (held-within line cursor mode k))
-    ∙ is-same _ _ (ap padded (line-held line cursor mode) ∙ held-bytes line cursor mode)
-
-pub fresh-line : goodLine freshEditor ≡ true
-unfolding holding
-fresh-line = held-good [] 0 Typing (omega arith) (omega arith)
+held-line : (s : State) → Fine s → goodLine (editorOf s) ≡ true
+unfolding editorOf
+held-line s f = held-good (s .line) (s .cursor) (s .mode) (s .profile) (f .short) (f .within)
 
 pub fine-good : (s : State) → Fine s → goodState (editorOf s) (historyOf s) (slotsOf s) ≡ true
-unfolding goodState editorOf
-fine-good s f = then-is _ _ _ (held-good (s .line) (s .cursor) (s .mode) (f .short) (f .within)) ∙ fair-good (s .history) (f .fair)
+fine-good s f = good-state (editorOf s) (historyOf s) (slotsOf s) (good-editor (editorOf s) (held-led s (f .led)) (held-line s f)) (fair-good (s .history) (f .fair))
 
 -- each action keeps to the rules
 Leads : Turn → Type 0
@@ -93,25 +83,24 @@ content-formed l = by (wellFormed l) refl
 
 module _ (prompt : List ℕ) (s : State) (f : Fine s) where
   -- a state in another mode
-  other-mode : (m : Mode) → Fine (inMode s m)
-  other-mode m = record { short = f .short; within = f .within; fair = f .fair }
+  other-mode : (m : Mode) → goodMode (s .profile) m ≡ true → Fine (inMode s m)
+  other-mode m g = record { short = f .short; within = f .within; led = g; fair = f .fair }
 
   -- another line, and another place
-  line-fine : (line : List ℕ) (cursor : ℕ) (m : Mode) (j : Journal) → length line ≤ 255 → cursor ≤ length line → Fair j
-      → Fine (record { line = line; cursor = cursor; mode = m; history = j })
-  line-fine line cursor m j a b c = record { short = a; within = b; fair = c }
+  line-fine : (line : List ℕ) (cursor : ℕ) (j : Journal) → length line ≤ 255 → cursor ≤ length line → Fair j → Fine (changed s line cursor j)
+  line-fine line cursor j a b c = record { short = a; within = b; led = f .led; fair = c }
 
   entered : Fine (afterEnter s)
   entered =
-      line-fine [] 0 Typing (offered (content (s .line)) (s .history)) (omega arith) (omega arith)
+      line-fine [] 0 (offered (content (s .line)) (s .history)) (omega arith) (omega arith)
       (fair-offered (content (s .line)) (s .history) (f .fair) (let a = content-short (s .line) in let b = f .short in omega arith) (content-formed (s .line)))
 
   -- an entry recalled, and the line cleared
   recall-fine : (place : ℕ) → place ≤ count (s .history) → Fine (recalled s place)
-  recall-fine place h = line-fine _ _ Typing (atPlace (s .history) place) (fair-short (s .history) place (f .fair)) (omega arith) (fair-placed (s .history) place (f .fair) h)
+  recall-fine place h = line-fine _ _ (atPlace (s .history) place) (fair-short (s .history) place (f .fair)) (omega arith) (fair-placed (s .history) place (f .fair) h)
 
-  clear-fine : (place : ℕ) → place ≤ count (s .history) → Fine (cleared (atPlace (s .history) place))
-  clear-fine place h = line-fine [] 0 Typing (atPlace (s .history) place) (omega arith) (omega arith) (fair-placed (s .history) place (f .fair) h)
+  clear-fine : (place : ℕ) → place ≤ count (s .history) → Fine (cleared s (atPlace (s .history) place))
+  clear-fine place h = line-fine [] 0 (atPlace (s .history) place) (omega arith) (omega arith) (fair-placed (s .history) place (f .fair) h)
 
   on-place : onPlace (s .history) ≤ count (s .history)
   unfolding onPlace
@@ -122,7 +111,7 @@ module _ (prompt : List ℕ) (s : State) (f : Fine s) where
       by false q = f .fair .placed
 
   action-fine : (a : Action) → Leads (turnBy prompt s a)
-  unfolding enter erase insert up down right left Leads
+  unfolding enter erase insert up down right left goTo delete Leads
   action-fine Nothing = f
   action-fine Enter = picks (eqb (length (s .line)) 0) _ _ (λ q. f) (λ q. entered)
   action-fine Erase =
@@ -133,30 +122,41 @@ module _ (prompt : List ℕ) (s : State) (f : Fine s) where
       let a = f .short in
       let some : 0 < s .cursor = omega arith in
       let n = length-erased (s .line) (s .cursor) some w in
-      line-fine (erased (s .line) (s .cursor)) (s .cursor - 1) (s .mode) (s .history) (omega arith) (omega arith) (f .fair))
+      line-fine (erased (s .line) (s .cursor)) (s .cursor - 1) (s .history) (omega arith) (omega arith) (f .fair))
   action-fine (Insert b) =
       picks (ltb (length (s .line)) limit) _ _
       (λ q.
       let l = below-limit (length (s .line)) (ltb-true (length (s .line)) limit q) in
       let w = f .within in
       let n = length-inserted (s .line) (s .cursor) b w in
-      line-fine (inserted (s .line) (s .cursor) b) (s .cursor + 1) (s .mode) (s .history) (omega arith) (omega arith) (f .fair))
+      line-fine (inserted (s .line) (s .cursor) b) (s .cursor + 1) (s .history) (omega arith) (omega arith) (f .fair))
       (λ q. f)
   action-fine Up = picks (eqb (s .history .place) 0) _ _ (λ q. f) (λ q. recall-fine (s .history .place - 1) (let p = f .fair .placed in omega arith))
   action-fine Down =
       picks (ltb (onPlace (s .history)) (count (s .history))) _ _ (λ q. recall-fine (onPlace (s .history)) on-place) (λ q. clear-fine (onPlace (s .history)) on-place)
   action-fine Right =
       picks (ltb (s .cursor) (length (s .line))) _ _
-      (λ q. let h = ltb-true (s .cursor) (length (s .line)) q in line-fine (s .line) (s .cursor + 1) (s .mode) (s .history) (f .short) (omega arith) (f .fair)) (λ q. f)
+      (λ q. let h = ltb-true (s .cursor) (length (s .line)) q in line-fine (s .line) (s .cursor + 1) (s .history) (f .short) (omega arith) (f .fair)) (λ q. f)
   action-fine Left =
       picks (eqb (s .cursor) 0) _ _ (λ q. f)
-      (λ q. let w = f .within in line-fine (s .line) (s .cursor - 1) (s .mode) (s .history) (f .short) (omega arith) (f .fair))
+      (λ q. let w = f .within in line-fine (s .line) (s .cursor - 1) (s .history) (f .short) (omega arith) (f .fair))
+  action-fine Home = picks (eqb (s .cursor) 0) _ _ (λ q. f) (λ q. line-fine (s .line) 0 (s .history) (f .short) (omega arith) (f .fair))
+  action-fine End =
+      picks (eqb (s .cursor) (length (s .line))) _ _ (λ q. f) (λ q. line-fine (s .line) (length (s .line)) (s .history) (f .short) (omega arith) (f .fair))
+  action-fine Delete =
+      picks (ltb (s .cursor) (length (s .line))) _ _
+      (λ q.
+      let h = ltb-true (s .cursor) (length (s .line)) q in
+      let a = f .short in
+      let n = length-erased (s .line) (s .cursor + 1) (omega arith) (omega arith) in
+      line-fine (erased (s .line) (s .cursor + 1)) (s .cursor) (s .history) (omega arith) (omega arith) (f .fair))
+      (λ q. f)
 
 pub turn-fine : (prompt : List ℕ) (s : State) (b : ℕ) → Fine s → Fine (turnOf prompt s b .after)
 unfolding turnOf Leads
 turn-fine prompt s b f =
-    let m : Meaning = meaning (s .mode) b in
-    action-fine prompt (inMode s (m .mode)) (other-mode prompt s f (m .mode)) (m .action)
+    let m : Meaning = meaning (s .profile) (s .mode) b in
+    action-fine prompt (inMode s (m .mode)) (other-mode prompt s f (m .mode) (mode-kept (s .profile) (s .mode) b (f .led))) (m .action)
 
 same-good : {e e′ : Editor} {h h′ : History} {slots slots′ : List ℕ} → e ≡ e′ → h ≡ h′ → slots ≡ slots′ → goodState e h slots ≡ goodState e′ h′ slots′
 same-good p q r = cc
@@ -176,8 +176,8 @@ stays-good e h slots prompt byte line screen k slots′ line′ screen′ g p =
     by false = fine-good (t .after) (turn-fine prompt (stateOf e h slots) byte (fine-of e h slots g))
 
 -- from the fresh state on
-pub fresh-fine : Fine freshState
-fresh-fine = record { short = omega arith; within = omega arith; fair = fair-none }
+pub fresh-fine : (profile : Profile) → Fine (freshState profile)
+fresh-fine profile = record { short = omega arith; within = omega arith; led = refl; fair = fair-none }
 
 keys-fine : (prompt : List ℕ) (s : State) (keys : List ℕ) → Fine s → Fine (afterKeys prompt s keys)
 unfolding afterKeys
@@ -185,9 +185,9 @@ keys-fine prompt s [] f = f
 keys-fine prompt s (b ∷ keys) f = keys-fine prompt (turnOf prompt s b .after) keys (turn-fine prompt s b f)
 
 -- no sequence of keys reaches a bad state
-pub never-bad : (prompt keys : List ℕ)
-    → goodState (editorOf (afterKeys prompt freshState keys)) (historyOf (afterKeys prompt freshState keys)) (slotsOf (afterKeys prompt freshState keys)) ≡ true
-never-bad prompt keys = fine-good (afterKeys prompt freshState keys) (keys-fine prompt freshState keys fresh-fine)
+pub never-bad : (profile : Profile) (prompt keys : List ℕ)
+    → let s : State = afterKeys prompt (freshState profile) keys in goodState (editorOf s) (historyOf s) (slotsOf s) ≡ true
+never-bad profile prompt keys = fine-good (afterKeys prompt (freshState profile) keys) (keys-fine prompt (freshState profile) keys (fresh-fine profile))
 
 -- a key after keys is pressed in the state that they left: a session is the fold of its keys
 pub keys-then : (prompt : List ℕ) (s : State) (keys : List ℕ) (b : ℕ) → afterKeys prompt s (keys ++ (b ∷ [])) ≡ turnOf prompt (afterKeys prompt s keys) b .after

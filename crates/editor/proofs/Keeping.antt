@@ -10,9 +10,9 @@ use Rattle.history.specs.declared.stepping.History.{History}
 use Rattle.history.proofs.Journals.{slots-placed}
 use Rattle.editor.specs.declared.line.Editor.{Editor}
 use Rattle.editor.specs.declared.drawing.KeyAnswer.{KeyAnswer}
-use Rattle.keys.specs.declared.meaning.Action.{Action}
+use Rattle.keys.specs.declared.standing.Action.{Action}
 use Rattle.editor.specs.Line.{limit}
-use Rattle.editor.specs.Turns.{State, Turn, showing, erase, insert, up, onPlace, down, right, left, turnBy}
+use Rattle.editor.specs.Turns.{State, Turn, showing, erase, insert, up, onPlace, down, right, left, goTo, delete, turnBy}
 use Rattle.editor.specs.Answer.{stateOf, slotsOf}
 use Rattle.editor.specs.Inner.{Acts, Does}
 use Rattle.editor.proofs.States.{holds-slots}
@@ -57,6 +57,14 @@ module _ (prompt : List ℕ) (s : State) where
   pub left-keeps : Keeps s (left s)
   unfolding left
   left-keeps = either s (eqb (s .cursor) 0) _ _ (same s _ refl refl) (same s _ refl refl)
+
+  pub go-keeps : (place : ℕ) → Keeps s (goTo prompt s place)
+  unfolding goTo
+  go-keeps place = either s (eqb (s .cursor) place) _ _ (same s _ refl refl) (same s _ refl refl)
+
+  pub delete-keeps : Keeps s (delete prompt s)
+  unfolding delete
+  delete-keeps = either s (ltb (s .cursor) (length (s .line))) _ _ (same s _ refl refl) (same s _ refl refl)
 
 -- so the slots and the line buffer stay
 pub does-kept : (e : Editor) (h : History) (slots line screen : List ℕ) (t : Turn) (k : KeyAnswer) (screen′ : List ℕ) → good h slots ≡ true

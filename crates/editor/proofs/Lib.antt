@@ -8,6 +8,7 @@ pub mod KeyTurns
 pub mod Keeping
 pub mod Pressings
 pub mod Always
+pub mod Sequences
 pub mod Fine
 pub mod Called
 pub mod Saved

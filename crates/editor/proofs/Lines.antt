@@ -22,9 +22,10 @@ use Rattle.buffer.proofs.Zeros.{length-zeros}
 use Rattle.buffer.proofs.Zeros.{drop-zeros}
 use Rattle.buffer.proofs.Zeros.{zero-bytes}
 use Rattle.history.proofs.States.{holds}
-use Rattle.keys.specs.declared.meaning.Mode.{Mode}
+use Rattle.keys.specs.declared.standing.Profile.{Profile}
+use Rattle.keys.specs.declared.standing.Mode.{Mode}
 use Rattle.editor.specs.declared.line.Editor.{Editor}
-use Rattle.editor.specs.Line.{limit, padded, holding, lineOf, freshEditor, goodLine, inserted, erased, content}
+use Rattle.editor.specs.Line.{limit, padded, holding, lineOf, goodLine, inserted, erased, content}
 
 pub below-limit : (n : ℕ) → n < limit → n < 255
 unfolding limit
@@ -47,9 +48,9 @@ pub whole-line : (l : List ℕ) → length (map (λ (x : ℕ). x) l) ≡ 255 →
 whole-line l h = sym (length-map l (λ (x : ℕ). x)) ∙ h
 
 -- what an editor holds that holds a line
-pub line-held : (l : List ℕ) (cursor : ℕ) (mode : Mode) → lineOf (holding l cursor mode) ≡ l
+pub line-held : (l : List ℕ) (cursor : ℕ) (mode : Mode) (profile : Profile) → lineOf (holding l cursor mode profile) ≡ l
 unfolding lineOf holding padded
-line-held l cursor mode = take-append-seam l (zeros (limit - length l))
+line-held l cursor mode profile = take-append-seam l (zeros (limit - length l))
 
 -- the rules of a line, one by one
 pub record GoodLine (e : Editor) : Type 0 where
@@ -80,15 +81,15 @@ length-of e g =
     (all, line-length e (omega arith))
 
 -- an editor is what holds its line
-abbrev pub editor : List ℕ → ℕ → ℕ → Mode → Editor
-editor l n cursor mode = record { line = l; length = n; cursor = cursor; mode = mode }
+abbrev pub editor : List ℕ → ℕ → ℕ → Mode → Profile → Editor
+editor l n cursor mode profile = record { line = l; length = n; cursor = cursor; mode = mode; profile = profile }
 
-pub same-editor : (l l′ : List ℕ) (n n′ cursor : ℕ) (mode : Mode) → l ≡ l′ → n ≡ n′ → editor l n cursor mode ≡ editor l′ n′ cursor mode
-same-editor l l′ n n′ cursor mode p q = ap (λ (x : List ℕ). editor x n cursor mode) p ∙ ap (λ (m : ℕ). editor l′ m cursor mode) q
+pub same-editor : (l l′ : List ℕ) (n n′ cursor : ℕ) (mode : Mode) (profile : Profile) → l ≡ l′ → n ≡ n′ → editor l n cursor mode profile ≡ editor l′ n′ cursor mode profile
+same-editor l l′ n n′ cursor mode profile p q = ap (λ (x : List ℕ). editor x n cursor mode profile) p ∙ ap (λ (m : ℕ). editor l′ m cursor mode profile) q
 
-pub held-line : (e : Editor) → GoodLine e → holding (lineOf e) (e .cursor) (e .mode) ≡ e
+pub held-line : (e : Editor) → GoodLine e → holding (lineOf e) (e .cursor) (e .mode) (e .profile) ≡ e
 unfolding holding
-held-line e g = same-editor _ _ _ _ (e .cursor) (e .mode) (g .laid) (length-of e g .1)
+held-line e g = same-editor _ _ _ _ (e .cursor) (e .mode) (e .profile) (g .laid) (length-of e g .1)
 
 pub line-split : (e : Editor) → lineOf e ++ drop (e .length) (e .line) ≡ e .line
 unfolding lineOf
@@ -220,7 +221,7 @@ full-line e g = sym (g .laid) ∙ padded-is (lineOf e) ∙ ap (λ (n : ℕ). lin
 
 pub insert-end : (e : Editor) (byte : ℕ) (now : List ℕ) (carried i : ℕ) → GoodLine e → i ≡ e .length + 1
     → Inserting (e .line) (e .cursor) byte now carried i
-    → editor now (e .length + 1) (e .cursor + 1) (e .mode) ≡ holding (inserted (lineOf e) (e .cursor) byte) (e .cursor + 1) (e .mode)
+    → editor now (e .length + 1) (e .cursor + 1) (e .mode) (e .profile) ≡ holding (inserted (lineOf e) (e .cursor) byte) (e .cursor + 1) (e .mode) (e .profile)
 unfolding holding
 insert-end e byte now carried i g q s =
     let l : List ℕ = lineOf e in
@@ -231,7 +232,7 @@ insert-end e byte now carried i g q s =
     let place : i ≡ length l + 1 = omega arith in
     let gap : 255 - e .length - 1 ≡ 255 - length (inserted l (e .cursor) byte) = omega arith in
     let long : e .length + 1 ≡ length (inserted l (e .cursor) byte) = omega arith in
-    same-editor now (padded (inserted l (e .cursor) byte)) _ _ (e .cursor + 1) (e .mode)
+    same-editor now (padded (inserted l (e .cursor) byte)) _ _ (e .cursor + 1) (e .mode) (e .profile)
     (s .bytes
     ∙ ap (λ (j : ℕ). take j (later (e .line) (e .cursor) byte) ++ drop j (e .line)) place
     ∙ ap (λ (x : List ℕ). take (length l + 1) (later x (e .cursor) byte) ++ drop (length l + 1) x) (full-line e g)
@@ -329,7 +330,7 @@ erase-whole l k cursor now i h m q e =
 
 pub erase-end : (e : Editor) (now : List ℕ) (i : ℕ) → GoodLine e → 0 < e .cursor → i ≡ e .length - 1
     → Erasing (lineOf e) (255 - e .length) (e .cursor) now i
-    → editor (set now (e .length - 1) 0) (e .length - 1) (e .cursor - 1) (e .mode) ≡ holding (erased (lineOf e) (e .cursor)) (e .cursor - 1) (e .mode)
+    → editor (set now (e .length - 1) 0) (e .length - 1) (e .cursor - 1) (e .mode) (e .profile) ≡ holding (erased (lineOf e) (e .cursor)) (e .cursor - 1) (e .mode) (e .profile)
 unfolding holding shorter
 erase-end e now i g h q s =
     let l : List ℕ = lineOf e in
@@ -341,7 +342,7 @@ erase-end e now i g h q s =
     let gap : 255 - e .length + 1 ≡ 255 - length (erased l (e .cursor)) = omega arith in
     let last : i ≡ length l - 1 = omega arith in
     let long : e .length - 1 ≡ length (erased l (e .cursor)) = omega arith in
-    same-editor (set now (e .length - 1) 0) (padded (erased l (e .cursor))) _ _ (e .cursor - 1) (e .mode)
+    same-editor (set now (e .length - 1) 0) (padded (erased l (e .cursor))) _ _ (e .cursor - 1) (e .mode) (e .profile)
     (ap (λ (j : ℕ). set now j 0) (sym q)
     ∙ erase-whole l (255 - e .length) (e .cursor) now i h c last s
     ∙ ap (λ (j : ℕ). erased l (e .cursor) ++ zeros j) gap
@@ -349,16 +350,16 @@ erase-end e now i g h q s =
     long
 
 -- no line is zeros
-pub fresh-line : freshEditor .line ≡ zeros 255
-unfolding padded limit
-fresh-line = refl
+pub emptied-line : (e : Editor) (mode : Mode) (profile : Profile) → e ≡ holding [] 0 mode profile → e .line ≡ zeros 255
+unfolding holding padded limit
+emptied-line e mode profile q = ap (λ (x : Editor). x .line) q
 
-pub recall-end : (text line : List ℕ) (i : ℕ) (mode : Mode) → length text ≤ 255 → i ≡ length text → line ≡ take i text ++ drop i (zeros 255)
-    → editor line i i mode ≡ holding text (length text) mode
+pub recall-end : (text line : List ℕ) (i : ℕ) (mode : Mode) (profile : Profile) → length text ≤ 255 → i ≡ length text → line ≡ take i text ++ drop i (zeros 255)
+    → editor line i i mode profile ≡ holding text (length text) mode profile
 unfolding holding
-recall-end text line i mode h e q =
-    ap (λ (n : ℕ). editor line n n mode) e
-    ∙ same-editor line (padded text) _ _ (length text) mode (q ∙ copied text i h (omega arith) (omega arith)) refl
+recall-end text line i mode profile h e q =
+    ap (λ (n : ℕ). editor line n n mode profile) e
+    ∙ same-editor line (padded text) _ _ (length text) mode profile (q ∙ copied text i h (omega arith) (omega arith)) refl
 
 pub erase-start : (e : Editor) → GoodLine e → 0 < e .cursor → Erasing (lineOf e) (255 - e .length) (e .cursor) (e .line) (e .cursor - 1)
 erase-start e g h =

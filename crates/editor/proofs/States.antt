@@ -5,34 +5,62 @@ use mathlib.Core.Bool.{true}
 use mathlib.Core.List.{List, []}
 use native.Mathlib.Omega.{arith}
 use lib.ListN.{length}
+use borrow.Author.Tests.{le-leb}
 use Rattle.buffer.specs.Write.{over}
+use Rattle.buffer.proofs.Ordering.{is-same}
+use Rattle.buffer.proofs.Choices.{then-is}
 use Rattle.history.specs.Journal.{good}
 use Rattle.history.specs.declared.stepping.History.{History}
 use Rattle.history.proofs.States.{holds}
 use Rattle.history.proofs.Journals.{record-held, slots-held}
 use Rattle.screen.specs.Redraw.{redraw}
-use Rattle.keys.specs.declared.meaning.Mode.{Mode}
-use Rattle.keys.specs.declared.meaning.Mode.the-variants.{Typing}
+use Rattle.keys.specs.declared.standing.Profile.{Profile}
+use Rattle.keys.specs.declared.standing.Mode.{Mode}
+use Rattle.keys.specs.Modes.{goodMode}
 use Rattle.editor.specs.declared.line.Editor.{Editor}
 use Rattle.editor.specs.declared.drawing.KeyAnswer.{KeyAnswer}
 use Rattle.editor.specs.declared.drawing.Pressed.the-variants.{Shown, Dropped, NoRoom}
-use Rattle.editor.specs.Line.{limit, holding, lineOf, freshEditor, goodLine, content}
+use Rattle.editor.specs.Line.{limit, padded, holding, lineOf, goodLine, goodEditor, content}
 use Rattle.editor.specs.Turns.{State, Turn, dropping, showing, redrawn, redrawing}
 use Rattle.editor.specs.Answer.{stateOf, editorOf, historyOf, slotsOf, goodState}
 use Rattle.editor.specs.Inner.{attempt, keyOf, Shows, madeBy, Acts}
-use Rattle.editor.proofs.Lines.{editor, good-line, held-line, line-held, length-padded}
+use Rattle.editor.proofs.Lines.{editor, good-line, length-of, held-line, line-held, length-padded}
 use Rattle.editor.proofs.Showings.{attempt-fits}
 
--- a good state has a good line and a good history
-pub good-parts : (e : Editor) (h : History) (slots : List ℕ) → goodState e h slots ≡ true → (goodLine e ≡ true) × (good h slots ≡ true)
-unfolding goodState
-good-parts e h slots g = holds (goodLine e) _ g
+-- a good editor has a good mode and a good line, a good state a good editor and a good history
+pub editor-parts : (e : Editor) → goodEditor e ≡ true → (goodMode (e .profile) (e .mode) ≡ true) × (goodLine e ≡ true)
+unfolding goodEditor
+editor-parts e g = holds (goodMode (e .profile) (e .mode)) _ g
 
--- another mode changes nothing of it
-pub moded-good : (e : Editor) (h : History) (slots : List ℕ) (e₁ : Editor) (mode : Mode) → e₁ ≡ editor (e .line) (e .length) (e .cursor) mode
-    → goodState e h slots ≡ true → goodState e₁ h slots ≡ true
-unfolding goodState goodLine lineOf
-moded-good e h slots e₁ mode q g = ap (λ (x : Editor). goodState x h slots) q ∙ g
+pub good-editor : (e : Editor) → goodMode (e .profile) (e .mode) ≡ true → goodLine e ≡ true → goodEditor e ≡ true
+unfolding goodEditor
+good-editor e m g = then-is _ _ _ m ∙ g
+
+pub state-parts : (e : Editor) (h : History) (slots : List ℕ) → goodState e h slots ≡ true → (goodEditor e ≡ true) × (good h slots ≡ true)
+unfolding goodState
+state-parts e h slots g = holds (goodEditor e) _ g
+
+pub good-state : (e : Editor) (h : History) (slots : List ℕ) → goodEditor e ≡ true → good h slots ≡ true → goodState e h slots ≡ true
+unfolding goodState
+good-state e h slots p q = then-is _ _ _ p ∙ q
+
+pub good-mode : (e : Editor) (h : History) (slots : List ℕ) → goodState e h slots ≡ true → goodMode (e .profile) (e .mode) ≡ true
+good-mode e h slots g = editor-parts e (state-parts e h slots g .0) .0
+
+pub good-parts : (e : Editor) (h : History) (slots : List ℕ) → goodState e h slots ≡ true → (goodLine e ≡ true) × (good h slots ≡ true)
+good-parts e h slots g = let p = state-parts e h slots g in (editor-parts e (p .0) .1, p .1)
+
+-- another good mode changes nothing of it
+line-in : (e : Editor) (mode : Mode) → goodLine e ≡ true → goodLine (editor (e .line) (e .length) (e .cursor) mode (e .profile)) ≡ true
+unfolding goodLine lineOf
+line-in e mode g = g
+
+pub moded-good : (e : Editor) (h : History) (slots : List ℕ) (e₁ : Editor) (mode : Mode) → e₁ ≡ editor (e .line) (e .length) (e .cursor) mode (e .profile)
+    → goodMode (e .profile) mode ≡ true → goodState e h slots ≡ true → goodState e₁ h slots ≡ true
+moded-good e h slots e₁ mode q m g =
+    let p = good-parts e h slots g in
+    ap (λ (x : Editor). goodState x h slots) q
+    ∙ good-state (editor (e .line) (e .length) (e .cursor) mode (e .profile)) h slots (good-editor _ m (line-in e mode (p .0))) (p .1)
 
 -- what holds a state
 pub holds-history : (e : Editor) (h : History) (slots : List ℕ) → historyOf (stateOf e h slots) ≡ h
@@ -47,15 +75,36 @@ pub holds-slots : (e : Editor) (h : History) (slots : List ℕ) → good h slots
 unfolding stateOf
 holds-slots e h slots g = slots-held h slots g
 
+-- an editor that holds a line within the limit, with a cursor in it, has a good line
+held-size : (line : List ℕ) (cursor : ℕ) (mode : Mode) (profile : Profile) → length line ≤ 255 → holding line cursor mode profile .length ≤ 255
+unfolding holding
+held-size line cursor mode profile h = h
+
+held-within : (line : List ℕ) (cursor : ℕ) (mode : Mode) (profile : Profile) → cursor ≤ length line → holding line cursor mode profile .cursor ≤ holding line cursor mode profile .length
+unfolding holding
+held-within line cursor mode profile k = k
+
+held-bytes : (line : List ℕ) (cursor : ℕ) (mode : Mode) (profile : Profile) → padded line ≡ holding line cursor mode profile .line
+unfolding holding
+held-bytes line cursor mode profile = refl
+
+pub held-good : (line : List ℕ) (cursor : ℕ) (mode : Mode) (profile : Profile) → length line ≤ 255 → cursor ≤ length line → goodLine (holding line cursor mode profile) ≡ true
+unfolding goodLine limit
+held-good line cursor mode profile h k =
+    then-is _ _ _ (le-leb _ _ (held-size line cursor mode profile h))
+    ∙ then-is _ _ _ (le-leb _ _ (held-within line cursor mode profile k))
+    ∙ is-same _ _ (ap padded (line-held line cursor mode profile) ∙ held-bytes line cursor mode profile)
+
 -- an editor that holds a short line has room for it
-pub held-fits : (g : Editor) (l : List ℕ) (cursor : ℕ) (mode : Mode) → g ≡ holding l cursor mode → length l ≤ 255
+pub held-fits : (g : Editor) (l : List ℕ) (cursor : ℕ) (mode : Mode) (profile : Profile) → g ≡ holding l cursor mode profile → length l ≤ 255
     → (g .length ≤ limit) × (length (g .line) ≡ limit)
 unfolding holding limit
-held-fits g l cursor mode e h = (rw e h, ap (λ (x : Editor). length (x .line)) e ∙ length-padded l h)
+held-fits g l cursor mode profile e h = (rw e h, ap (λ (x : Editor). length (x .line)) e ∙ length-padded l h)
 
-pub fresh-fits : (g : Editor) → g ≡ freshEditor → (g .length ≤ limit) × (length (g .line) ≡ limit)
-unfolding holding
-fresh-fits g e = held-fits g [] 0 Typing e (omega arith)
+pub moved-fits : (e g : Editor) (cursor : ℕ) → goodLine e ≡ true → g ≡ editor (e .line) (e .length) cursor (e .mode) (e .profile)
+    → (g .length ≤ limit) × (length (g .line) ≡ limit)
+unfolding limit
+moved-fits e g cursor k q = let l = good-line e k in (rw q (l .short), rw q (length-of e l .0))
 
 -- the limit as the code has it
 pub in-limit : (n : ℕ) → n < 255 → n < limit
@@ -110,7 +159,7 @@ module _ (e : Editor) (h : History) (screen : List ℕ) where
   unfolding redrawn editorOf holding
   redrawn-by prompt s goes p =
       ap (λ (x : Editor). redraw prompt (content (lineOf x)) (x .cursor)) p
-      ∙ ap (λ (l : List ℕ). redraw prompt (content l) (s .cursor)) (line-held (s .line) (s .cursor) (s .mode))
+      ∙ ap (λ (l : List ℕ). redraw prompt (content l) (s .cursor)) (line-held (s .line) (s .cursor) (s .mode) (s .profile))
 
   pub acts-redrawn : (prompt : List ℕ) (s : State) (goes : Editor) (h′ : History) (k : KeyAnswer) (left : List ℕ) → goes ≡ editorOf s → h′ ≡ historyOf s
       → Shows (redraw prompt (content (lineOf goes)) (goes .cursor)) e h goes h′ screen k left → Acts e h (redrawing prompt s) screen k left

@@ -5,10 +5,10 @@ use mathlib.Core.Bool.{Bool, true, false, cond}
 use mathlib.Core.List.{List, []}
 use native.Mathlib.Omega.{arith}
 use lib.Dec.{eqb, ltb}
-use lib.ListN.{length, getD}
+use lib.ListN.{length}
 use borrow.Author.Tests.{eq-eqb, ne-eqb, lt-ltb, le-ltb, eqb-true, eqb-false, ltb-true, ltb-false}
 use Rattle.buffer.proofs.Choices.{then-is, else-is}
-use Rattle.history.specs.Journal.{Journal, count, entryOf, atPlace, recordOf, journalOf, good}
+use Rattle.history.specs.Journal.{count, entryOf, atPlace, recordOf, journalOf, good}
 use Rattle.history.specs.Steps.{placedAt, back, onward, recalledAt}
 use Rattle.history.specs.declared.stepping.History.{History}
 use Rattle.history.specs.declared.stepping.Recalled.{Recalled}
@@ -16,24 +16,43 @@ use Rattle.history.specs.declared.stepping.Recalled.the-variants.{Entry, Nothin
 use Rattle.history.specs.declared.stepping.Step.{Step}
 use Rattle.history.proofs.Journals.{good-fair, fair-short, count-held, place-held, record-held, record-placed}
 use Rattle.screen.specs.Redraw.{redraw}
-use Rattle.keys.specs.declared.meaning.Mode.{Mode}
-use Rattle.keys.specs.declared.meaning.Mode.the-variants.{Typing}
+use Rattle.keys.specs.declared.standing.Profile.{Profile}
+use Rattle.keys.specs.declared.standing.Mode.{Mode}
+use Rattle.keys.specs.declared.standing.Action.the-variants.{End}
 use Rattle.editor.specs.declared.line.Editor.{Editor}
 use Rattle.editor.specs.declared.drawing.KeyAnswer.{KeyAnswer}
 use Rattle.editor.specs.declared.drawing.Pressed.the-variants.{Shown, Dropped}
-use Rattle.editor.specs.Line.{limit, holding, freshEditor, lineOf, goodLine, inserted, erased, content}
-use Rattle.editor.specs.Turns.{State, showing, redrawing, withLine, cleared, erase, insert, recalled, up, onPlace, down, right, left, arrow}
+use Rattle.editor.specs.Line.{limit, holding, lineOf, goodLine, inserted, erased, content}
+use Rattle.editor.specs.Turns.{State, showing, redrawing, withLine, cleared, erase, insert, recalled, up, onPlace, down, goTo, delete, right, left, arrow, turnBy}
 use Rattle.editor.specs.Answer.{stateOf, editorOf, historyOf, goodState}
 use Rattle.editor.specs.Inner.{keyOf, Shows, Acts}
 use Rattle.editor.proofs.Lines.{editor, good-line, length-of, same-editor}
-use Rattle.editor.proofs.States.{good-parts, holds-history, holds-editor, acts-quiet, acts-dropped, acts-shown, acts-redrawn, acts-as}
+use Rattle.editor.proofs.States.{good-parts, held-good, holds-history, holds-editor, acts-quiet, acts-dropped, acts-shown, acts-redrawn, acts-as}
 
 -- a good editor with the cursor elsewhere
-pub held-as : (e : Editor) (cursor : ℕ) (mode : Mode) → goodLine e ≡ true → editor (e .line) (e .length) cursor mode ≡ holding (lineOf e) cursor mode
+pub held-as : (e : Editor) (cursor : ℕ) (mode : Mode) (profile : Profile) → goodLine e ≡ true → editor (e .line) (e .length) cursor mode profile ≡ holding (lineOf e) cursor mode profile
 unfolding holding
-held-as e cursor mode g =
+held-as e cursor mode profile g =
     let k = good-line e g in
-    same-editor _ _ _ _ cursor mode (sym (k .laid)) (sym (length-of e k .1))
+    same-editor _ _ _ _ cursor mode profile (sym (k .laid)) (sym (length-of e k .1))
+
+-- the byte at the cursor is the one before the next place
+pub moved-good : (e goes : Editor) (cursor : ℕ) → goodLine e ≡ true → cursor ≤ e .length → goes ≡ editor (e .line) (e .length) cursor (e .mode) (e .profile)
+    → goodLine goes ≡ true
+moved-good e goes cursor g h q =
+    let k = good-line e g in
+    let n = length-of e k .1 in
+    let s = k .short in
+    ap goodLine (q ∙ held-as e cursor (e .mode) (e .profile) g) ∙ held-good (lineOf e) cursor (e .mode) (e .profile) (omega arith) (omega arith)
+
+pub next-erased : (e moved goes : Editor) → moved ≡ editor (e .line) (e .length) (e .cursor + 1) (e .mode) (e .profile)
+    → goes ≡ holding (erased (lineOf moved) (moved .cursor)) (moved .cursor - 1) (moved .mode) (moved .profile)
+    → goes ≡ holding (erased (lineOf e) (e .cursor + 1)) (e .cursor) (e .mode) (e .profile)
+unfolding lineOf
+next-erased e moved goes q p =
+    let n : e .cursor + 1 - 1 ≡ e .cursor = omega arith in
+    p ∙ ap (λ (x : Editor). holding (erased (lineOf x) (x .cursor)) (x .cursor - 1) (x .mode) (x .profile)) q
+    ∙ ap (λ (i : ℕ). holding (erased (lineOf e) (e .cursor + 1)) i (e .mode) (e .profile)) n
 
 module _ (e : Editor) (h : History) (slots screen : List ℕ) (g : goodLine e ≡ true) where
   s : State
@@ -44,9 +63,9 @@ module _ (e : Editor) (h : History) (slots screen : List ℕ) (g : goodLine e �
   unfolding s
   history-stays line cursor = sym (holds-history e h slots)
 
-  changed : (line : List ℕ) (cursor : ℕ) → holding line cursor (e .mode) ≡ editorOf (withLine s line cursor)
+  held-line : (line : List ℕ) (cursor : ℕ) → holding line cursor (e .mode) (e .profile) ≡ editorOf (withLine s line cursor)
   unfolding editorOf s stateOf
-  changed line cursor = refl
+  held-line line cursor = refl
 
   -- nothing is done
   pub quiet : Acts e h (showing (stateOf e h slots) []) screen (keyOf e h (Shown 0)) screen
@@ -58,16 +77,16 @@ module _ (e : Editor) (h : History) (slots screen : List ℕ) (g : goodLine e �
   erase-quiet prompt z = acts-as e h screen (showing s []) (erase prompt s) _ _ (sym (then-is _ _ _ (eq-eqb (e .cursor) 0 z))) quiet
 
   module _ (k : KeyAnswer) (goes : Editor) (shown : List ℕ) where
-    pub erase-shown : (prompt : List ℕ) → (e .cursor ≡ 0 → ⊥) → goes ≡ holding (erased (lineOf e) (e .cursor)) (e .cursor - 1) (e .mode)
+    pub erase-shown : (prompt : List ℕ) → (e .cursor ≡ 0 → ⊥) → goes ≡ holding (erased (lineOf e) (e .cursor)) (e .cursor - 1) (e .mode) (e .profile)
         → Shows (redraw prompt (content (lineOf goes)) (goes .cursor)) e h goes h screen k shown → Acts e h (erase prompt (stateOf e h slots)) screen k shown
     unfolding erase s stateOf
     erase-shown prompt n p a =
         let line : List ℕ = erased (lineOf e) (e .cursor) in
         acts-as e h screen (redrawing prompt (withLine s line (e .cursor - 1))) (erase prompt s) k shown (sym (else-is _ _ _ (ne-eqb (e .cursor) 0 n)))
-        (acts-redrawn e h screen prompt (withLine s line (e .cursor - 1)) goes h k shown (p ∙ changed line (e .cursor - 1)) (history-stays line (e .cursor - 1)) a)
+        (acts-redrawn e h screen prompt (withLine s line (e .cursor - 1)) goes h k shown (p ∙ held-line line (e .cursor - 1)) (history-stays line (e .cursor - 1)) a)
 
     -- typing
-    pub insert-shown : (prompt : List ℕ) (byte : ℕ) → e .length < limit → goes ≡ holding (inserted (lineOf e) (e .cursor) byte) (e .cursor + 1) (e .mode)
+    pub insert-shown : (prompt : List ℕ) (byte : ℕ) → e .length < limit → goes ≡ holding (inserted (lineOf e) (e .cursor) byte) (e .cursor + 1) (e .mode) (e .profile)
         → Shows (redraw prompt (content (lineOf goes)) (goes .cursor)) e h goes h screen k shown → Acts e h (insert prompt (stateOf e h slots) byte) screen k shown
     unfolding insert s stateOf
     insert-shown prompt byte l p a =
@@ -75,7 +94,7 @@ module _ (e : Editor) (h : History) (slots screen : List ℕ) (g : goodLine e �
         let size = length-of e (good-line e g) .1 in
         acts-as e h screen (redrawing prompt (withLine s line (e .cursor + 1))) (insert prompt s byte) k shown
         (sym (then-is _ _ _ (ap (λ (n : ℕ). ltb n limit) size ∙ lt-ltb (e .length) limit l)))
-        (acts-redrawn e h screen prompt (withLine s line (e .cursor + 1)) goes h k shown (p ∙ changed line (e .cursor + 1)) (history-stays line (e .cursor + 1)) a)
+        (acts-redrawn e h screen prompt (withLine s line (e .cursor + 1)) goes h k shown (p ∙ held-line line (e .cursor + 1)) (history-stays line (e .cursor + 1)) a)
 
   pub insert-dropped : (prompt : List ℕ) (byte : ℕ) → limit ≤ e .length → Acts e h (insert prompt (stateOf e h slots) byte) screen (keyOf e h Dropped) screen
   unfolding insert s stateOf
@@ -84,6 +103,45 @@ module _ (e : Editor) (h : History) (slots screen : List ℕ) (g : goodLine e �
       acts-as e h screen _ (insert prompt s byte) _ _
       (sym (else-is _ _ _ (ap (λ (n : ℕ). ltb n limit) size ∙ le-ltb (e .length) limit l)))
       (acts-dropped e h screen s e h (sym (holds-editor e h slots g)) (sym (holds-history e h slots)))
+
+  -- to a place
+  pub go-quiet : (prompt : List ℕ) (place : ℕ) → e .cursor ≡ place → Acts e h (goTo prompt (stateOf e h slots) place) screen (keyOf e h (Shown 0)) screen
+  unfolding goTo s stateOf
+  go-quiet prompt place q = acts-as e h screen (showing s []) (goTo prompt s place) _ _ (sym (then-is _ _ _ (eq-eqb (e .cursor) place q))) quiet
+
+  -- to the end of the line, as the editor has its length
+  pub go-end : (prompt : List ℕ) (k : KeyAnswer) (shown : List ℕ) → Acts e h (goTo prompt (stateOf e h slots) (e .length)) screen k shown
+      → Acts e h (turnBy prompt (stateOf e h slots) End) screen k shown
+  unfolding stateOf
+  go-end prompt k shown a =
+      let size = length-of e (good-line e g) .1 in
+      acts-as e h screen _ _ k shown (ap (goTo prompt (stateOf e h slots)) (sym size)) a
+
+  -- the byte at the cursor
+  pub delete-quiet : (prompt : List ℕ) → e .length ≤ e .cursor → Acts e h (delete prompt (stateOf e h slots)) screen (keyOf e h (Shown 0)) screen
+  unfolding delete s stateOf
+  delete-quiet prompt l =
+      let size = length-of e (good-line e g) .1 in
+      acts-as e h screen (showing s []) (delete prompt s) _ _ (sym (else-is _ _ _ (ap (ltb (e .cursor)) size ∙ le-ltb (e .cursor) (e .length) l))) quiet
+
+  module _ (k : KeyAnswer) (goes : Editor) (shown : List ℕ) where
+    pub go-shown : (prompt : List ℕ) (place : ℕ) → (e .cursor ≡ place → ⊥) → goes ≡ editor (e .line) (e .length) place (e .mode) (e .profile)
+        → Shows (redraw prompt (content (lineOf goes)) (goes .cursor)) e h goes h screen k shown → Acts e h (goTo prompt (stateOf e h slots) place) screen k shown
+    unfolding goTo s stateOf
+    go-shown prompt place n p a =
+        acts-as e h screen (redrawing prompt (withLine s (lineOf e) place)) (goTo prompt s place) k shown (sym (else-is _ _ _ (ne-eqb (e .cursor) place n)))
+        (acts-redrawn e h screen prompt (withLine s (lineOf e) place) goes h k shown
+        (p ∙ held-as e place (e .mode) (e .profile) g ∙ held-line (lineOf e) place) (history-stays (lineOf e) place) a)
+
+    pub delete-shown : (prompt : List ℕ) → e .cursor < e .length → goes ≡ holding (erased (lineOf e) (e .cursor + 1)) (e .cursor) (e .mode) (e .profile)
+        → Shows (redraw prompt (content (lineOf goes)) (goes .cursor)) e h goes h screen k shown → Acts e h (delete prompt (stateOf e h slots)) screen k shown
+    unfolding delete s stateOf
+    delete-shown prompt l p a =
+        let line : List ℕ = erased (lineOf e) (e .cursor + 1) in
+        let size = length-of e (good-line e g) .1 in
+        acts-as e h screen (redrawing prompt (withLine s line (e .cursor))) (delete prompt s) k shown
+        (sym (then-is _ _ _ (ap (ltb (e .cursor)) size ∙ lt-ltb (e .cursor) (e .length) l)))
+        (acts-redrawn e h screen prompt (withLine s line (e .cursor)) goes h k shown (p ∙ held-line line (e .cursor)) (history-stays line (e .cursor)) a)
 
   -- along the line
   pub right-quiet : e .length ≤ e .cursor → Acts e h (right (stateOf e h slots)) screen (keyOf e h (Shown 0)) screen
@@ -97,14 +155,14 @@ module _ (e : Editor) (h : History) (slots screen : List ℕ) (g : goodLine e �
   left-quiet z = acts-as e h screen (showing s []) (left s) _ _ (sym (then-is _ _ _ (eq-eqb (e .cursor) 0 z))) quiet
 
   module _ (k : KeyAnswer) (goes : Editor) (shown : List ℕ) where
-    moved-shown : (cursor final : ℕ) → goes ≡ editor (e .line) (e .length) cursor (e .mode) → Shows (arrow final) e h goes h screen k shown
+    moved-shown : (cursor final : ℕ) → goes ≡ editor (e .line) (e .length) cursor (e .mode) (e .profile) → Shows (arrow final) e h goes h screen k shown
         → Acts e h (showing (withLine (stateOf e h slots) (lineOf e) cursor) (arrow final)) screen k shown
     unfolding s
     moved-shown cursor final p a =
         acts-shown e h screen (withLine s (lineOf e) cursor) (arrow final) goes h k shown
-        (p ∙ held-as e cursor (e .mode) g ∙ changed (lineOf e) cursor) (history-stays (lineOf e) cursor) a
+        (p ∙ held-as e cursor (e .mode) (e .profile) g ∙ held-line (lineOf e) cursor) (history-stays (lineOf e) cursor) a
 
-    pub right-shown : e .cursor < e .length → goes ≡ editor (e .line) (e .length) (e .cursor + 1) (e .mode) → Shows (arrow 0x43) e h goes h screen k shown
+    pub right-shown : e .cursor < e .length → goes ≡ editor (e .line) (e .length) (e .cursor + 1) (e .mode) (e .profile) → Shows (arrow 0x43) e h goes h screen k shown
         → Acts e h (right (stateOf e h slots)) screen k shown
     unfolding right stateOf
     right-shown l p a =
@@ -112,7 +170,7 @@ module _ (e : Editor) (h : History) (slots screen : List ℕ) (g : goodLine e �
         acts-as e h screen _ (right (stateOf e h slots)) k shown
         (sym (then-is _ _ _ (ap (ltb (e .cursor)) size ∙ lt-ltb (e .cursor) (e .length) l))) (moved-shown (e .cursor + 1) 0x43 p a)
 
-    pub left-shown : (e .cursor ≡ 0 → ⊥) → goes ≡ editor (e .line) (e .length) (e .cursor - 1) (e .mode) → Shows (arrow 0x44) e h goes h screen k shown
+    pub left-shown : (e .cursor ≡ 0 → ⊥) → goes ≡ editor (e .line) (e .length) (e .cursor - 1) (e .mode) (e .profile) → Shows (arrow 0x44) e h goes h screen k shown
         → Acts e h (left (stateOf e h slots)) screen k shown
     unfolding left stateOf
     left-shown n p a =
@@ -160,15 +218,15 @@ module _ (e : Editor) (h : History) (slots screen : List ℕ) (good-state : good
   recalled-short n text p = rw p (fair-short (journalOf h slots) n (good-fair h slots is))
 
   module _ (k : KeyAnswer) (goes : Editor) (shown prompt : List ℕ) (n : ℕ) (text : List ℕ) (h′ : History) where
-    pub recall-shown : h′ ≡ placedAt h n → text ≡ entryOf (journalOf h slots) n → goes ≡ holding text (length text) Typing
+    pub recall-shown : h′ ≡ placedAt h n → text ≡ entryOf (journalOf h slots) n → goes ≡ holding text (length text) (e .mode) (e .profile)
         → Shows (redraw prompt (content (lineOf goes)) (goes .cursor)) e h goes h′ screen k shown
         → Acts e h (redrawing prompt (recalled (stateOf e h slots) n)) screen k shown
     unfolding stateOf editorOf
     recall-shown q p m a =
         acts-redrawn e h screen prompt (recalled (stateOf e h slots) n) goes h′ k shown
-        (m ∙ ap (λ (y : List ℕ). holding y (length y) Typing) p) (q ∙ placed-as n) a
+        (m ∙ ap (λ (y : List ℕ). holding y (length y) (e .mode) (e .profile)) p) (q ∙ placed-as n) a
 
-    pub up-shown : (step : Step) → step ≡ back h → step .recalled ≡ Entry n → h′ ≡ step .history → text ≡ entryOf (journalOf h slots) n → goes ≡ holding text (length text) Typing
+    pub up-shown : (step : Step) → step ≡ back h → step .recalled ≡ Entry n → h′ ≡ step .history → text ≡ entryOf (journalOf h slots) n → goes ≡ holding text (length text) (e .mode) (e .profile)
         → Shows (redraw prompt (content (lineOf goes)) (goes .cursor)) e h goes h′ screen k shown
         → Acts e h (up prompt (stateOf e h slots)) screen k shown
     unfolding up stateOf
@@ -242,7 +300,7 @@ module _ (e : Editor) (h : History) (slots screen : List ℕ) (good-state : good
   down-short n text x = recalled-short e h slots screen good-state n text x
 
   module _ (k : KeyAnswer) (goes : Editor) (shown prompt : List ℕ) (h′ : History) where
-    pub down-shown : (n : ℕ) (text : List ℕ) → step .recalled ≡ Entry n → h′ ≡ step .history → text ≡ entryOf (journalOf h slots) n → goes ≡ holding text (length text) Typing
+    pub down-shown : (n : ℕ) (text : List ℕ) → step .recalled ≡ Entry n → h′ ≡ step .history → text ≡ entryOf (journalOf h slots) n → goes ≡ holding text (length text) (e .mode) (e .profile)
         → Shows (redraw prompt (content (lineOf goes)) (goes .cursor)) e h goes h′ screen k shown
         → Acts e h (down prompt (stateOf e h slots)) screen k shown
     unfolding down stateOf p
@@ -253,13 +311,13 @@ module _ (e : Editor) (h : History) (slots screen : List ℕ) (good-state : good
         (sym (then-is _ _ _ (ap (ltb p) counted ∙ lt-ltb p (h .count) (f .0)) ∙ ap (λ (i : ℕ). redrawing prompt (recalled (stateOf e h slots) i)) (sym here)))
         (recall-shown e h slots screen good-state k goes shown prompt n text h′ (j ∙ ap (λ (y : Step). y .history) stepped ∙ ap (placedAt h) (sym here)) x m a)
 
-    pub down-cleared : step .recalled ≡ Nothing → h′ ≡ step .history → goes ≡ freshEditor
+    pub down-cleared : step .recalled ≡ Nothing → h′ ≡ step .history → goes ≡ holding [] 0 (e .mode) (e .profile)
         → Shows (redraw prompt (content (lineOf goes)) (goes .cursor)) e h goes h′ screen k shown
         → Acts e h (down prompt (stateOf e h slots)) screen k shown
     unfolding down stateOf p holding editorOf
     down-cleared r j m a =
         let none = found-none (h .count) p (step .recalled) (ap (λ (y : Step). y .recalled) stepped) r in
-        let s : State = cleared (atPlace (journalOf h slots) p) in
+        let s : State = cleared (stateOf e h slots) (atPlace (journalOf h slots) p) in
         acts-as e h screen (redrawing prompt s) (down prompt (stateOf e h slots)) k shown
         (sym (else-is _ _ _ (ap (ltb p) counted ∙ none)))
         (acts-redrawn e h screen prompt s goes h′ k shown m (j ∙ ap (λ (y : Step). y .history) stepped ∙ placed-as e h slots screen good-state p) a)

@@ -13,15 +13,15 @@ use Rattle.editor.specs.declared.line.Editor.{Editor}
 use Rattle.editor.specs.declared.drawing.KeyAnswer.{KeyAnswer}
 use Rattle.editor.specs.declared.drawing.Pressed.{Pressed}
 use Rattle.editor.specs.declared.drawing.Pressed.the-variants.{Shown, Entered, Dropped, BadState, BadPrompt, NoRoom}
-use Rattle.editor.specs.Line.{limit, holding, lineOf, goodLine}
+use Rattle.editor.specs.Line.{limit, holding, lineOf, goodEditor}
 use Rattle.editor.specs.Turns.{State, Kind, shows, enters, drops, Turn, turnOf}
 
 -- the state that editor, record and slots hold, and what holds a state
 unfoldable pub stateOf : Editor → History → List ℕ → State
-stateOf e h slots = record { line = lineOf e; cursor = e .cursor; mode = e .mode; history = journalOf h slots }
+stateOf e h slots = record { line = lineOf e; cursor = e .cursor; mode = e .mode; profile = e .profile; history = journalOf h slots }
 
 unfoldable pub editorOf : State → Editor
-editorOf s = holding (s .line) (s .cursor) (s .mode)
+editorOf s = holding (s .line) (s .cursor) (s .mode) (s .profile)
 
 -- (3.12)
 abbrev pub historyOf : State → History
@@ -31,9 +31,9 @@ historyOf s = recordOf (s .history)
 abbrev pub slotsOf : State → List ℕ
 slotsOf s = journalSlots (s .history)
 
--- a state is good if its line is and its history is (3.13)
+-- a state is good if its editor is and its history is (3.13)
 unfoldable pub goodState : Editor → History → List ℕ → Bool
-goodState e h slots = cond (goodLine e) (good h slots) false
+goodState e h slots = cond (goodEditor e) (good h slots) false
 
 -- the prompt is 0 to 128 bytes of UTF-8 (2.5)
 unfoldable pub goodPrompt : List ℕ → Bool

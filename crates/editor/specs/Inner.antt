@@ -11,7 +11,7 @@ use Rattle.editor.specs.declared.line.Editor.{Editor}
 use Rattle.editor.specs.declared.drawing.KeyAnswer.{KeyAnswer}
 use Rattle.editor.specs.declared.drawing.Pressed.{Pressed}
 use Rattle.editor.specs.declared.drawing.Pressed.the-variants.{Shown, NoRoom}
-use Rattle.keys.specs.declared.meaning.Action.{Action}
+use Rattle.keys.specs.declared.standing.Action.{Action}
 use Rattle.editor.specs.Turns.{Turn, enter, turnBy, turnOf}
 use Rattle.editor.specs.Answer.{stateOf, taken, editorOf, historyOf, slotsOf}
 

@@ -1,24 +1,26 @@
 -- What an action does (STANDARD 2 and 3): the state after it, what it shows and what it submits.
 use Prim.Native.Nat.{ℕ, _+_, _-_}
 use mathlib.Core.Bool.{cond}
-use mathlib.Core.List.{List, [], _∷_}
+use mathlib.Core.List.{List, [], _∷_, _++_}
 use lib.Dec.{ltb, eqb}
-use lib.ListN.{length, take}
+use lib.ListN.{length}
 use Rattle.history.specs.Journal.{Journal, noEntries, count, entryOf, offered, atPlace}
 use Rattle.screen.specs.Redraw.{redraw}
-use Rattle.keys.specs.declared.meaning.Mode.{Mode}
-use Rattle.keys.specs.declared.meaning.Mode.the-variants.{Typing}
-use Rattle.keys.specs.declared.meaning.Action.{Action}
-use Rattle.keys.specs.declared.meaning.Action.the-variants.{Nothing, Enter, Erase, Insert, Up, Down, Right, Left}
+use Rattle.keys.specs.declared.standing.Profile.{Profile}
+use Rattle.keys.specs.declared.standing.Mode.{Mode}
+use Rattle.keys.specs.declared.standing.Mode.the-variants.{Typing}
+use Rattle.keys.specs.declared.standing.Action.{Action}
+use Rattle.keys.specs.declared.standing.Action.the-variants.{Nothing, Enter, Erase, Insert, Up, Down, Right, Left, Home, End, Delete}
 use Rattle.keys.specs.declared.meaning.Meaning.{Meaning}
-use Rattle.editor.specs.Line.{limit, freshEditor, inserted, erased, content}
+use Rattle.editor.specs.Line.{limit, inserted, erased, content}
 use Rattle.keys.specs.Keys.{meaning}
 
--- a state: the line, the cursor and what the keys before this one began; and the history (2.1, 3.2)
+-- a state: the line, the cursor, what the keys before this one began and how keys are read; and the history (2.1, 3.2)
 pub record State : Type 0 where
   pub line : List ℕ
   pub cursor : ℕ
   pub mode : Mode
+  pub profile : Profile
   pub history : Journal
 
 -- what a key does: the state after it, the bytes it shows, the line it submits
@@ -37,13 +39,16 @@ pub record Turn : Type 0 where
 abbrev pub showing : State → List ℕ → Turn
 showing s bytes = record { kind = shows; after = s; screen = bytes; submitted = [] }
 
--- a state with another line, and in another mode
+-- a state with another line and another history, and in another mode; nothing gives it another profile (2.23)
+abbrev pub changed : State → List ℕ → ℕ → Journal → State
+changed s line cursor history = record { line = line; cursor = cursor; mode = s .mode; profile = s .profile; history = history }
+
 abbrev pub withLine : State → List ℕ → ℕ → State
-withLine s line cursor = record { line = line; cursor = cursor; mode = s .mode; history = s .history }
+withLine s line cursor = changed s line cursor (s .history)
 
 -- (2.13)
 abbrev pub inMode : State → Mode → State
-inMode s mode = record { line = s .line; cursor = s .cursor; mode = mode; history = s .history }
+inMode s mode = record { line = s .line; cursor = s .cursor; mode = mode; profile = s .profile; history = s .history }
 
 -- the line drawn anew after the prompt (2.19)
 unfoldable pub redrawn : List ℕ → State → List ℕ
@@ -53,14 +58,14 @@ redrawn prompt s = redraw prompt (content (s .line)) (s .cursor)
 abbrev pub redrawing : List ℕ → State → Turn
 redrawing prompt s = showing s (redrawn prompt s)
 
--- the line, the cursor and the mode of the fresh editor, beside a history (3.9)
-abbrev pub cleared : Journal → State
-cleared history = record { line = take (freshEditor .length) (freshEditor .line); cursor = freshEditor .cursor; mode = freshEditor .mode; history = history }
+-- the line emptied, beside a history (3.9)
+abbrev pub cleared : State → Journal → State
+cleared s history = changed s [] 0 history
 
 -- Enter: LF. A non-empty line is offered to history (as the empty text if ill-formed) and submitted, and line and cursor are cleared.
 -- (2.8, 3.5, 3.6)
 abbrev pub afterEnter : State → State
-afterEnter s = cleared (offered (content (s .line)) (s .history))
+afterEnter s = cleared s (offered (content (s .line)) (s .history))
 
 -- (2.8)
 abbrev pub lineFeed : List ℕ
@@ -89,13 +94,7 @@ insert prompt s byte =
 
 -- an entry is recalled: it becomes the line, with the cursor at its end (3.7, 3.8)
 abbrev pub recalled : State → ℕ → State
-recalled s place =
-    record {
-      line = entryOf (s .history) place;
-      cursor = length (entryOf (s .history) place);
-      mode = Typing;
-      history = atPlace (s .history) place;
-    }
+recalled s place = changed s (entryOf (s .history) place) (length (entryOf (s .history) place)) (atPlace (s .history) place)
 
 -- Up at place 0 does nothing; otherwise it steps back and recalls (3.8)
 unfoldable pub up : List ℕ → State → Turn
@@ -110,7 +109,7 @@ unfoldable pub down : List ℕ → State → Turn
 down prompt s =
     cond (ltb (onPlace (s .history)) (count (s .history)))
     (redrawing prompt (recalled s (onPlace (s .history))))
-    (redrawing prompt (cleared (atPlace (s .history) (onPlace (s .history)))))
+    (redrawing prompt (cleared s (atPlace (s .history) (onPlace (s .history)))))
 
 -- ESC `[C` and ESC `[D` are shown only if the cursor moved (2.16)
 abbrev pub arrow : ℕ → List ℕ
@@ -124,6 +123,15 @@ right s = cond (ltb (s .cursor) (length (s .line))) (showing (withLine s (s .lin
 unfoldable pub left : State → Turn
 left s = cond (eqb (s .cursor) 0) (showing s []) (showing (withLine s (s .line) (s .cursor - 1)) (arrow 0x44))
 
+-- the cursor goes to a place, and the line is redrawn unless it stood there: 0 for Home, the line's length for End (2.27)
+unfoldable pub goTo : List ℕ → State → ℕ → Turn
+goTo prompt s place = cond (eqb (s .cursor) place) (showing s []) (redrawing prompt (withLine s (s .line) place))
+
+-- with the cursor before the line's end, the byte at it is removed (2.28)
+unfoldable pub delete : List ℕ → State → Turn
+delete prompt s =
+    cond (ltb (s .cursor) (length (s .line))) (redrawing prompt (withLine s (erased (s .line) (s .cursor + 1)) (s .cursor))) (showing s [])
+
 -- (2.4, 2.12)
 abbrev pub turnBy : List ℕ → State → Action → Turn
 turnBy prompt s Nothing = showing s []
@@ -134,15 +142,23 @@ turnBy prompt s Up = up prompt s
 turnBy prompt s Down = down prompt s
 turnBy prompt s Right = right s
 turnBy prompt s Left = left s
+turnBy prompt s Home = goTo prompt s 0
+turnBy prompt s End = goTo prompt s (length (s .line))
+turnBy prompt s Delete = delete prompt s
 
 -- one key: what it means, then what that does (2.4, 2.13, 2.17)
 unfoldable pub turnOf : List ℕ → State → ℕ → Turn
-turnOf prompt s byte = let m : Meaning = meaning (s .mode) byte in turnBy prompt (inMode s (m .mode)) (m .action)
+turnOf prompt s byte = let m : Meaning = meaning (s .profile) (s .mode) byte in turnBy prompt (inMode s (m .mode)) (m .action)
 
--- the fresh state, and the state after keys: a session is the fold of its keys (3.3)
-abbrev pub freshState : State
-freshState = cleared noEntries
+-- the fresh state, and the state after keys: a session is the fold of its keys (2.3, 2.23, 3.3)
+abbrev pub freshState : Profile → State
+freshState profile = record { line = []; cursor = 0; mode = Typing; profile = profile; history = noEntries }
 
 unfoldable pub afterKeys : List ℕ → State → List ℕ → State
 afterKeys prompt s [] = s
 afterKeys prompt s (byte ∷ keys) = afterKeys prompt (turnOf prompt s byte .after) keys
+
+-- the bytes that keys show, one after the other
+unfoldable pub shownBy : List ℕ → State → List ℕ → List ℕ
+shownBy prompt s [] = []
+shownBy prompt s (byte ∷ keys) = turnOf prompt s byte .screen ++ shownBy prompt (turnOf prompt s byte .after) keys

@@ -37,7 +37,7 @@ impl Editor {
             };
         };
         let before = self;
-        self = Editor::recalled(history.recall(slots, number));
+        self = self.recalled(history.recall(slots, number));
         redraw(before, history, self, step.history, prompt, screen)
     }
 
@@ -56,10 +56,10 @@ impl Editor {
         let recalled = step.recalled;
         let before = self;
         let Recalled::Entry(number) = recalled else {
-            self = Editor::fresh();
+            self = self.emptied();
             return redraw(before, history, self, step.history, prompt, screen);
         };
-        self = Editor::recalled(history.recall(slots, number));
+        self = self.recalled(history.recall(slots, number));
         redraw(before, history, self, step.history, prompt, screen)
     }
 

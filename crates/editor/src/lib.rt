@@ -2,6 +2,7 @@
 mod arrows;
 mod drawing;
 mod line;
+mod placing;
 mod pressing;
 mod saving;
 mod typing;

@@ -26,7 +26,7 @@ fn is_good_prompt(prompt: &[u8]) -> bool
 }
 
 impl Editor {
-    // Whether line and history are good.
+    // Whether editor and history are good.
     fn is_good_with(self, history: History, slots: &[u8]) -> bool
         ensures { λ r. ⌜ r ≡ goodState self history (now (slots .entry)) ⌝ }
     {
@@ -63,6 +63,9 @@ impl Editor {
             Action::Down => self.down(history, slots, prompt, screen),
             Action::Right => self.right(history, screen),
             Action::Left => self.left(history, screen),
+            Action::Home => self.go_to(history, 0, prompt, screen),
+            Action::End => self.go_to(history, self.length, prompt, screen),
+            Action::Delete => self.delete_key(history, prompt, screen),
         }
     }
 
@@ -82,7 +85,8 @@ impl Editor {
     {
         let before = self;
         let mode = self.mode;
-        let meant = meaning_of(mode, byte);
+        let profile = self.profile;
+        let meant = meaning_of(profile, mode, byte);
         let action = meant.action;
         let next = meant.mode;
         self = self.in_mode(next);

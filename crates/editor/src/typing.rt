@@ -49,7 +49,7 @@ impl Editor {
         let typed = self.line;
         let offered = offer(history, slots, shown_part(&typed[..n]));
         push(&typed[..n], line, 0);
-        self = Editor::fresh();
+        self = self.emptied();
         KeyAnswer {
             editor: self,
             history: offered,

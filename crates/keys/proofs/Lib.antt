@@ -2,3 +2,6 @@
 pub mod Ranges
 pub mod Awaiting
 pub mod Modes
+pub mod Grammar
+pub mod Reached
+pub mod Examples

@@ -1,28 +1,15 @@
-// What a key means: a byte, where typing goes on or a sequence has begun, to an action and to what is waited for after it.
+// What a key means: a byte, by the profile and by what the keys before it began, to an action and to what is waited for after it.
 ghost use mathlib.Core.Path.{_≡_};
-ghost use Rattle.keys.specs.Keys.{doing, awaiting, typed, escaped, sequenced, meaning};
-
-// What the keys before this one began.
-pub enum Mode {
-    Typing,
-    // ESC has come.
-    Escape,
-    // ESC `[` has come.
-    Sequence,
-}
-
-pub enum Action {
-    Nothing,
-    Enter,
-    // The byte before the cursor goes.
-    Erase,
-    // A byte comes at the cursor.
-    Insert(u8),
-    Up,
-    Down,
-    Right,
-    Left,
-}
+ghost use Rattle.keys.specs.Keys.{doing, awaiting, typed, begun, escaped, awaitingMore, controlled, meaning};
+use super::control::arrow_of;
+use super::control::ended;
+use super::control::further;
+use super::standing::Action;
+use super::standing::LONGEST;
+use super::standing::Mode;
+use super::standing::Profile;
+use super::standing::Progress;
+use super::standing::unread;
 
 pub struct Meaning {
     pub action: Action,
@@ -63,36 +50,55 @@ fn typed(byte: u8) -> Meaning
     }
 }
 
-// The byte after ESC: `[` is waited for, and any other byte is swallowed.
-fn escaped(byte: u8) -> Meaning
-    ensures { λ r. ⌜ r ≡ escaped byte ⌝ }
+// What ESC `[` begins.
+fn begun(profile: Profile) -> Mode
+    ensures { λ r. ⌜ r ≡ begun profile ⌝ }
+{
+    match profile {
+        Profile::Rust => Mode::Sequence,
+        Profile::Ecma48 => Mode::Control(unread()),
+    }
+}
+
+// The byte after ESC: `[` begins a sequence, and any other byte is swallowed.
+fn escaped(profile: Profile, byte: u8) -> Meaning
+    ensures { λ r. ⌜ r ≡ escaped profile byte ⌝ }
 {
     match byte {
-        0x5B => awaiting(Mode::Sequence),
+        0x5B => awaiting(begun(profile)),
         _ => doing(Action::Nothing),
     }
 }
 
-// The byte after ESC `[`: an arrow, or swallowed.
-fn sequenced(byte: u8) -> Meaning
-    ensures { λ r. ⌜ r ≡ sequenced byte ⌝ }
+// A byte of a control sequence that is not its final one: waited on, or the last that is read of it.
+fn awaiting_more(progress: Progress, byte: u8) -> Meaning
+    ensures { λ r. ⌜ r ≡ awaitingMore progress byte ⌝ }
+{
+    if LONGEST <= progress.read {
+        return doing(Action::Nothing);
+    }
+    awaiting(Mode::Control(further(progress, byte)))
+}
+
+// The next byte of a control sequence: a final one acts, and a byte that cannot be in one ends it too.
+fn controlled(progress: Progress, byte: u8) -> Meaning
+    ensures { λ r. ⌜ r ≡ controlled progress byte ⌝ }
 {
     match byte {
-        0x41 => doing(Action::Up),
-        0x42 => doing(Action::Down),
-        0x43 => doing(Action::Right),
-        0x44 => doing(Action::Left),
+        0x20..=0x3F => awaiting_more(progress, byte),
+        0x40..=0x7E => doing(ended(progress.parameter, byte)),
         _ => doing(Action::Nothing),
     }
 }
 
-// What a byte means in a mode.
-pub fn meaning_of(mode: Mode, byte: u8) -> Meaning
-    ensures { λ r. ⌜ r ≡ meaning mode byte ⌝ }
+// What a byte means in a profile and a mode. After the original's ESC `[` one byte is read, an arrow or swallowed.
+pub fn meaning_of(profile: Profile, mode: Mode, byte: u8) -> Meaning
+    ensures { λ r. ⌜ r ≡ meaning profile mode byte ⌝ }
 {
     match mode {
         Mode::Typing => typed(byte),
-        Mode::Escape => escaped(byte),
-        Mode::Sequence => sequenced(byte),
+        Mode::Escape => escaped(profile, byte),
+        Mode::Sequence => doing(arrow_of(byte)),
+        Mode::Control(progress) => controlled(progress, byte),
     }
 }

@@ -16,7 +16,9 @@ use Rattle.history.specs.Answer.{recordBy, Addition, number as addNumber, value
 use Rattle.history.specs.declared.stepping.History.{History}
 use Rattle.history.specs.declared.adding.Added.{Added}
 use Rattle.history.specs.declared.adding.Added.the-variants.{Done, BadState as BadHistory, TooLong, IllFormed}
-use Rattle.keys.specs.declared.meaning.Mode.the-variants.{Typing}
+use Rattle.keys.specs.declared.standing.Profile.the-variants.{Rust}
+use Rattle.keys.specs.declared.standing.Mode.the-variants.{Typing}
+use Rattle.keys.specs.Modes.{profileNumber}
 use Rattle.editor.specs.declared.drawing.KeyAnswer.{KeyAnswer}
 use Rattle.editor.specs.declared.drawing.Pressed.{Pressed}
 use Rattle.editor.specs.declared.drawing.Pressed.the-variants.{Shown, Entered, Dropped, BadState, BadPrompt, NoRoom}
@@ -24,7 +26,7 @@ use Rattle.editor.specs.declared.line.Editor.{Editor}
 use Rattle.editor.specs.Line.{limit, goodLine}
 use Rattle.editor.specs.Answer.{stateOf, goodPrompt, refused, number as keyNumber, value as keyValue, kind as keyKind, beside as keyBeside}
 use Rattle.editor.proofs.Lines.{good-line, length-of}
-use Rattle.editor.proofs.States.{good-parts}
+use Rattle.editor.proofs.States.{good-parts, editor-parts, state-parts}
 use Rattle.editor.proofs.Fine.{stays-good}
 use Rattle.state.specs.State.{savedOf, editorIn, historyIn, goodSaved}
 use Rattle.state.specs.Calls.{Beginning, turnIn, number as begunNumber, value as begunValue}
@@ -46,7 +48,7 @@ use Rattle.shell.specs.declared.answer.Ran.the-variants.{NoRoom as RunNoRoom}
 use Rattle.shell.specs.declared.builtin.Builtin.the-variants.{Help}
 use Rattle.shell.proofs.Answers.{naming}
 use Rattle.rissemat.specs.Packed.{answered, plain}
-use Rattle.rissemat.specs.Calls.{WordsCall, QuoteCall, FreshCall, KeyCall, keyTold, AddCall, TreeCall, ParseCall, HelpCall, RunCall, runTold}
+use Rattle.rissemat.specs.Calls.{WordsCall, QuoteCall, FreshWithCall, FreshCall, KeyCall, keyTold, AddCall, TreeCall, ParseCall, HelpCall, RunCall, runTold}
 use Rattle.rissemat.proofs.Unpacking.{value-back, number-back, kind-back, second-back}
 use Rattle.rissemat.proofs.Packings.{words-packs, quote-packs, fresh-packs, key-packs, add-packs, tree-packs, parse-packs, help-packs, run-packs}
 use Rattle.rust.specs.Tree.{Commands}
@@ -92,7 +94,9 @@ packs n v left t p e f = record { answer = f ∙ ap (λ (x : Answered _). plain 
 pub record TellTables : Type 0 where
   pub words : (line out : List ℕ) (p : ℕ) (left : List ℕ) → WordsCall line out p left → Packs (tokenizeTable line out) p left
   pub quote : (words out : List ℕ) (p : ℕ) (left : List ℕ) → QuoteCall words out p left → Packs (quoteTable words out) p left
-  pub fresh : (state slots : List ℕ) (p : ℕ) (state′ slots′ : List ℕ) → FreshCall state slots p state′ slots′ → Packs (beginTable state slots) p (state′, slots′)
+  pub fresh : (state slots : List ℕ) (p : ℕ) (state′ slots′ : List ℕ) → FreshCall state slots p state′ slots′ → Packs (beginTable (profileNumber Rust) state slots) p (state′, slots′)
+  pub fresh-with : (profile : ℕ) (state slots : List ℕ) (p : ℕ) (state′ slots′ : List ℕ) → FreshWithCall profile state slots p state′ slots′
+      → Packs (beginTable profile state slots) p (state′, slots′)
   pub key : (state slots prompt : List ℕ) (byte : ℕ) (line screen : List ℕ) (p : ℕ) (state′ slots′ line′ screen′ : List ℕ)
       → KeyCall state slots prompt byte line screen p state′ slots′ line′ screen′ → PacksKey (pressTable state slots prompt byte line screen) p (state′, slots′, line′, screen′)
   pub history-add : (state slots text : List ℕ) (p : ℕ) (state′ slots′ : List ℕ) → AddCall state slots text p state′ slots′ → Packs (savedAddTable state slots text) p (state′, slots′)
@@ -121,9 +125,8 @@ tell-tables =
     record {
       words = λ line out p left c. let b = words-packs line out p left c in packs _ _ left _ p (tokenize-tells line out (b .0) left (b .1)) (b .2);
       quote = λ words out p left c. let b = quote-packs words out p left c in packs _ _ left _ p (quote-tells words out (b .0) left (b .1)) (b .2);
-      fresh = λ state slots p state′ slots′ c.
-          let b = fresh-packs state slots p state′ slots′ c in
-          packs _ _ (state′, slots′) _ p (begin-tells state slots (b .0) state′ slots′ (b .1)) (b .2);
+      fresh = begins (profileNumber Rust);
+      fresh-with = begins;
       key = λ state slots prompt byte line screen p state′ slots′ line′ screen′ c.
           let b = key-packs state slots prompt byte line screen p state′ slots′ line′ screen′ c in
           packs-key (b .0) (state′, slots′, line′, screen′) _ p (press-tells state slots prompt byte line screen (b .0) state′ slots′ line′ screen′ (b .1)) (b .2);
@@ -135,10 +138,17 @@ tell-tables =
       help = λ image line out p left c. let b = help-packs image line out p left c in packs _ _ left _ p (help-tells image line out (b .0) left (b .1)) (b .2);
       run = λ image line out p left c. let b = run-packs image line out p left c in packs-run (b .0) left _ p (run-tells image line out (b .0) left (b .1)) (b .2);
     }
+  where
+    begins : (profile : ℕ) (state slots : List ℕ) (p : ℕ) (state′ slots′ : List ℕ) → FreshWithCall profile state slots p state′ slots′
+        → Packs (beginTable profile state slots) p (state′, slots′)
+    begins profile state slots p state′ slots′ c =
+        let b = fresh-packs profile state slots p state′ slots′ c in
+        packs _ _ (state′, slots′) _ p (begin-tells profile state slots (b .0) state′ slots′ (b .1)) (b .2)
 
 -- DEMAND 1, what lasts: no sequence of these calls reaches a bad state; a byte typed into a full line is answered kind 2, and nothing changes
 pub data ReachedByCalls : List ℕ → List ℕ → Type 0 where
   by-fresh : {state slots state′ slots′ : List ℕ} → FreshCall state slots 0 state′ slots′ → ReachedByCalls state′ slots′
+  by-fresh-with : {profile : ℕ} {state slots state′ slots′ : List ℕ} → FreshWithCall profile state slots 0 state′ slots′ → ReachedByCalls state′ slots′
   by-key : {state slots prompt line screen state′ slots′ line′ screen′ : List ℕ} {byte p : ℕ} → ReachedByCalls state slots
       → KeyCall state slots prompt byte line screen p state′ slots′ line′ screen′ → ReachedByCalls state′ slots′
   by-history-add : {state slots text state′ slots′ : List ℕ} {p : ℕ} → ReachedByCalls state slots → AddCall state slots text p state′ slots′ → ReachedByCalls state′ slots′
@@ -153,9 +163,13 @@ ready-of Ready e = refl
 ready-of (NoSpace n) e = absurd (omega arith)
 ready-of NoState e = absurd (omega arith)
 
+fresh-reached : (profile : ℕ) {state slots state′ slots′ : List ℕ} → FreshWithCall profile state slots 0 state′ slots′ → Reached state′ slots′
+fresh-reached profile {state} {slots} {state′} {slots′} c =
+    let b = fresh-packs profile state slots 0 state′ slots′ c in begun (subst (λ (r : Begun). Beginning profile state slots r state′ slots′) (ready-of (b .0) (b .2)) (b .1))
+
 reached : {state slots : List ℕ} → ReachedByCalls state slots → Reached state slots
-reached (by-fresh {state} {slots} {state′} {slots′} c) =
-    let b = fresh-packs state slots 0 state′ slots′ c in begun (subst (λ (r : Begun). Beginning state slots r state′ slots′) (ready-of (b .0) (b .2)) (b .1))
+reached (by-fresh c) = fresh-reached (profileNumber Rust) c
+reached (by-fresh-with {profile} c) = fresh-reached profile c
 reached (by-key {state} {slots} {prompt} {line} {screen} {state′} {slots′} {line′} {screen′} {byte} {p} r c) =
     key-reached (reached r) (key-packs state slots prompt byte line screen p state′ slots′ line′ screen′ c .1)
 reached (by-history-add {state} {slots} {text} {state′} {slots′} {p} r c) = add-reached (reached r) (add-packs state slots text p state′ slots′ c .1)
@@ -221,9 +235,9 @@ pub record PacksAsRust (image : List ℕ) (tree : Commands) : Type 0 where
   pub helps : (line out : List ℕ) (p : ℕ) (left : List ℕ) → Fair line → HelpCall image line out p left → PacksHelp (showHelp tree (wordsBetween line)) out p left
   pub runs : (printable : ℕ → Bool) (line out : List ℕ) (p : ℕ) (left : List ℕ) → length line ≤ 1024 → QuotedAsIs printable tree line → RunCall image line out p left
       → let seen : Seen = seenOf (enter printable tree line) in Writes (seenBytes seen) out left (PacksSeen seen p) (p ≡ plain 9 (length (seenBytes seen)))
-  -- a key, and a text added, in a good state and not refused: what the Rust's loop, and its add_command, make of what the bytes hold
+  -- a key in the Rust's profile, and a text added in either, in a good state and not refused: what the Rust's loop, and its add_command, make of what the bytes hold
   pub keys : (state slots prompt : List ℕ) (byte : ℕ) (line screen : List ℕ) (p : ℕ) (state′ slots′ line′ screen′ : List ℕ)
-      → KeyCall state slots prompt byte line screen p state′ slots′ line′ screen′ → goodSaved state slots ≡ true → numberIn p ≡ 0
+      → KeyCall state slots prompt byte line screen p state′ slots′ line′ screen′ → goodSaved state slots ≡ true → editorIn state .profile ≡ Rust → numberIn p ≡ 0
       → PacksTurn prompt (shellIn state slots) byte line screen p (shellIn state′ slots′) line′ screen′
   pub adds : (state slots text : List ℕ) (p : ℕ) (state′ slots′ : List ℕ) → AddCall state slots text p state′ slots′ → goodSaved state slots ≡ true → numberIn p ≡ 0
       → addCommand (commandsIn state slots) text ≡ commandsIn state′ slots′
@@ -263,15 +277,15 @@ line-whole : (e : Editor) → goodLine e ≡ true → length (e .line) ≡ 255
 line-whole e g = length-of e (good-line e g) .0
 
 module _ (state slots prompt : List ℕ) (byte : ℕ) (line screen : List ℕ) (p : ℕ) (state′ slots′ line′ screen′ : List ℕ) where
-  key-as-rust : KeyCall state slots prompt byte line screen p state′ slots′ line′ screen′ → goodSaved state slots ≡ true → numberIn p ≡ 0
+  key-as-rust : KeyCall state slots prompt byte line screen p state′ slots′ line′ screen′ → goodSaved state slots ≡ true → editorIn state .profile ≡ Rust → numberIn p ≡ 0
       → PacksTurn prompt (shellIn state slots) byte line screen p (shellIn state′ slots′) line′ screen′
-  key-as-rust c fine zero =
+  key-as-rust c fine own zero =
       let b = key-packs state slots prompt byte line screen p state′ slots′ line′ screen′ c in
       let is = good-saved-parts state slots fine in
       let k : KeyAnswer = keyFor state (turnIn state slots prompt byte) (b .0) in
       let saved : state′ ≡ savedOf (k .editor) (k .history) = key-saved state slots prompt byte line screen (b .0) state′ slots′ line′ screen′ (b .1) (is .0) in
       let by-value = key-by-value state slots prompt byte line screen (b .0) state′ slots′ line′ screen′ (b .1) (is .0) in
-      let d = key (editorIn state) (historyIn state) slots prompt byte line screen k slots′ line′ screen′ by-value (taken-key (b .0) p (b .2) zero) (is .1) in
+      let d = key (editorIn state) (historyIn state) slots prompt byte line screen k slots′ line′ screen′ by-value (taken-key (b .0) p (b .2) zero) (is .1) own in
       let stays = stays-good (editorIn state) (historyIn state) slots prompt byte line screen k slots′ line′ screen′ (is .1) by-value in
       let whole = line-whole (k .editor) (good-parts (k .editor) (k .history) slots′ stays .0) in
       record {
@@ -285,11 +299,12 @@ module _ (state slots text : List ℕ) (p : ℕ) (state′ slots′ : List ℕ) 
   add-as-rust c fine zero =
       let b = add-packs state slots text p state′ slots′ c in
       let is = good-saved-parts state slots fine in
-      let fair = good-parts (editorIn state) (historyIn state) slots (is .1) .0 in
+      let fair = state-parts (editorIn state) (historyIn state) slots (is .1) .0 in
+      let line = editor-parts (editorIn state) fair .1 in
       let done = done-add (b .0) p (b .2) zero in
       let after : Added → History = λ x. recordBy x (historyIn state) (offered text (journalOf (historyIn state) slots)) in
       let held : historyIn state′ ≡ after Done =
-      ap historyIn (add-saved state slots text (b .0) state′ slots′ (b .1) (is .0) fair) ∙ history-saved (editorIn state) (after (b .0)) (line-whole (editorIn state) fair) ∙ ap after done in
+      ap historyIn (add-saved state slots text (b .0) state′ slots′ (b .1) (is .0) fair) ∙ history-saved (editorIn state) (after (b .0)) (line-whole (editorIn state) line) ∙ ap after done in
       add-command (historyIn state) slots text (after Done) slots′
       (subst (λ (x : Added). Addition (historyIn state) slots text (after x) x slots′) done (add-by-value state slots text (b .0) state′ slots′ (b .1) (is .0) fair))
       ∙ ap (λ (h : History). original (journalOf h slots′)) (sym held)

@@ -21,12 +21,14 @@ use Rattle.editor.specs.declared.line.Editor.{Editor}
 use Rattle.editor.specs.declared.drawing.KeyAnswer.{KeyAnswer}
 use Rattle.editor.specs.declared.drawing.Pressed.{Pressed}
 use Rattle.editor.specs.declared.drawing.Pressed.the-variants.{BadState, BadPrompt, NoRoom}
-use Rattle.editor.specs.Line.{limit, freshEditor}
+use Rattle.keys.specs.Modes.{isProfile}
+use Rattle.state.specs.declared.calls.Begun.the-variants.{BadState as NoState}
+use Rattle.editor.specs.Line.{limit}
 use Rattle.editor.specs.Turns.{Kind, shows, enters, drops, Turn, turnOf}
 use Rattle.editor.specs.Answer.{stateOf, editorOf, historyOf, slotsOf, goodState, goodPrompt, taken, turnAnswer, keyAnswer, refused, Pressing, number as pressedNumber, value as pressedValue, kindNumber, kind as pressedKind, beside as pressedBeside}
 use Rattle.editor.proofs.Called.{counted}
 use Rattle.state.specs.State.{stateSize, savedOf, editorIn, historyIn, goodSaved}
-use Rattle.state.specs.Calls.{beginAnswer, isReady, Beginning, turnIn, pressAnswer, savedAfter, SavedKey, savedAnswer, stateBy, SavedAdd, number as begunNumber, value as begunValue}
+use Rattle.state.specs.Calls.{beginAnswer, isReady, freshSaved, Beginning, turnIn, pressAnswer, savedAfter, SavedKey, savedAnswer, stateBy, SavedAdd, number as begunNumber, value as begunValue}
 use Rattle.state.specs.declared.calls.Begun.{Begun}
 use Rattle.promises.proofs.Tables.{Answered, told, Row, row, first, lacks, either, split, telling, pair}
 
@@ -224,25 +226,31 @@ saved-add-tells state slots text r state′ slots′ p =
     by true false false = refl
     by false l w = refl
 
--- BEGIN: 9 for a buffer that is too short, the state's first; then 12 for one that is too long, since another length is no state's
-unfoldable pub beginTable : List ℕ → List ℕ → Answered (List ℕ × List ℕ)
-beginTable state slots =
+-- BEGIN: 12 for a number that is no profile's; then buffer by buffer, the state's first, 9 for one that is too short and 12 for one that is too long, since another length is no state's
+unfoldable pub beginTable : ℕ → List ℕ → List ℕ → Answered (List ℕ × List ℕ)
+beginTable profile state slots =
     first
-    (row 9 (ltb (length state) 260) 260 (state, slots)
+    (row 12 (not (isProfile profile)) 0 (state, slots)
+    ∷ row 9 (ltb (length state) 263) 263 (state, slots)
+    ∷ row 12 (ltb 263 (length state)) 0 (state, slots)
     ∷ row 9 (ltb (length slots) 25600) 25600 (state, slots)
-    ∷ row 12 (ltb 260 (length state)) 0 (state, slots)
     ∷ row 12 (ltb 25600 (length slots)) 0 (state, slots)
     ∷ [])
-    (told 0 0 (savedOf freshEditor (recordOf noEntries), journalSlots noEntries))
+    (told 0 0 (freshSaved profile, journalSlots noEntries))
 
-pub begin-tells : (state slots : List ℕ) (r : Begun) (state′ slots′ : List ℕ) → Beginning state slots r state′ slots′
-    → told (begunNumber r) (begunValue r) (state′, slots′) ≡ beginTable state slots
+pub begin-tells : (profile : ℕ) (state slots : List ℕ) (r : Begun) (state′ slots′ : List ℕ) → Beginning profile state slots r state′ slots′
+    → told (begunNumber r) (begunValue r) (state′, slots′) ≡ beginTable profile state slots
 unfolding beginTable first beginAnswer stateSize editorSize historySize
-begin-tells state slots r state′ slots′ p =
+begin-tells profile state slots r state′ slots′ p =
     ap (told (begunNumber r) (begunValue r)) (pair (p .kept) (p .held))
     ∙ ap tells (p .answer)
-    ∙ either tells (ltb (length state) 260) _ _ _ _ refl
-    (either tells (ltb (length slots) 25600) _ _ _ _ refl (either tells (ltb 260 (length state)) _ _ _ _ refl (either tells (ltb 25600 (length slots)) _ _ _ _ refl refl)))
+    ∙ known (isProfile profile) _ _
+    (either tells (ltb (length state) 263) _ _ _ _ refl
+    (either tells (ltb 263 (length state)) _ _ _ _ refl (either tells (ltb (length slots) 25600) _ _ _ _ refl (either tells (ltb 25600 (length slots)) _ _ _ _ refl refl))))
   where
     tells : Begun → Answered (List ℕ × List ℕ)
-    tells x = told (begunNumber x) (begunValue x) (cond (isReady x) (savedOf freshEditor (recordOf noEntries)) state, cond (isReady x) (journalSlots noEntries) slots)
+    tells x = told (begunNumber x) (begunValue x) (cond (isReady x) (freshSaved profile) state, cond (isReady x) (journalSlots noEntries) slots)
+
+    known : (t : Bool) (x : Begun) (y : Answered (List ℕ × List ℕ)) → tells x ≡ y → tells (cond t x NoState) ≡ cond (not t) (told 12 0 (state, slots)) y
+    known true x y q = q
+    known false x y q = refl

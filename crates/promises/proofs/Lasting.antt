@@ -1,8 +1,10 @@
--- Demand 1, what lasts: no sequence of calls from fresh reaches a bad state; a byte typed into a full line is dropped; two further bytes bring typing back.
+-- Demand 1, what lasts: no sequence of calls from fresh reaches a bad state; a byte typed into a full line is dropped; two further bytes bring typing back, in the profile of ECMA-48
+-- seventeen.
 use Prim.Native.Nat.{ℕ, _≤_}
 use mathlib.Core.Path.{_≡_, refl, ap, _∙_}
 use mathlib.Core.Bool.{Bool, true, false, cond}
-use mathlib.Core.List.{List, []}
+use mathlib.Core.List.{List}
+use native.Mathlib.Omega.{arith}
 use lib.Dec.{ltb}
 use lib.ListN.{length}
 use borrow.Author.Tests.{ltb-true, ltb-false}
@@ -11,7 +13,10 @@ use Rattle.tree.specs.declared.check.Checked.the-variants.{Good, BadFrame}
 use Rattle.tree.specs.Growth.{admits}
 use Rattle.history.specs.Journal.{noEntries, recordOf, good, slotsOf as journalSlots}
 use Rattle.history.specs.declared.stepping.History.{History}
-use Rattle.keys.specs.declared.meaning.Mode.the-variants.{Typing}
+use Rattle.keys.specs.declared.standing.Profile.{Profile}
+use Rattle.keys.specs.declared.standing.Profile.the-variants.{Rust}
+use Rattle.keys.specs.declared.standing.Mode.the-variants.{Typing}
+use Rattle.keys.specs.Modes.{patience}
 use Rattle.editor.specs.declared.line.Editor.{Editor}
 use Rattle.editor.specs.declared.drawing.KeyAnswer.{KeyAnswer}
 use Rattle.editor.specs.declared.drawing.Pressed.{Pressed}
@@ -20,7 +25,7 @@ use Rattle.editor.specs.Line.{limit, freshEditor}
 use Rattle.editor.specs.Turns.{State}
 use Rattle.editor.specs.Answer.{stateOf, goodState, goodPrompt, refused, Pressing}
 use Rattle.editor.proofs.Fine.{fine-of, fine-good, turn-fine, stays-good}
-use Rattle.editor.proofs.Called.{dropped, typing-back}
+use Rattle.editor.proofs.Called.{dropped, Presses, no-key, taken-key, typing-back}
 use Rattle.editor.proofs.Lasting.{Reached as ReachedByValue, by-fresh, never-reached-bad as never-reached-bad-by-value}
 use Rattle.state.specs.State.{editorIn, goodSaved}
 use Rattle.state.specs.Calls.{SavedKey}
@@ -57,12 +62,19 @@ module _ (e : Editor) (h : History) (slots prompt : List ℕ) (byte : ℕ) (line
 
   -- (the same of a saved state: `full-line-saved`; of `rissemat_key`: Exported)
 
-  -- TYPING BACK: from every state, after two keys that are taken, neither of them ESC
-  pub back-to-typing : (prompt′ : List ℕ) (byte′ : ℕ) (line′ screen′ : List ℕ) (k′ : KeyAnswer) (slots₂ line₂ screen₂ : List ℕ)
+  -- TYPING BACK in the profile of the original: from every state, after two keys that are taken, neither of them ESC
+  pub back-to-typing : e .profile ≡ Rust → (prompt′ : List ℕ) (byte′ : ℕ) (line′ screen′ : List ℕ) (k′ : KeyAnswer) (slots₂ line₂ screen₂ : List ℕ)
       → Pressing (k .editor) (k .history) slots₁ prompt′ byte′ line′ screen′ k′ slots₂ line₂ screen₂
       → refused (k .answer) ≡ false → refused (k′ .answer) ≡ false → (byte ≡ 0x1B → ⊥) → (byte′ ≡ 0x1B → ⊥) → k′ .editor .mode ≡ Typing
-  back-to-typing prompt′ byte′ line′ screen′ k′ slots₂ line₂ screen₂ second =
-      typing-back e h slots prompt byte line screen k slots₁ line₁ screen₁ first prompt′ byte′ line′ screen′ k′ slots₂ line₂ screen₂ second
+  back-to-typing o prompt′ byte′ line′ screen′ k′ slots₂ line₂ screen₂ second t t′ n n′ =
+      typing-back e h slots 2 (k′ .editor) (k′ .history) slots₂ (rw o (omega arith))
+      (taken-key (taken-key no-key first t n) second t′ n′) .0
+
+-- TYPING BACK in every profile: from every state, after as many keys that are taken as the profile's patience, 2 or 17, none of them ESC, however many were refused between them. The
+-- profile is still the one that was chosen.
+pub back-to-typing-in : (e : Editor) (h : History) (slots : List ℕ) (n : ℕ) (e′ : Editor) (h′ : History) (slots′ : List ℕ)
+    → patience (e .profile) ≤ n → Presses e h slots n e′ h′ slots′ → (e′ .mode ≡ Typing) × (e′ .profile ≡ e .profile)
+back-to-typing-in = typing-back
 
 -- DROPPED, as `press` on a saved state answers it
 pub full-line-saved : (state slots prompt : List ℕ) (byte : ℕ) (line screen : List ℕ) (told : Pressed) (state′ slots′ line′ screen′ : List ℕ)
@@ -73,7 +85,7 @@ full-line-saved = dropped-saved
 
 -- NO BAD STATE in a session: what its lines and keys reach from `Session::fresh` and slots that hold no entry, each with buffers of its own, refused or not
 pub data ReachedInSession : Session → List ℕ → Type 0 where
-  begun : ReachedInSession fresh (journalSlots noEntries)
+  begun : (profile : Profile) → ReachedInSession (fresh profile) (journalSlots noEntries)
   by-line : {h : Session} {slots line image frame image′ frame′ : List ℕ} {r : Took} → ReachedInSession h slots → TakingLine h line image frame r image′ frame′
       → ReachedInSession (r .session) slots
   by-key : {h : Session} {image slots out slots′ out′ : List ℕ} {byte : ℕ} {r : SessionKey} → ReachedInSession h slots → PressingKey h image slots byte out r slots′ out′
@@ -130,7 +142,8 @@ key-good h image slots byte out r slots′ out′ p g = by (ltb (length out) key
         ∙ fine-good s (turn-fine prompt (stateOf (h .editor) (h .history) slots) byte (fine-of (h .editor) (h .history) slots g))
 
 pub never-bad-in-session : (h : Session) (slots : List ℕ) → ReachedInSession h slots → goodState (h .editor) (h .history) slots ≡ true
-never-bad-in-session _ _ begun = never-bad-by-value freshEditor (recordOf noEntries) (journalSlots noEntries) (by-fresh (record { state = refl; bytes = refl }))
+never-bad-in-session _ _ (begun profile) =
+    never-bad-by-value (freshEditor profile) (recordOf noEntries) (journalSlots noEntries) (by-fresh profile (record { state = refl; bytes = refl }))
 never-bad-in-session _ slots (by-line {h} {line = line} {image = image} {frame = frame} {image′ = image′} {frame′ = frame′} {r = r} m t) =
     line-good h slots line image frame image′ frame′ r t (never-bad-in-session h slots m)
 never-bad-in-session _ slots′ (by-key {h} {image} {slots} {out} {out′ = out′} {byte = byte} {r = r} m p) =

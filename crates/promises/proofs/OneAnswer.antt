@@ -4,8 +4,7 @@
 use Prim.Native.Nat.{ℕ}
 use mathlib.Core.Path.{_≡_, sym, ap, _∙_}
 use mathlib.Core.Bool.{cond}
-use mathlib.Core.List.{List, []}
-use lib.ListN.{length}
+use mathlib.Core.List.{List}
 use Rattle.frame.specs.House.{HouseRead, HouseWritten}
 use Rattle.frame.specs.declared.house.House.{House}
 use Rattle.frame.specs.declared.house.Lined.{Lined}
@@ -15,7 +14,7 @@ use Rattle.words.proofs.Answers.{one-answer as one-tokenize}
 use Rattle.quote.specs.Answer.{Quotation}
 use Rattle.quote.specs.declared.quoter.Quoted.{Quoted}
 use Rattle.quote.proofs.Answers.{one-answer as one-quote}
-use Rattle.history.specs.Journal.{noEntries, offered, recordOf, journalOf, slotsOf as journalSlots}
+use Rattle.history.specs.Journal.{noEntries, offered, journalOf, slotsOf as journalSlots}
 use Rattle.history.specs.Answer.{slotsBy, Addition}
 use Rattle.history.specs.declared.stepping.History.{History}
 use Rattle.history.specs.declared.adding.Added.{Added}
@@ -28,9 +27,10 @@ use Rattle.editor.specs.declared.drawing.KeyAnswer.{KeyAnswer}
 use Rattle.editor.specs.declared.drawing.Pressed.{Pressed}
 use Rattle.editor.specs.Answer.{refused, Pressing}
 use Rattle.editor.proofs.Always.{one-answer as one-key}
-use Rattle.editor.specs.Line.{freshEditor}
-use Rattle.state.specs.State.{savedOf, historyIn}
-use Rattle.state.specs.Calls.{isReady, Beginning, SavedKey, stateBy, SavedAdd}
+use Rattle.keys.specs.declared.standing.Profile.the-variants.{Rust}
+use Rattle.keys.specs.Modes.{profileNumber}
+use Rattle.state.specs.State.{historyIn}
+use Rattle.state.specs.Calls.{isReady, freshSaved, Beginning, SavedKey, stateBy, SavedAdd}
 use Rattle.state.specs.declared.calls.Begun.{Begun}
 use Rattle.parse.specs.Answer.{Parsing}
 use Rattle.parse.specs.declared.answer.Parsed.{Parsed}
@@ -44,7 +44,7 @@ use Rattle.shell.proofs.Answers.{one-answer as one-run}
 use Rattle.buffer.specs.Showing.{Showing}
 use Rattle.buffer.specs.declared.show.Shown.{Shown}
 use Rattle.buffer.proofs.Inking.{one-answer as one-show}
-use Rattle.rissemat.specs.Calls.{WordsCall, QuoteCall, FreshCall, KeyCall, AddCall, TreeCall, ParseCall, HelpCall, RunCall}
+use Rattle.rissemat.specs.Calls.{WordsCall, QuoteCall, FreshWithCall, FreshCall, KeyCall, AddCall, TreeCall, ParseCall, HelpCall, RunCall}
 use Rattle.tree.specs.declared.walk.Walk.{Walk}
 use Rattle.tree.specs.declared.walk.Step.{Step}
 use Rattle.tree.specs.Growth.{Grows}
@@ -119,11 +119,11 @@ key = one-key
 
 -- saved states: what is left is chosen by the answer, and the answers are the same
 module _ (state slots : List ℕ) (state₁ slots₁ state₂ slots₂ : List ℕ) where
-  pub begin : (r q : Begun) → Beginning state slots r state₁ slots₁ → Beginning state slots q state₂ slots₂ → (r ≡ q) × (state₁ ≡ state₂) × (slots₁ ≡ slots₂)
-  begin r q a b =
+  pub begin : (profile : ℕ) (r q : Begun) → Beginning profile state slots r state₁ slots₁ → Beginning profile state slots q state₂ slots₂ → (r ≡ q) × (state₁ ≡ state₂) × (slots₁ ≡ slots₂)
+  begin profile r q a b =
       let e = one r q _ (a .answer) (b .answer) in (
         e,
-        a .kept ∙ ap (λ (x : Begun). cond (isReady x) (savedOf freshEditor (recordOf noEntries)) state) e ∙ sym (b .kept),
+        a .kept ∙ ap (λ (x : Begun). cond (isReady x) (freshSaved profile) state) e ∙ sym (b .kept),
         a .held ∙ ap (λ (x : Begun). cond (isReady x) (journalSlots noEntries) slots) e ∙ sym (b .held),
       )
 
@@ -135,8 +135,13 @@ module _ (state slots : List ℕ) (state₁ slots₁ state₂ slots₂ : List �
         a .held ∙ ap (λ (x : Added). slotsBy x slots (offered text (journalOf (historyIn state) slots))) e ∙ sym (b .held),
       )
 
+  -- (`rissemat_fresh` is this with the number of the original's profile)
+  pub rissemat-fresh-with : (profile : ℕ) (r q : ℕ) → FreshWithCall profile state slots r state₁ slots₁ → FreshWithCall profile state slots q state₂ slots₂
+      → (r ≡ q) × (state₁ ≡ state₂) × (slots₁ ≡ slots₂)
+  rissemat-fresh-with profile r q a b = (one _ _ _ (a .answer) (b .answer), one _ _ _ (a .kept) (b .kept), one _ _ _ (a .held) (b .held))
+
   pub rissemat-fresh : (r q : ℕ) → FreshCall state slots r state₁ slots₁ → FreshCall state slots q state₂ slots₂ → (r ≡ q) × (state₁ ≡ state₂) × (slots₁ ≡ slots₂)
-  rissemat-fresh r q a b = (one _ _ _ (a .answer) (b .answer), one _ _ _ (a .kept) (b .kept), one _ _ _ (a .held) (b .held))
+  rissemat-fresh = rissemat-fresh-with (profileNumber Rust)
 
   pub rissemat-history-add : (text : List ℕ) (r q : ℕ) → AddCall state slots text r state₁ slots₁ → AddCall state slots text q state₂ slots₂ → (r ≡ q) × (state₁ ≡ state₂) × (slots₁ ≡ slots₂)
   rissemat-history-add text r q a b = (one _ _ _ (a .answer) (b .answer), one _ _ _ (a .kept) (b .kept), one _ _ _ (a .held) (b .held))

@@ -63,6 +63,7 @@ use Rattle.history.specs.declared.adding.Added.the-variants.{Done}
 use Rattle.screen.specs.Decimal.{decimal, digitsValue}
 use Rattle.screen.specs.Redraw.{redraw}
 use Rattle.screen.proofs.Numerals.{Digits, decimal-one, decimal-value, decimal-digits, decimal-lead}
+use Rattle.keys.specs.declared.standing.Profile.the-variants.{Rust}
 use Rattle.editor.specs.declared.line.Editor.{Editor}
 use Rattle.editor.specs.declared.drawing.KeyAnswer.{KeyAnswer}
 use Rattle.editor.specs.Turns.{State, turnOf}
@@ -91,10 +92,10 @@ redraws = same-redraw
 
 -- THE LINE EDITOR (001, with 002's previous, next and clear_line_and_redraw): a key that is taken in a good state does what one turn of the Rust's loop does. It leaves the loop's line,
 -- cursor, mode and history, shows the bytes that the loop writes first, and at Enter gives back the line that the loop runs, with its length; what the loop does besides, running that line
--- and the prompt after it, is the caller's. `PressesAs` says so over the loop's events, which stand in its order.
+-- and the prompt after it, is the caller's. `PressesAs` says so over the loop's events, which stand in its order. This and the sessions below are about the key profile of the Rust.
 pub key : (e : Editor) (h : History) (slots prompt : List ℕ) (byte : ℕ) (line screen : List ℕ) (k : KeyAnswer) (slots′ line′ screen′ : List ℕ)
     → Pressing e h slots prompt byte line screen k slots′ line′ screen′ → refused (k .answer) ≡ false → goodState e h slots ≡ true
-    → PressesAs prompt (rustKey prompt (shellOf (stateOf e h slots)) byte) line screen (shellOf (stateOf (k .editor) (k .history) slots′)) (k .answer) line′ screen′
+    → e .profile ≡ Rust → PressesAs prompt (rustKey prompt (shellOf (stateOf e h slots)) byte) line screen (shellOf (stateOf (k .editor) (k .history) slots′)) (k .answer) line′ screen′
 key = presses-as
 
 -- WORDS, PARSE, HELP AND RUN (000), under the tree of 003 or any other: the Rust's functions stand beside their lines in the crate `rust`, on its own tree of nodes with
@@ -114,26 +115,26 @@ fs-tree = fs-same
 
 -- A SESSION: what a key prints are the frames of what one turn of the Rust's loop does, in its order: a 22 for the bytes that it writes, at Enter what the line that it runs comes to,
 -- 22, 21 or 23, then a 22 for the prompt; it is the last exactly if the process ends. The line, the order and the end are the loop's own, and a tree is asked for at Enter alone.
-pub session-key : (image : List ℕ) (f : Forest) (printable : ℕ → Bool) (s : State) → Fine s → (byte : ℕ) → (isEnter byte ≡ true → StandsFor image f)
+pub session-key : (image : List ℕ) (f : Forest) (printable : ℕ → Bool) (s : State) → Fine s → s .profile ≡ Rust → (byte : ℕ) → (isEnter byte ≡ true → StandsFor image f)
     → EachQuoted printable (commandsOf f) (turnFrom s byte .events)
     → (keyPrints (framesOf image) (turnOf prompt s byte) ≡ printedBy printable (commandsOf f) (turnFrom s byte .events))
     × (keyEnds (framesOf image) (turnOf prompt s byte) ≡ endedBy printable (commandsOf f) (turnFrom s byte .events))
 session-key = key-printed
 
 -- so do the keys of a line, one after the other, as the loop goes on
-pub session-keys : (f : Forest) (printable : ℕ → Bool) (s : Standing) → StandsFor (s .image) f → Fine (s .state) → (keys : List ℕ)
+pub session-keys : (f : Forest) (printable : ℕ → Bool) (s : Standing) → StandsFor (s .image) f → Fine (s .state) → s .state .profile ≡ Rust → (keys : List ℕ)
     → EachQuoted printable (commandsOf f) (turnsFrom (s .state) keys .events) → CourseAs printable (commandsOf f) (turnsFrom (s .state) keys) (pressKeys s keys)
 session-keys = keys-printed
 
 -- and so do whole lines of keys after a tree: a session prints what the loop does with all their bytes, up to where the process ends
-pub whole-session : (f : Forest) (printable : ℕ → Bool) (s : Standing) → StandsFor (s .image) f → Fine (s .state) → {lines : List (List ℕ)} {bytes : List ℕ} → KeyLines lines bytes
+pub whole-session : (f : Forest) (printable : ℕ → Bool) (s : Standing) → StandsFor (s .image) f → Fine (s .state) → s .state .profile ≡ Rust → {lines : List (List ℕ)} {bytes : List ℕ} → KeyLines lines bytes
     → s .lines + length lines ≤ 65535 → EachQuoted printable (commandsOf f) (turnsFrom (s .state) bytes .events)
     → session s lines ≡ printedBy printable (commandsOf f) (turnsFrom (s .state) bytes .events)
 whole-session = session-printed
 
 -- and so does the call: what `press` leaves, with room and in a good state, are the loop's state and the house lines of those frames
 pub press : (h : Session) (image slots : List ℕ) (byte : ℕ) (out : List ℕ) (r : Press) (slots′ out′ : List ℕ) → PressingKey h image slots byte out r slots′ out′
-    → keyRoom ≤ length out → goodState (h .editor) (h .history) slots ≡ true → (f : Forest) → (isEnter byte ≡ true → StandsFor (imageOf h image) f)
+    → keyRoom ≤ length out → goodState (h .editor) (h .history) slots ≡ true → h .editor .profile ≡ Rust → (f : Forest) → (isEnter byte ≡ true → StandsFor (imageOf h image) f)
     → (printable : ℕ → Bool) → EachQuoted printable (commandsOf f) (turnFrom (stateOf (h .editor) (h .history) slots) byte .events)
     → PrintsAs printable (commandsOf f) (turnFrom (stateOf (h .editor) (h .history) slots) byte) out (shellOf (stateOf (r .session .editor) (r .session .history) slots′)) (r .answer) out′
 press = press-printed

@@ -2,13 +2,14 @@
 use Prim.Native.Nat.{ℕ, _≤_, _<_}
 use mathlib.Core.Path.{_≡_, ap, _∙_}
 use mathlib.Core.Bool.{true, false}
-use mathlib.Core.List.{List, []}
+use mathlib.Core.List.{List}
 use lib.ListN.{length}
 use Rattle.buffer.proofs.Choices.{then-is}
 use Rattle.tree.specs.Rules.{checkTree}
 use Rattle.tree.specs.declared.check.Checked.the-variants.{Good, BadFrame}
 use Rattle.history.specs.Journal.{noEntries, slotsOf as journalSlots}
 use Rattle.editor.specs.Answer.{goodState}
+use Rattle.keys.specs.declared.standing.Profile.{Profile}
 use Rattle.session.specs.Lines.{Standing, beginning, takeLine, pressKey}
 use Rattle.session.specs.Calls.{fresh, TakingLine, imageOf, isEnter, treeBefore, Laid, Kept, PressingKey, RefusingLine}
 use Rattle.session.specs.Held.{Holds}
@@ -66,7 +67,7 @@ pub refuse-9 : (n : ℕ) (out : List ℕ) (r : Printing) (out′ : List ℕ) →
 refuse-9 n out r out′ p e = (ap number (p .short e .0), ap value (p .short e .0), p .short e .1)
 
 -- FROM FRESH: a session that is held stays held, and each line and each key is answered as the definitions say
-pub begins : (image : List ℕ) → Holds beginning fresh image (journalSlots noEntries)
+pub begins : (profile : Profile) (image : List ℕ) → Holds (beginning profile) (fresh profile) image (journalSlots noEntries)
 begins = holds-fresh
 
 module _ (s : Standing) (h : Session) (image slots : List ℕ) (k : Holds s h image slots) where
@@ -78,15 +79,16 @@ module _ (s : Standing) (h : Session) (image slots : List ℕ) (k : Holds s h im
       → Laid (pressKey s byte .prints) (pressKey s byte .ends) out (r .answer) out′ × Holds (pressKey s byte .after) (r .session) image slots′
   keys = key-held s h image slots k
 
--- THE PROGRAM'S BYTES: `console bytes` is all that is written for all that is read, bytes cut into lines, the lines a session, a house line a frame. A stream that
+-- THE PROGRAM'S BYTES: `console profile bytes` is all that is written for all that is read, bytes cut into lines, the lines a session, a house line a frame. A stream that
 -- begins with slots of zeros stands at the start and is one that a step can be made of, and each step leaves one (`Stepped`).
-pub stream-begins : (line image : List ℕ) → length line ≡ lineRoom → length image ≡ 32768 → Sound starting line image (journalSlots noEntries) × (standOf starting line image (journalSlots noEntries) ≡ start)
-stream-begins line image l i = (start-sound line image l i, start-stands line image)
+pub stream-begins : (profile : Profile) (line image : List ℕ) → length line ≡ lineRoom → length image ≡ 32768
+    → Sound (starting profile) line image (journalSlots noEntries) × (standOf (starting profile) line image (journalSlots noEntries) ≡ start profile)
+stream-begins profile line image l i = (start-sound profile line image l i, start-stands profile line image)
 
 -- a step prints what the definition prints next, whatever bytes may follow the piece, and what is still to be printed then is printed from where it leads
 pub step-next : (room : ℕ) (s : Stand) (piece more : List ℕ) → Fit s → Comes s (stepBy room s piece) piece more
 step-next = step-comes
 
 -- steps of any size over pieces of any size, up to the session's end or the input's, write the whole of it
-pub program : (bytes out : List ℕ) → Run start bytes out → out ≡ console bytes
+pub program : (profile : Profile) (bytes out : List ℕ) → Run (start profile) bytes out → out ≡ console profile bytes
 program = whole

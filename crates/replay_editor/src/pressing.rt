@@ -2,6 +2,7 @@
 use editor::Editor;
 use editor::Pressed;
 use history::History;
+use keys::Profile;
 use libc::STDOUT_FILENO;
 use replay::line;
 
@@ -90,9 +91,9 @@ fn press(
 }
 
 // Presses keys one after the other, in the buffers that are lent, and writes the history that they leave.
-fn press_with(keys: &[u8], slots: &mut [u8], line: &mut [u8], screen: &mut [u8]) {
+fn press_with(profile: Profile, keys: &[u8], slots: &mut [u8], line: &mut [u8], screen: &mut [u8]) {
     let mut held = Held {
-        editor: Editor::fresh(),
+        editor: Editor::fresh(profile),
         history: History::fresh(),
     };
     let mut i = 0;
@@ -105,10 +106,10 @@ fn press_with(keys: &[u8], slots: &mut [u8], line: &mut [u8], screen: &mut [u8])
     io::write_all(STDOUT_FILENO, b"\n");
 }
 
-// Presses keys from the fresh state.
-pub fn press_all(keys: &[u8]) {
+// Presses keys from the fresh state of a profile.
+pub fn press_all(profile: Profile, keys: &[u8]) {
     let mut slots = [0u8; 25600];
     let mut line = [0u8; 255];
     let mut screen = [0u8; 512];
-    press_with(keys, &mut slots, &mut line, &mut screen);
+    press_with(profile, keys, &mut slots, &mut line, &mut screen);
 }

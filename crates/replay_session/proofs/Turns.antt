@@ -5,13 +5,14 @@ use mathlib.Core.List.{List}
 use native.Mathlib.Omega.{arith}
 use lib.ListN.{length, drop, length-drop}
 use Rattle.history.specs.Journal.{noEntries, slotsOf}
+use Rattle.keys.specs.declared.standing.Profile.{Profile}
 use Rattle.stream.specs.Bytes.{lineRoom}
 use Rattle.stream.specs.Held.{starting, Sound}
 use Rattle.stream.proofs.Standings.{start-sound}
 
 -- at the beginning
-pub begins : (line image slots : List ℕ) → length line ≡ lineRoom → length image ≡ 32768 → slots ≡ slotsOf noEntries → Sound starting line image slots
-begins line image slots l m s = rw s (start-sound line image l m)
+pub begins : (profile : Profile) (line image slots : List ℕ) → length line ≡ lineRoom → length image ≡ 32768 → slots ≡ slotsOf noEntries → Sound (starting profile) line image slots
+begins profile line image slots l m s = rw s (start-sound profile line image l m)
 
 -- what is taken of the rest of a piece lies within the piece
 pub within : (piece left : List ℕ) (took more : ℕ) → took ≤ length piece → left ≡ drop took piece → more ≤ length left → took + more ≤ length piece

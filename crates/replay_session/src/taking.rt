@@ -1,6 +1,7 @@
 // The loop of `console`: step over what is left of a piece, keep what is printed, and go on to the next piece when this one is taken and no key waits.
 use buffer::part;
 use buffer::rest;
+use keys::Profile;
 use replay::line::put_all;
 use stream::Stream;
 use stream::finish;
@@ -103,8 +104,10 @@ fn beyond(at: usize, size: usize, end: usize) -> usize
     at + size
 }
 
-// All pieces of a session, of so many bytes each: puts what is printed into the answer, and returns how many bytes that is.
+// All pieces of a session, of so many bytes each, with keys read as the profile has them: puts what is printed into the answer, and returns how many bytes
+// that is.
 pub fn take_all(
+    profile: Profile,
     session: &[u8],
     size: usize,
     line: &mut [u8],
@@ -116,7 +119,7 @@ pub fn take_all(
     requires { ⌜ (length (now line) ≡ lineRoom) × (length (now image) ≡ 32768) × (now slots ≡ slotsOf noEntries) × (0 < size) × (7 ≤ length (now out)) ⌝ }
 {
     let mut told = Taken {
-        stream: Stream::start(),
+        stream: Stream::start(profile),
         took: 0,
         printed: 0,
     };

@@ -1,5 +1,6 @@
 // The ways by which a session is replayed: in pieces of 1, 7, 64 and 1,000 bytes and all at once, and with room for what one key may print or two.
 use crate::taking::take_all;
+use keys::Profile;
 use stream::blank_image;
 use stream::blank_line;
 use stream::blank_slots;
@@ -25,13 +26,14 @@ fn blank_wide() -> [u8; 262202]
 }
 
 // Replays a session in pieces of so many bytes: puts what it prints into the answer, and returns how many bytes that is.
-fn replay(session: &[u8], size: usize, out: &mut [u8], answer: &mut [u8]) -> usize
+fn replay(profile: Profile, session: &[u8], size: usize, out: &mut [u8], answer: &mut [u8]) -> usize
     requires { ⌜ (0 < size) × (7 ≤ length (now out)) ⌝ }
 {
     let mut line = blank_line();
     let mut image = blank_image();
     let mut slots = blank_slots();
     take_all(
+        profile,
         session,
         size,
         &mut line,
@@ -57,11 +59,11 @@ fn size_of(way: usize) -> usize
 }
 
 // Replays a session by the way of that number; the last has room for what two keys may print.
-pub fn replay_by(way: usize, session: &[u8], answer: &mut [u8]) -> usize {
+pub fn replay_by(way: usize, profile: Profile, session: &[u8], answer: &mut [u8]) -> usize {
     if way == WAYS - 1 {
         let mut wide = blank_wide();
-        return replay(session, size_of(way), &mut wide, answer);
+        return replay(profile, session, size_of(way), &mut wide, answer);
     }
     let mut out = blank_out();
-    replay(session, size_of(way), &mut out, answer)
+    replay(profile, session, size_of(way), &mut out, answer)
 }

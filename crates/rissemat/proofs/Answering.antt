@@ -2,21 +2,19 @@
 use Prim.Native.Nat.{ℕ}
 use mathlib.Core.Path.{_≡_, refl, sym, ap, _∙_}
 use mathlib.Core.Bool.{cond}
-use mathlib.Core.List.{List, []}
-use lib.ListN.{length}
+use mathlib.Core.List.{List}
 use Rattle.words.specs.declared.tokenizer.Tokens.{Tokens}
 use Rattle.words.specs.Answer.{Tokenized, number, value}
 use Rattle.quote.specs.declared.quoter.Quoted.{Quoted}
 use Rattle.quote.specs.Answer.{Quotation, number as quoteNumber, value as quoteValue}
 use Rattle.buffer.specs.Write.{over}
-use Rattle.history.specs.Journal.{noEntries, offered, recordOf, slotsOf as journalSlots, journalOf}
+use Rattle.history.specs.Journal.{noEntries, offered, slotsOf as journalSlots, journalOf}
 use Rattle.history.specs.Answer.{slotsBy, number as addNumber, value as addValue}
 use Rattle.history.specs.declared.adding.Added.{Added}
 use Rattle.editor.specs.declared.drawing.Pressed.{Pressed}
-use Rattle.editor.specs.Line.{freshEditor}
 use Rattle.editor.specs.Answer.{slotsOf, refused, number as keyNumber, value as keyValue, kind as keyKind, beside as keyBeside}
-use Rattle.state.specs.State.{savedOf, historyIn}
-use Rattle.state.specs.Calls.{Beginning, isReady, turnIn, savedAfter, SavedKey, stateBy, SavedAdd, number as beginNumber, value as beginValue}
+use Rattle.state.specs.State.{historyIn}
+use Rattle.state.specs.Calls.{freshSaved, Beginning, isReady, turnIn, savedAfter, SavedKey, stateBy, SavedAdd, number as beginNumber, value as beginValue}
 use Rattle.state.specs.declared.calls.Begun.{Begun}
 use Rattle.tree.specs.declared.check.Checked.{Checked}
 use Rattle.tree.specs.Rules.{checkTree}
@@ -31,7 +29,7 @@ use Rattle.shell.specs.declared.answer.Ran.the-variants.{Nothing, Text, Exit, H
 use Rattle.rissemat.specs.declared.pack.Parts.{Parts}
 use Rattle.rissemat.specs.Packed.{answered, plain}
 use Rattle.rissemat.specs.Inner.{Tells, runNumber, runSecond}
-use Rattle.rissemat.specs.Calls.{WordsCall, QuoteCall, FreshCall, KeyCall, keyTold, AddCall, TreeCall, ParseCall, HelpCall, RunCall, runTold}
+use Rattle.rissemat.specs.Calls.{WordsCall, QuoteCall, FreshWithCall, KeyCall, keyTold, AddCall, TreeCall, ParseCall, HelpCall, RunCall, runTold}
 
 -- the bits of an answer's parts
 sealed : (q : Parts) (p number value kind second : ℕ) → Tells q number value kind second → p ≡ answered (q .0) (q .1) (q .2) (q .3) → p ≡ answered number value kind second
@@ -45,12 +43,12 @@ pub quote-call : {words out left : List ℕ} {r : Quoted} (q : Parts) (p : ℕ) 
     → p ≡ answered (q .0) (q .1) (q .2) (q .3) → QuoteCall words out p left
 quote-call q p h t f = record { answer = sealed q p _ _ 0 0 t f ∙ ap (λ (x : Quoted). plain (quoteNumber x) (quoteValue x)) (h .answer); bytes = h .bytes }
 
-pub fresh-call : {state slots state′ slots′ : List ℕ} {r : Begun} (q : Parts) (p : ℕ) → Beginning state slots r state′ slots′ → Tells q (beginNumber r) (beginValue r) 0 0
-    → p ≡ answered (q .0) (q .1) (q .2) (q .3) → FreshCall state slots p state′ slots′
-fresh-call {state} {slots} q p h t f =
+pub fresh-call : {profile : ℕ} {state slots state′ slots′ : List ℕ} {r : Begun} (q : Parts) (p : ℕ) → Beginning profile state slots r state′ slots′ → Tells q (beginNumber r) (beginValue r) 0 0
+    → p ≡ answered (q .0) (q .1) (q .2) (q .3) → FreshWithCall profile state slots p state′ slots′
+fresh-call {profile} {state} {slots} q p h t f =
     record {
       answer = sealed q p _ _ 0 0 t f ∙ ap (λ (x : Begun). plain (beginNumber x) (beginValue x)) (h .answer);
-      kept = h .kept ∙ ap (λ (x : Begun). cond (isReady x) (savedOf freshEditor (recordOf noEntries)) state) (h .answer);
+      kept = h .kept ∙ ap (λ (x : Begun). cond (isReady x) (freshSaved profile) state) (h .answer);
       held = h .held ∙ ap (λ (x : Begun). cond (isReady x) (journalSlots noEntries) slots) (h .answer);
     }
 
@@ -102,8 +100,8 @@ pub run-call : {image line out left : List ℕ} {r : Ran} (q : Parts) (p : ℕ) 
 run-call {r = r} q p h t f = record { answer = sealed q p _ _ _ _ t f ∙ run-told r ∙ ap runTold (h .answer); bytes = h .bytes }
 
 -- no second answer and no other bytes
-pub one-fresh : (state slots a b a′ b′ : List ℕ) (r r′ : ℕ) → FreshCall state slots r a b → FreshCall state slots r′ a′ b′ → (r ≡ r′) × (a ≡ a′) × (b ≡ b′)
-one-fresh state slots a b a′ b′ r r′ h k = (h .answer ∙ sym (k .answer), h .kept ∙ sym (k .kept), h .held ∙ sym (k .held))
+pub one-fresh : (profile : ℕ) (state slots a b a′ b′ : List ℕ) (r r′ : ℕ) → FreshWithCall profile state slots r a b → FreshWithCall profile state slots r′ a′ b′ → (r ≡ r′) × (a ≡ a′) × (b ≡ b′)
+one-fresh profile state slots a b a′ b′ r r′ h k = (h .answer ∙ sym (k .answer), h .kept ∙ sym (k .kept), h .held ∙ sym (k .held))
 
 pub one-key : (state slots prompt : List ℕ) (byte : ℕ) (line screen a b d e a′ b′ d′ e′ : List ℕ) (r r′ : ℕ) → KeyCall state slots prompt byte line screen r a b d e
     → KeyCall state slots prompt byte line screen r′ a′ b′ d′ e′ → (r ≡ r′) × (a ≡ a′) × (b ≡ b′) × (d ≡ d′) × (e ≡ e′)

@@ -22,7 +22,7 @@ use Rattle.help.specs.Answer.{answerFor as helpAnswer, Helping, number as helpN
 use Rattle.shell.specs.declared.answer.Ran.{Ran}
 use Rattle.shell.specs.Answer.{runAnswer, Running}
 use Rattle.rissemat.specs.Packed.{plain}
-use Rattle.rissemat.specs.Calls.{WordsCall, QuoteCall, FreshCall, KeyCall, keyTold, AddCall, TreeCall, ParseCall, HelpCall, RunCall, runTold}
+use Rattle.rissemat.specs.Calls.{WordsCall, QuoteCall, FreshWithCall, KeyCall, keyTold, AddCall, TreeCall, ParseCall, HelpCall, RunCall, runTold}
 
 pub words-packs : (line out : List ℕ) (p : ℕ) (left : List ℕ) → WordsCall line out p left → (r : Tokens) × Tokenized line out r left × (p ≡ plain (number r) (value r))
 words-packs line out p left h = (answerFor line (length out), record { answer = refl; bytes = h .bytes }, h .answer)
@@ -30,9 +30,9 @@ words-packs line out p left h = (answerFor line (length out), record { answer = 
 pub quote-packs : (words out : List ℕ) (p : ℕ) (left : List ℕ) → QuoteCall words out p left → (r : Quoted) × Quotation words out r left × (p ≡ plain (quoteNumber r) (quoteValue r))
 quote-packs words out p left h = (quoteAnswer words (length out), record { answer = refl; bytes = h .bytes }, h .answer)
 
-pub fresh-packs : (state slots : List ℕ) (p : ℕ) (state′ slots′ : List ℕ) → FreshCall state slots p state′ slots′
-    → (r : Begun) × Beginning state slots r state′ slots′ × (p ≡ plain (beginNumber r) (beginValue r))
-fresh-packs state slots p state′ slots′ h = (beginAnswer (length state) (length slots), record { answer = refl; kept = h .kept; held = h .held }, h .answer)
+pub fresh-packs : (profile : ℕ) (state slots : List ℕ) (p : ℕ) (state′ slots′ : List ℕ) → FreshWithCall profile state slots p state′ slots′
+    → (r : Begun) × Beginning profile state slots r state′ slots′ × (p ≡ plain (beginNumber r) (beginValue r))
+fresh-packs profile state slots p state′ slots′ h = (beginAnswer profile (length state) (length slots), record { answer = refl; kept = h .kept; held = h .held }, h .answer)
 
 pub key-packs : (state slots prompt : List ℕ) (byte : ℕ) (line screen : List ℕ) (p : ℕ) (state′ slots′ line′ screen′ : List ℕ)
     → KeyCall state slots prompt byte line screen p state′ slots′ line′ screen′

@@ -3,19 +3,20 @@
 use Prim.Native.Nat.{ℕ}
 use mathlib.Core.Path.{_≡_}
 use mathlib.Core.Bool.{cond}
-use mathlib.Core.List.{List, []}
+use mathlib.Core.List.{List}
 use lib.Dec.{eqb}
 use lib.ListN.{length}
 use Rattle.buffer.specs.Write.{over}
 use Rattle.words.specs.Answer.{answerFor, leavesFor, number, value}
 use Rattle.quote.specs.Answer.{quoteAnswer, quoteLeaves, number as quoteNumber, value as quoteValue}
-use Rattle.history.specs.Journal.{noEntries, offered, recordOf, slotsOf as journalSlots, journalOf}
+use Rattle.history.specs.Journal.{noEntries, offered, slotsOf as journalSlots, journalOf}
 use Rattle.history.specs.Answer.{slotsBy, number as addNumber, value as addValue}
 use Rattle.editor.specs.declared.drawing.Pressed.{Pressed}
-use Rattle.editor.specs.Line.{freshEditor}
+use Rattle.keys.specs.declared.standing.Profile.the-variants.{Rust}
+use Rattle.keys.specs.Modes.{profileNumber}
 use Rattle.editor.specs.Answer.{slotsOf, refused, number as keyNumber, value as keyValue, kind as keyKind, beside as keyBeside}
-use Rattle.state.specs.State.{savedOf, historyIn}
-use Rattle.state.specs.Calls.{beginAnswer, isReady, turnIn, pressAnswer, savedAfter, savedAnswer, stateBy, number as beginNumber, value as beginValue}
+use Rattle.state.specs.State.{historyIn}
+use Rattle.state.specs.Calls.{beginAnswer, isReady, freshSaved, turnIn, pressAnswer, savedAfter, savedAnswer, stateBy, number as beginNumber, value as beginValue}
 use Rattle.tree.specs.Rules.{checkTree}
 use Rattle.tree.specs.Answer.{number as treeNumber, value as treeValue}
 use Rattle.parse.specs.Answer.{parseAnswer, parseLeaves, number as parseNumber, value as parseValue}
@@ -32,10 +33,14 @@ pub record QuoteCall (words out : List ℕ) (r : ℕ) (left : List ℕ) : Type 0
   pub answer : r ≡ plain (quoteNumber (quoteAnswer words (length out))) (quoteValue (quoteAnswer words (length out)))
   pub bytes : left ≡ quoteLeaves words out
 
-pub record FreshCall (state slots : List ℕ) (r : ℕ) (state′ slots′ : List ℕ) : Type 0 where
-  pub answer : r ≡ plain (beginNumber (beginAnswer (length state) (length slots))) (beginValue (beginAnswer (length state) (length slots)))
-  pub kept : state′ ≡ cond (isReady (beginAnswer (length state) (length slots))) (savedOf freshEditor (recordOf noEntries)) state
-  pub held : slots′ ≡ cond (isReady (beginAnswer (length state) (length slots))) (journalSlots noEntries) slots
+-- by a profile's number, and by the original's (10.16, 10.23)
+pub record FreshWithCall (profile : ℕ) (state slots : List ℕ) (r : ℕ) (state′ slots′ : List ℕ) : Type 0 where
+  pub answer : r ≡ plain (beginNumber (beginAnswer profile (length state) (length slots))) (beginValue (beginAnswer profile (length state) (length slots)))
+  pub kept : state′ ≡ cond (isReady (beginAnswer profile (length state) (length slots))) (freshSaved profile) state
+  pub held : slots′ ≡ cond (isReady (beginAnswer profile (length state) (length slots))) (journalSlots noEntries) slots
+
+abbrev pub FreshCall : List ℕ → List ℕ → ℕ → List ℕ → List ℕ → Type 0
+FreshCall = FreshWithCall (profileNumber Rust)
 
 -- a key has three kinds of answer: 1 at Enter, with the length of the line that is submitted as second value; 2 when the byte was dropped; 0 otherwise
 -- (10.21)

@@ -6,7 +6,7 @@
 mod answers;
 mod pack;
 
-ghost use Rattle.rissemat.specs.Calls.{WordsCall, QuoteCall, FreshCall, KeyCall, AddCall, TreeCall, ParseCall, HelpCall, RunCall};
+ghost use Rattle.rissemat.specs.Calls.{WordsCall, QuoteCall, FreshWithCall, FreshCall, KeyCall, AddCall, TreeCall, ParseCall, HelpCall, RunCall};
 use answers::of_add;
 use answers::of_fresh;
 use answers::of_help;
@@ -17,6 +17,8 @@ use answers::of_run;
 use answers::of_tree;
 use answers::of_words;
 use help::help;
+use keys::Profile;
+use keys::profile_number;
 use pack::packed;
 use parse::parse;
 use quote::quote;
@@ -43,12 +45,20 @@ pub extern "C" fn rissemat_quote(words: &[u8], out: &mut [u8]) -> u64
     packed(of_quote(quote(words, out)))
 }
 
-// A fresh session in a state of 260 bytes and slots of 25,600.
+// A fresh session in a state of 263 bytes and slots of 25,600, its keys read as the original reads them.
 #[no_mangle]
 pub extern "C" fn rissemat_fresh(state: &mut [u8], slots: &mut [u8]) -> u64
     ensures { λ r. ⌜ FreshCall (now (state .entry)) (now (slots .entry)) r (now (state .exit)) (now (slots .exit)) ⌝ }
 {
-    packed(of_fresh(begin(state, slots)))
+    rissemat_fresh_with(profile_number(Profile::Rust), state, slots)
+}
+
+// The same with keys read by a profile: 0 as the original reads them, 1 as ECMA-48 has them.
+#[no_mangle]
+pub extern "C" fn rissemat_fresh_with(profile: u8, state: &mut [u8], slots: &mut [u8]) -> u64
+    ensures { λ r. ⌜ FreshWithCall profile (now (state .entry)) (now (slots .entry)) r (now (state .exit)) (now (slots .exit)) ⌝ }
+{
+    packed(of_fresh(begin(profile, state, slots)))
 }
 
 // One key: kind 1 at Enter, with the length of the line that is submitted as second value; kind 2 when the byte was dropped.

@@ -18,7 +18,8 @@ use Rattle.buffer.specs.Ascii.{ascii}
 use Rattle.screen.specs.Decimal.{digitsIn, decimal}
 use Rattle.report.specs.Report.{optionFrame, flagFrame, reportOf}
 use Rattle.history.specs.Journal.{noEntries}
-use Rattle.keys.specs.declared.meaning.Mode.the-variants.{Typing}
+use Rattle.keys.specs.declared.standing.Profile.the-variants.{Rust}
+use Rattle.keys.specs.declared.standing.Mode.the-variants.{Typing}
 use Rattle.editor.specs.Turns.{freshState}
 use Rattle.session.specs.Prints.{screen, handler, exit, shown}
 use Rattle.rust.specs.Std.{isUtf8, join, leftIn, println, startsWith, stripPrefix, utf8OrEmpty}
@@ -101,7 +102,7 @@ quotes = (refl, refl, refl, refl)
 -- the standard's session from the loop itself: three keys, then Enter with its line feed, the handler's call and the prompt. An Enter on an empty line runs nothing; of an ill-formed
 -- line the bytes are run, and not what is shown of them; after `exit` nothing is done any more.
 sessions :
-    (printedBy all tree (turnsFrom freshState (ascii "log\r") .events)
+    (printedBy all tree (turnsFrom (freshState Rust) (ascii "log\r") .events)
     ≡ screen (0x0D ∷ 0x1B ∷ ascii "[2Kaxvisor:$ l")
     ∷ screen (0x0D ∷ 0x1B ∷ ascii "[2Kaxvisor:$ lo")
     ∷ screen (0x0D ∷ 0x1B ∷ ascii "[2Kaxvisor:$ log")
@@ -109,10 +110,10 @@ sessions :
     ∷ handler 2 (0x11 ∷ 0x00 ∷ 0x03 ∷ ascii "log")
     ∷ screen (ascii "axvisor:$ ")
     ∷ [])
-    × (printedBy all tree (turnsFrom freshState (ascii "\n") .events) ≡ screen (0x0A ∷ []) ∷ screen (ascii "axvisor:$ ") ∷ [])
-    × (printedBy all tree (turnFrom (record { line = 0xFF ∷ []; cursor = 1; mode = Typing; history = noEntries }) 0x0A .events)
+    × (printedBy all tree (turnsFrom (freshState Rust) (ascii "\n") .events) ≡ screen (0x0A ∷ []) ∷ screen (ascii "axvisor:$ ") ∷ [])
+    × (printedBy all tree (turnFrom (record { line = 0xFF ∷ []; cursor = 1; mode = Typing; profile = Rust; history = noEntries }) 0x0A .events)
     ≡ screen (0x0A ∷ []) ∷ screen (ascii "Error: Input contains invalid UTF-8 characters\n") ∷ screen (ascii "axvisor:$ ") ∷ [])
-    × (printedBy all tree (turnFrom (record { line = ascii "exit"; cursor = 4; mode = Typing; history = noEntries }) 0x0D .events) ≡ screen (0x0A ∷ []) ∷ screen (ascii "Goodbye!\n") ∷ exit ∷ [])
-    × (endedBy all tree (turnFrom (record { line = ascii "exit"; cursor = 4; mode = Typing; history = noEntries }) 0x0D .events) ≡ true)
+    × (printedBy all tree (turnFrom (record { line = ascii "exit"; cursor = 4; mode = Typing; profile = Rust; history = noEntries }) 0x0D .events) ≡ screen (0x0A ∷ []) ∷ screen (ascii "Goodbye!\n") ∷ exit ∷ [])
+    × (endedBy all tree (turnFrom (record { line = ascii "exit"; cursor = 4; mode = Typing; profile = Rust; history = noEntries }) 0x0D .events) ≡ true)
 unfolding forest tree ascii sameBytes order insertNode get someOf optionDefs flagDefs commandsOf all decodeFirst table decodeTwo decodeThree decodeFour leastSecond greatestSecond within piecesFrom piecesOf codesOf codesIn bytesAll encode encodeAll among whiteSpace isWhiteSpace afterRun trimEnd trimmed wordsAfter wordsBetween wellFormedLength closed tokenizeFrom tokenize insert containsKey deepest findCommand any find isOption isFlag isShortOption isShortFlag optionNameByShort flagNameByShort stripPrefix startsWith findEquals optionValue longName shortNames shortOrPositional long turn parseArgsFrom parseArgs validateRequired parseCommand parseTokens parse println leftIn join forEach forEachNode labelStr optionLine flagLine nodeLine helpLines nodeUnder showHelp availableLine showAvailableCommands isUtf8 utf8OrEmpty along nodeAt report handle executeCommand runCmdBytes digitOf hexIn escapeUnicode isPrintable escapeDebug debugChars debugError handleBuiltinCommands runLine enter textOf numberBytes frameOf frameRuns optionFrame flagFrame reportOf keysOf reportFor digitsIn decimal last pushed kept addCommand clearLineAndRedraw promptWithoutFs crlf other normal rustIn rustKey rustKeys shown printedBy endedBy
 sessions = (refl, refl, refl, refl, refl)

@@ -1,5 +1,5 @@
--- Each key does what the Rust's loop does, in every state within the rules: it leaves the same line, cursor, mode and history, shows the bytes that the loop writes, and submits the
--- line that the loop runs.
+-- Each key does what the Rust's loop does, in every state within the rules whose profile is the Rust's (STANDARD 2.22, 2.23): it leaves the same line, cursor, mode and history, shows the
+-- bytes that the loop writes, and submits the line that the loop runs.
 use Prim.Native.Nat.{ℕ, zero, suc, _+_, _-_, min}
 use mathlib.Core.Path.{_≡_, refl, sym, ap, _∙_, subst}
 use mathlib.Core.Bool.{Bool, true, false, cond, not}
@@ -20,13 +20,18 @@ use Rattle.history.proofs.Journals.{fair-short, fair-formed}
 use Rattle.screen.specs.Decimal.{decimal}
 use Rattle.screen.specs.Redraw.{clearLine, moveBack, redraw}
 use Rattle.screen.proofs.Drawing.{move-none, move-some}
-use Rattle.keys.specs.declared.meaning.Mode.{Mode}
-use Rattle.keys.specs.declared.meaning.Mode.the-variants.{Typing, Escape, Sequence}
+use Rattle.keys.specs.declared.standing.Profile.{Profile}
+use Rattle.keys.specs.declared.standing.Profile.the-variants.{Rust}
+use Rattle.keys.specs.declared.standing.Mode.{Mode}
+use Rattle.keys.specs.declared.standing.Mode.the-variants.{Typing, Escape, Sequence, Control}
 use Rattle.editor.specs.declared.line.Editor.{Editor}
 use Rattle.editor.specs.declared.drawing.KeyAnswer.{KeyAnswer}
 use Rattle.editor.specs.Line.{limit, inserted, erased, content}
-use Rattle.keys.specs.declared.meaning.Action.the-variants.{Nothing}
+use Rattle.keys.specs.declared.standing.Action.{Action}
+use Rattle.keys.specs.declared.standing.Action.the-variants.{Nothing}
 use Rattle.keys.specs.declared.meaning.Meaning.{Meaning}
+use Rattle.keys.specs.Modes.{goodMode}
+use Rattle.keys.specs.Control.{arrowOf}
 use Rattle.keys.specs.Keys.{doing, awaiting, typed, escaped, sequenced, meaning}
 use Rattle.editor.specs.Turns.{State, Kind, shows, enters, drops, Turn, lineFeed, showing, redrawn, redrawing, cleared, inMode, withLine, recalled, enter, erase, insert, up, onPlace, down, right, left, turnBy, turnOf}
 use Rattle.editor.specs.Answer.{stateOf, goodState, taken, refused, Pressing}
@@ -182,8 +187,8 @@ module _ (prompt : List ℕ) (s : State) (f : Fine s) where
 
   cleared-same : (n : ℕ)
       → Same prompt (turned (record { buf = []; cursor = 0; input = Normal; history = original (atPlace (s .history) n) }) (writes (clearLineAndRedraw prompt [] 0) ∷ []))
-      (redrawing prompt (cleared (atPlace (s .history) n)))
-  cleared-same n = redraws (cleared (atPlace (s .history) n)) _ [] 0 refl (sym (formed-content [] formed-nothing)) refl
+      (redrawing prompt (cleared (inMode s Typing) (atPlace (s .history) n)))
+  cleared-same n = redraws (cleared (inMode s Typing) (atPlace (s .history) n)) _ [] 0 refl (sym (formed-content [] formed-nothing)) refl
 
   same-a : Same prompt (keyA prompt (shellOf s)) (up prompt (inMode s Typing))
   unfolding keyA up
@@ -207,7 +212,7 @@ module _ (prompt : List ℕ) (s : State) (f : Fine s) where
       made p = ifSome (p .text) (recalledIn prompt (p .after)) (turned (record { buf = []; cursor = 0; input = Normal; history = p .after }) (writes (clearLineAndRedraw prompt [] 0) ∷ []))
 
       turn : ℕ → Turn
-      turn n = cond (ltb n (count (s .history))) (redrawing prompt (recalled (inMode s Typing) n)) (redrawing prompt (cleared (atPlace (s .history) n)))
+      turn n = cond (ltb n (count (s .history))) (redrawing prompt (recalled (inMode s Typing) n)) (redrawing prompt (cleared (inMode s Typing) (atPlace (s .history) n)))
 
       by : (t u : Bool) → let j : Journal = s .history in ltb (j .place) (count j) ≡ t → ltb (j .place + 1) (count j) ≡ u
           → Same prompt (made (cond t (record { after = original (atPlace j (j .place + 1)); text = cond u (some (entryOf j (j .place + 1))) none }) (record { after = original j; text = none })))
@@ -242,15 +247,20 @@ module _ (prompt : List ℕ) (s : State) (f : Fine s) where
       (means (eqb c 0x1B) _ _ _ _ (quiet (inMode s Escape))
       (means (ltb c 0x20) _ _ _ _ (quiet (inMode s Typing)) (same-insert c))))))
 
-  same-sequence : (c : ℕ) → Same prompt (escapeSeq prompt (shellOf s) c) (turnFor (sequenced c))
-  unfolding escapeSeq sequenced turnFor
-  same-sequence c =
-      means (eqb c 0x41) _ _ _ _ same-a
-      (means (eqb c 0x42) _ _ _ _ same-b
-      (means (eqb c 0x43) _ _ _ _ same-c
-      (means (eqb c 0x44) _ _ _ _ same-d (quiet (inMode s Typing)))))
+  -- the same of an action, after which typing goes on
+  acts : (b : Bool) (x y : Loop) (a d : Action) → Same prompt x (turnFor (doing a)) → Same prompt y (turnFor (doing d)) → Same prompt (cond b x y) (turnFor (doing (cond b a d)))
+  acts true x y a d p q = p
+  acts false x y a d p q = q
 
-  same-escape : (c : ℕ) → Same prompt (escape (shellOf s) c) (turnFor (escaped c))
+  same-sequence : (c : ℕ) → Same prompt (escapeSeq prompt (shellOf s) c) (turnFor (sequenced c))
+  unfolding escapeSeq sequenced arrowOf turnFor
+  same-sequence c =
+      acts (eqb c 0x41) _ _ _ _ same-a
+      (acts (eqb c 0x42) _ _ _ _ same-b
+      (acts (eqb c 0x43) _ _ _ _ same-c
+      (acts (eqb c 0x44) _ _ _ _ same-d (quiet (inMode s Typing)))))
+
+  same-escape : (c : ℕ) → Same prompt (escape (shellOf s) c) (turnFor (escaped Rust c))
   unfolding escape escaped turnFor
   same-escape c = by (eqb c 0x5B)
     where
@@ -259,16 +269,20 @@ module _ (prompt : List ℕ) (s : State) (f : Fine s) where
       by true = quiet (inMode s Sequence)
       by false = quiet (inMode s Typing)
 
-  in-mode : (c : ℕ) (m : Mode) → s .mode ≡ m → Same prompt (rustIn (inputOf m) prompt (shellOf s) c) (turnFor (meaning m c))
+  -- in the Rust's profile, and in a mode that is good there
+  in-mode : (c : ℕ) (m : Mode) → s .mode ≡ m → goodMode Rust m ≡ true → Same prompt (rustIn (inputOf m) prompt (shellOf s) c) (turnFor (meaning Rust m c))
   unfolding rustIn
-  in-mode c Typing e = subst (λ (x : State). Same prompt (normal prompt (shellOf x) c) (turnFor (typed c))) (own-mode s Typing e) (same-normal c)
-  in-mode c Escape e = same-escape c
-  in-mode c Sequence e = same-sequence c
+  in-mode c Typing e g = subst (λ (x : State). Same prompt (normal prompt (shellOf x) c) (turnFor (typed c))) (own-mode s Typing e) (same-normal c)
+  in-mode c Escape e g = same-escape c
+  in-mode c Sequence e g = same-sequence c
+  in-mode c (Control p) e g = absurd (true-is-not-false (sym g))
 
-  -- the Rust's loop and ours, in every state within the rules and for every byte
-  pub same-key : (c : ℕ) → Same prompt (rustKey prompt (shellOf s) c) (turnOf prompt s c)
+  -- the Rust's loop and ours, in every state within the rules whose profile is the Rust's, and for every byte (2.22, 2.23)
+  pub same-key : s .profile ≡ Rust → (c : ℕ) → Same prompt (rustKey prompt (shellOf s) c) (turnOf prompt s c)
   unfolding rustKey turnOf turnFor
-  same-key c = in-mode c (s .mode) refl
+  same-key own c =
+      subst (λ (p : Profile). Same prompt (rustKey prompt (shellOf s) c) (turnFor (meaning p (s .mode) c))) (sym own)
+      (in-mode c (s .mode) refl (subst (λ (p : Profile). goodMode p (s .mode) ≡ true) own (f .led)))
 
 -- what the events of a turn say: the bytes that are written first are those shown, and the line that is run is that submitted
 first-written : (bytes : List ℕ) → firstBytes (written bytes) ≡ bytes
@@ -300,9 +314,15 @@ module _ (prompt : List ℕ) (t : Turn) where
   told-as enters e = (sym (ap length (run-submitted enters e)), ap (atEnter prompt (t .screen)) (sym (run-submitted enters e)))
   told-as drops e = refl
 
--- a key that is taken in a good state does what one turn of the Rust's loop does
+-- the profile of an editor is that of the state which it holds
+pub profile-in : (e : Editor) (h : History) (slots : List ℕ) → e .profile ≡ Rust → stateOf e h slots .profile ≡ Rust
+unfolding stateOf
+profile-in e h slots own = own
+
+-- a key that is taken in a good state of the Rust's profile does what one turn of the Rust's loop does (2.22, 2.23)
 module _ (e : Editor) (h : History) (slots prompt : List ℕ) (byte : ℕ) (line screen : List ℕ) (k : KeyAnswer) (slots′ line′ screen′ : List ℕ)
-    (p : Pressing e h slots prompt byte line screen k slots′ line′ screen′) (is : refused (k .answer) ≡ false) (g : goodState e h slots ≡ true) where
+    (p : Pressing e h slots prompt byte line screen k slots′ line′ screen′) (is : refused (k .answer) ≡ false) (g : goodState e h slots ≡ true)
+    (own : e .profile ≡ Rust) where
   turn : Turn
   turn = turnOf prompt (stateOf e h slots) byte
 
@@ -313,7 +333,7 @@ module _ (e : Editor) (h : History) (slots prompt : List ℕ) (byte : ℕ) (line
   pub presses-as : PressesAs prompt (rustKey prompt (shellOf (stateOf e h slots)) byte) line screen (shellOf (stateOf (k .editor) (k .history) slots′)) (k .answer) line′ screen′
   unfolding turn
   presses-as =
-      let same = same-key prompt (stateOf e h slots) (fine-of e h slots g) byte in
+      let same = same-key prompt (stateOf e h slots) (fine-of e h slots g) (profile-in e h slots own) byte in
       rw (same .loop, answered)
       (record {
         state = ap shellOf (state-after e h slots prompt byte line screen k slots′ line′ screen′ p is g);

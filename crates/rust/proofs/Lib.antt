@@ -1,4 +1,4 @@
--- The laws of the crate `rust`: within the rules of states, and on well-formed trees, our definitions are the Rust's functions.
+-- The laws of the crate `rust`: within the rules of states, in the Rust's profile of keys, and on well-formed trees, our definitions are the Rust's functions.
 pub mod Words
 pub mod Trees
 pub mod Supplied

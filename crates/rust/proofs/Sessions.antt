@@ -1,4 +1,5 @@
--- A key of a session prints the frames of what one turn of the Rust's loop does: the bytes that it writes, what the line that it runs comes to, and the prompt, in the loop's order.
+-- A key of a session in the Rust's profile (STANDARD 2.22, 2.23) prints the frames of what one turn of the Rust's loop does: the bytes that it writes, what the line that it runs comes
+-- to, and the prompt, in the loop's order.
 use Prim.Native.Nat.{ℕ, _≤_}
 use mathlib.Core.Path.{_≡_, refl, sym, ap, _∙_, subst}
 use mathlib.Core.Bool.{Bool, true, false, cond}
@@ -16,9 +17,11 @@ use Rattle.tree.specs.declared.check.Checked.the-variants.{Good}
 use Rattle.tree.proofs.Forests.{StandsFor, forest-good}
 use Rattle.buffer.specs.Ascii.{ascii}
 use Rattle.shell.specs.Lines.{Said, silence, text, farewell, handed as handsOver, builtinOf, beginsHelp, otherSaid, lineSaid, saidOf}
+use Rattle.keys.specs.declared.standing.Profile.the-variants.{Rust}
 use Rattle.editor.specs.Turns.{State, Kind, shows, enters, drops, Turn, lineFeed, turnOf}
 use Rattle.editor.specs.Answer.{stateOf, editorOf, historyOf, goodState}
 use Rattle.editor.proofs.Fine.{Fine, fine-of, turn-fine}
+use Rattle.editor.proofs.Always.{profile-after}
 use Rattle.editor.proofs.Called.{held-state}
 use Rattle.session.specs.Prints.{Printed, shown, prompt, answered, leaves, turnPrints, keyPrints, turnEnds, keyEnds}
 use Rattle.session.specs.Lines.{Standing, inState, Course, preceded, pressKey, pressKeys}
@@ -34,7 +37,7 @@ use Rattle.rust.specs.Loop.{Shell, Event, writes, runs, Loop, turned, pr
 use Rattle.rust.specs.Same.{Seen, quiet, output, handed, exited, crashed, shellOf, written, entered, seenOf, seenFor, QuotedAsIs}
 use Rattle.rust.specs.Session.{turnFrom, turnsFrom, seenThen, endsThen, printedBy, endedBy, Unless, EachQuoted, CourseAs, PrintsAs}
 use Rattle.rust.proofs.Running.{same-run}
-use Rattle.rust.proofs.Keys.{eventsBy, Tidy, Same, same-key}
+use Rattle.rust.proofs.Keys.{eventsBy, Tidy, Same, same-key, profile-in}
 
 -- what the console says of a line is what the Rust's line comes to, before the prompt
 said-printed : (s : Said) → answered s ≡ seenThen (seenFor s) (shown prompt)
@@ -61,8 +64,8 @@ prompt-is : promptWithoutFs ≡ prompt
 unfolding promptWithoutFs prompt
 prompt-is = refl
 
-same-turn : (s : State) → Fine s → (byte : ℕ) → Same prompt (turnFrom s byte) (turnOf prompt s byte)
-same-turn s fine byte = rw prompt-is (same-key prompt s fine byte)
+same-turn : (s : State) → Fine s → s .profile ≡ Rust → (byte : ℕ) → Same prompt (turnFrom s byte) (turnOf prompt s byte)
+same-turn s fine own byte = rw prompt-is (same-key prompt s fine own byte)
 
 module _ (printable : ℕ → Bool) (tree : Commands) where
   -- bytes that are shown
@@ -94,7 +97,7 @@ module _ (image : List ℕ) (f : Forest) (printable : ℕ → Bool) where
           said-ends said ∙ ap (λ (x : Seen). endsThen x false) same,
         )
 
-  module _ (s : State) (fine : Fine s) (byte : ℕ) (stands : isEnter byte ≡ true → StandsFor image f) where
+  module _ (s : State) (fine : Fine s) (own : s .profile ≡ Rust) (byte : ℕ) (stands : isEnter byte ≡ true → StandsFor image f) where
     t : Turn
     t = turnOf prompt s byte
 
@@ -111,13 +114,13 @@ module _ (image : List ℕ) (f : Forest) (printable : ℕ → Bool) where
         )
     prints-by drops e plain tidy p = (refl, refl)
 
-    -- what a key prints is what one turn of the Rust's loop does, and it is the last exactly if the process ends
+    -- what a key prints in the Rust's profile is what one turn of the Rust's loop does, and it is the last exactly if the process ends (2.22, 2.23)
     pub key-printed : EachQuoted printable (commandsOf f) (turnFrom s byte .events)
         → (keyPrints (framesOf image) (turnOf prompt s byte) ≡ printedBy printable (commandsOf f) (turnFrom s byte .events))
         × (keyEnds (framesOf image) (turnOf prompt s byte) ≡ endedBy printable (commandsOf f) (turnFrom s byte .events))
     unfolding keyPrints keyEnds t
     key-printed p =
-        let same = same-turn s fine byte in
+        let same = same-turn s fine own byte in
         let q = rw (same .loop) at p in rw (same .loop) (prints-by (t .kind) refl (screen-plain prompt s byte fine) (same .tidy) q)
 
 -- TURN AFTER TURN: what a process that has ended would do besides is not done
@@ -201,29 +204,30 @@ module _ (printable : ℕ → Bool) (tree : Commands) where
           }
 
 module _ (f : Forest) (printable : ℕ → Bool) where
-  -- the keys of a line: what they print, and where the session stands after them
-  pub keys-printed : (s : Standing) → StandsFor (s .image) f → Fine (s .state) → (keys : List ℕ) → EachQuoted printable (commandsOf f) (turnsFrom (s .state) keys .events)
-      → CourseAs printable (commandsOf f) (turnsFrom (s .state) keys) (pressKeys s keys)
+  -- the keys of a line in the Rust's profile: what they print, and where the session stands after them (2.22, 2.23)
+  pub keys-printed : (s : Standing) → StandsFor (s .image) f → Fine (s .state) → s .state .profile ≡ Rust → (keys : List ℕ)
+      → EachQuoted printable (commandsOf f) (turnsFrom (s .state) keys .events) → CourseAs printable (commandsOf f) (turnsFrom (s .state) keys) (pressKeys s keys)
   unfolding pressKeys pressKey rustKeys printedBy endedBy
-  keys-printed s stands fine [] q = record { prints = refl; ends = refl; after = λ n. refl }
-  keys-printed s stands fine (byte ∷ keys) q =
+  keys-printed s stands fine own [] q = record { prints = refl; ends = refl; after = λ n. refl }
+  keys-printed s stands fine own (byte ∷ keys) q =
       let first : Loop = turnFrom (s .state) byte in
       let after : State = turnOf prompt (s .state) byte .after in
-      let moved : first .after ≡ shellOf after = ap (λ (l : Loop). l .after) (same-turn (s .state) fine byte .loop) in
+      let moved : first .after ≡ shellOf after = ap (λ (l : Loop). l .after) (same-turn (s .state) fine own byte .loop) in
       let rest : Loop = rustKeys promptWithoutFs (first .after) keys in
       let quoted = quoted-both printable (commandsOf f) (first .events) (rest .events) q in
-      let same = key-printed (s .image) f printable (s .state) fine byte (λ e. stands) (quoted .0) in
+      let same = key-printed (s .image) f printable (s .state) fine own byte (λ e. stands) (quoted .0) in
       course-both printable (commandsOf f) first (pressKey s byte) rest (pressKeys (inState s after) keys) (same .0) (same .1)
       (λ n. subst (λ (sh : Shell). CourseAs printable (commandsOf f) (rustKeys promptWithoutFs sh keys) (pressKeys (inState s after) keys)) (sym moved)
-      (keys-printed (inState s after) stands (turn-fine prompt (s .state) byte fine) keys
+      (keys-printed (inState s after) stands (turn-fine prompt (s .state) byte fine) (profile-after prompt (s .state) byte ∙ own) keys
       (subst (λ (sh : Shell). EachQuoted printable (commandsOf f) (rustKeys promptWithoutFs sh keys .events)) moved (quoted .1 (sym (same .1) ∙ n)))))
 
 -- as it is called
 laid-as : {a b : List Printed} {e g : Bool} (out : List ℕ) (r : Printing) (out′ : List ℕ) → a ≡ b → e ≡ g → Laid a e out r out′ → Laid b g out r out′
 laid-as out r out′ p q l = rw (← p, ← q) l
 
+-- in the Rust's profile (2.22, 2.23)
 module _ (h : Session) (image slots : List ℕ) (byte : ℕ) (out : List ℕ) (r : Pressing) (slots′ out′ : List ℕ) (p : PressingKey h image slots byte out r slots′ out′)
-    (room : keyRoom ≤ length out) (good : goodState (h .editor) (h .history) slots ≡ true) (f : Forest) (stands : isEnter byte ≡ true → StandsFor (imageOf h image) f) where
+    (room : keyRoom ≤ length out) (good : goodState (h .editor) (h .history) slots ≡ true) (own : h .editor .profile ≡ Rust) (f : Forest) (stands : isEnter byte ≡ true → StandsFor (imageOf h image) f) where
   tested : (b : Bool) → isEnter byte ≡ b → treeBefore byte (imageOf h image) ≡ Good
   unfolding treeBefore
   tested true e = then-is _ _ _ e ∙ forest-good (imageOf h image) f (stands e)
@@ -234,11 +238,12 @@ module _ (h : Session) (image slots : List ℕ) (byte : ℕ) (out : List ℕ) (r
   press-printed printable plain =
       let s : State = stateOf (h .editor) (h .history) slots in
       let fine = fine-of (h .editor) (h .history) slots good in
+      let rust = profile-in (h .editor) (h .history) slots own in
       let made = p .pressed room (tested (isEnter byte) refl) good in
-      let same = key-printed (imageOf h image) f printable s fine byte stands plain in
+      let same = key-printed (imageOf h image) f printable s fine rust byte stands plain in
       let after : State = turnOf prompt s byte .after in
       record {
         state = ap shellOf (ap (λ (x : Session). stateOf (x .editor) (x .history) slots′) (made .session) ∙ ap (stateOf (editorOf after) (historyOf after)) (made .held) ∙ held-state after (turn-fine prompt s byte fine))
-            ∙ ap (λ (l : Loop). l .after) (sym (same-turn s fine byte .loop));
+            ∙ ap (λ (l : Loop). l .after) (sym (same-turn s fine rust byte .loop));
         lines = laid-as out (r .answer) out′ (same .0) (same .1) (made .lines);
       }

@@ -11,8 +11,8 @@ use Rattle.history.specs.Journal.{Journal, entryOf, atPlace}
 use Rattle.history.specs.declared.stepping.Recalled.{Recalled}
 use Rattle.history.specs.declared.stepping.Recalled.the-variants.{Entry, Nothing}
 use Rattle.history.specs.declared.stepping.Step.{Step}
-use Rattle.keys.specs.declared.meaning.Mode.{Mode}
-use Rattle.keys.specs.declared.meaning.Mode.the-variants.{Typing, Escape, Sequence}
+use Rattle.keys.specs.declared.standing.Mode.{Mode}
+use Rattle.keys.specs.declared.standing.Mode.the-variants.{Typing, Escape, Sequence, Control}
 use Rattle.editor.specs.Turns.{State}
 use Rattle.buffer.specs.Ascii.{ascii}
 use Rattle.image.specs.Limits.{both}
@@ -42,11 +42,12 @@ recalledIn j Nothing = none
 abbrev pub stepIn : Journal → Step → Stepped
 stepIn j step = record { after = original (atPlace j (step .history .place)); text = recalledIn j (step .recalled) }
 
--- the Rust's shell in a state of ours
+-- the Rust's shell in a state of ours; a good state of the Rust's profile is in no control sequence (2.22, 2.23)
 abbrev pub inputOf : Mode → InputState
 inputOf Typing = Normal
 inputOf Escape = EscapeState
 inputOf Sequence = EscapeSeq
+inputOf (Control p) = EscapeSeq
 
 abbrev pub shellOf : State → Shell
 shellOf s = record { buf = s .line; cursor = s .cursor; input = inputOf (s .mode); history = original (s .history) }

@@ -2,7 +2,7 @@
 use Prim.Native.Nat.{ℕ, _≤_}
 use mathlib.Core.Path.{_≡_, refl, sym, ap, _∙_, subst}
 use mathlib.Core.Bool.{Bool, true, false, cond}
-use mathlib.Core.List.{List, []}
+use mathlib.Core.List.{List}
 use lib.ListN.{length}
 use Rattle.tree.specs.Images.{framesOf}
 use Rattle.tree.specs.Rules.{checkTree}
@@ -10,11 +10,12 @@ use Rattle.tree.specs.declared.check.Checked.the-variants.{Good}
 use Rattle.tree.proofs.Grown.{Stands, start-stands, stands-good}
 use Rattle.history.specs.Journal.{noEntries, slotsOf as journalSlots}
 use Rattle.history.specs.declared.stepping.History.{History}
+use Rattle.keys.specs.declared.standing.Profile.{Profile}
 use Rattle.editor.specs.declared.line.Editor.{Editor}
 use Rattle.editor.specs.Line.{holding}
 use Rattle.editor.specs.Turns.{State, Turn, turnOf}
 use Rattle.editor.specs.Answer.{stateOf, editorOf, historyOf, slotsOf, goodState}
-use Rattle.editor.proofs.Fine.{Fine, fresh-fine, turn-fine, fine-good}
+use Rattle.editor.proofs.Fine.{fresh-fine, turn-fine, fine-good}
 use Rattle.editor.proofs.Called.{held-state}
 use Rattle.session.specs.Prints.{prompt, keyPrints, keyEnds}
 use Rattle.session.specs.Lines.{Standing, beginning, pressKey}
@@ -25,10 +26,10 @@ use Rattle.session.specs.declared.standing.Session.{Session}
 use Rattle.session.specs.declared.pressing.Pressing.{Pressing}
 
 -- at the beginning
-pub holds-fresh : (image : List ℕ) → Holds beginning fresh image (journalSlots noEntries)
+pub holds-fresh : (profile : Profile) (image : List ℕ) → Holds (beginning profile) (fresh profile) image (journalSlots noEntries)
 unfolding editorOf holding
-holds-fresh image =
-    record { editor = refl; history = refl; held = refl; fine = fresh-fine; stands = start-stands image; tree = refl; keyed = refl; lines = refl }
+holds-fresh profile image =
+    record { editor = refl; history = refl; held = refl; fine = fresh-fine profile; stands = start-stands image; tree = refl; keyed = refl; lines = refl }
 
 module _ (s : Standing) (h : Session) (image slots : List ℕ) (k : Holds s h image slots) where
   same-state : {e e′ : Editor} {p p′ : History} {l l′ : List ℕ} → e ≡ e′ → p ≡ p′ → l ≡ l′ → (stateOf e p l ≡ stateOf e′ p′ l′) × (goodState e p l ≡ goodState e′ p′ l′)

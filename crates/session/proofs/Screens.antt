@@ -1,14 +1,14 @@
 -- What a key shows is short: the session's own buffer always has room for it. And which keys run a line.
 use Prim.Native.Nat.{ℕ, zero, suc, _+_, _-_, _/_, _%_, _≤_}
-use mathlib.Core.Path.{_≡_, refl, sym, ap, _∙_, subst}
+use mathlib.Core.Path.{_≡_, refl, sym, ap, _∙_}
 use mathlib.Core.Bool.{Bool, true, false, cond}
 use mathlib.Core.List.{List, [], _∷_, _++_}
 use mathlib.Core.Logic.{_⊎_, inl, inr}
 use native.Mathlib.Omega.{arith}
 use borrow.Author.Tests.{eq-eqb, ne-eqb}
-use lib.Dec.{eqb, ltb}
+use lib.Dec.{eqb, ltb, leb}
 use lib.ListN.{length, length-append}
-use Rattle.buffer.proofs.Choices.{then-is, else-is}
+use Rattle.buffer.proofs.Choices.{then-is, else-is, true-is-not-false}
 use Rattle.tree.specs.Rules.{checkTree}
 use Rattle.tree.specs.declared.check.Checked.{Checked}
 use Rattle.tree.specs.declared.check.Checked.the-variants.{Good}
@@ -16,14 +16,18 @@ use Rattle.text.specs.Decoding.{wellFormed}
 use Rattle.history.specs.Journal.{count}
 use Rattle.screen.specs.Decimal.{digitsIn, decimal}
 use Rattle.screen.specs.Redraw.{clearLine, moveBack, redraw}
-use Rattle.keys.specs.declared.meaning.Mode.{Mode}
-use Rattle.keys.specs.declared.meaning.Mode.the-variants.{Typing, Escape, Sequence}
-use Rattle.keys.specs.declared.meaning.Action.{Action}
-use Rattle.keys.specs.declared.meaning.Action.the-variants.{Nothing, Enter, Erase, Insert, Up, Down, Right, Left}
+use Rattle.keys.specs.declared.standing.Profile.{Profile}
+use Rattle.keys.specs.declared.standing.Progress.{Progress}
+use Rattle.keys.specs.declared.standing.Mode.{Mode}
+use Rattle.keys.specs.declared.standing.Mode.the-variants.{Typing, Escape, Sequence, Control}
+use Rattle.keys.specs.declared.standing.Action.{Action}
+use Rattle.keys.specs.declared.standing.Action.the-variants.{Nothing, Enter, Erase, Insert, Up, Down, Right, Left, Home, End, Delete}
 use Rattle.keys.specs.declared.meaning.Meaning.{Meaning}
 use Rattle.editor.specs.Line.{limit, content}
-use Rattle.keys.specs.Keys.{typed, escaped, sequenced, meaning}
-use Rattle.editor.specs.Turns.{State, Kind, shows, enters, drops, Turn, showing, inMode, redrawn, redrawing, lineFeed, enter, erase, insert, up, onPlace, down, arrow, right, left, turnBy, turnOf}
+use Rattle.keys.specs.Modes.{longest}
+use Rattle.keys.specs.Control.{goesOn, isFinal, arrowOf, letter, tilde, ended, further}
+use Rattle.keys.specs.Keys.{awaiting, typed, begun, escaped, sequenced, awaitingMore, controlled, meaning}
+use Rattle.editor.specs.Turns.{State, Kind, shows, enters, drops, Turn, showing, inMode, redrawn, redrawing, lineFeed, enter, erase, insert, up, onPlace, down, arrow, right, left, goTo, delete, turnBy, turnOf}
 use Rattle.editor.proofs.Fine.{Fine, turn-fine}
 use Rattle.session.specs.Calls.{isEnter, treeBefore}
 
@@ -111,8 +115,12 @@ module _ (prompt : List ℕ) (s : State) where
   anew : (s : State) → Brief prompt (redrawing prompt s)
   anew s = drawn refl (omega arith) tt
 
+  go-brief : (place : ℕ) → Brief prompt (goTo prompt s place)
+  unfolding goTo
+  go-brief place = either (eqb (s .cursor) place) _ _ (quiet s) (anew _)
+
   action-brief : length (s .line) ≤ 255 → (a : Action) → Brief prompt (turnBy prompt s a)
-  unfolding enter erase insert up down right left
+  unfolding enter erase insert up down right left delete
   action-brief h Nothing = quiet s
   action-brief h Enter = either (eqb (length (s .line)) 0) _ _ (few (omega arith) (omega arith) refl) (few (omega arith) h refl)
   action-brief h Erase = either (eqb (s .cursor) 0) _ _ (quiet s) (anew _)
@@ -121,6 +129,9 @@ module _ (prompt : List ℕ) (s : State) where
   action-brief h Down = either (ltb (onPlace (s .history)) (count (s .history))) _ _ (anew _) (anew _)
   action-brief h Right = either (ltb (s .cursor) (length (s .line))) _ _ (brief _ (arrow 0x43) (omega arith)) (quiet s)
   action-brief h Left = either (eqb (s .cursor) 0) _ _ (quiet s) (brief _ (arrow 0x44) (omega arith))
+  action-brief h Home = go-brief 0
+  action-brief h End = go-brief (length (s .line))
+  action-brief h Delete = either (ltb (s .cursor) (length (s .line))) _ _ (anew _) (quiet s)
 
   -- only the action Enter enters
   Other : Action → Turn → Type 0
@@ -142,8 +153,12 @@ module _ (prompt : List ℕ) (s : State) where
   each a true t u p q = p
   each a false t u p q = q
 
+  go-other : (a : Action) (place : ℕ) → Other a (goTo prompt s place)
+  unfolding goTo
+  go-other a place = each a (eqb (s .cursor) place) _ _ (shows-other a _ refl) (shows-other a _ refl)
+
   only-enter : (a : Action) → Other a (turnBy prompt s a)
-  unfolding erase insert up down right left
+  unfolding erase insert up down right left delete
   only-enter Nothing = shows-other Nothing _ refl
   only-enter Enter = itself (enter s)
   only-enter Erase = each Erase (eqb (s .cursor) 0) _ _ (shows-other Erase _ refl) (shows-other Erase _ refl)
@@ -152,8 +167,28 @@ module _ (prompt : List ℕ) (s : State) where
   only-enter Down = each Down (ltb (onPlace (s .history)) (count (s .history))) _ _ (shows-other Down _ refl) (shows-other Down _ refl)
   only-enter Right = each Right (ltb (s .cursor) (length (s .line))) _ _ (shows-other Right _ refl) (shows-other Right _ refl)
   only-enter Left = each Left (eqb (s .cursor) 0) _ _ (shows-other Left _ refl) (shows-other Left _ refl)
+  only-enter Home = go-other Home 0
+  only-enter End = go-other End (length (s .line))
+  only-enter Delete = each Delete (ltb (s .cursor) (length (s .line))) _ _ (shows-other Delete _ refl) (shows-other Delete _ refl)
 
 -- and only a 0D or a 0A means it
+abbrev isEntering : Action → Bool
+isEntering Nothing = false
+isEntering Enter = true
+isEntering Erase = false
+isEntering (Insert b) = false
+isEntering Up = false
+isEntering Down = false
+isEntering Right = false
+isEntering Left = false
+isEntering Home = false
+isEntering End = false
+isEntering Delete = false
+
+neither : (t : Bool) (a b : Action) → isEntering a ≡ false → isEntering b ≡ false → isEntering (cond t a b) ≡ false
+neither true a b p q = p
+neither false a b p q = q
+
 Enters : ℕ → Meaning → Type 0
 Enters byte m = m .action ≡ Enter → isEnter byte ≡ true
 
@@ -162,30 +197,54 @@ module _ (byte : ℕ) where
   choose true m n p q = p refl
   choose false m n p q = q
 
-  other : (a : Action) (m : Mode) → (a ≡ Enter → ⊥) → Enters byte (record { action = a; mode = m })
+  other : (a : Action) (m : Mode) → isEntering a ≡ false → Enters byte (record { action = a; mode = m })
   unfolding Enters
-  other a m n e = absurd (n e)
+  other a m n e = absurd (true-is-not-false (sym (ap isEntering e) ∙ n))
 
-  meaning-enters : (m : Mode) → Enters byte (meaning m byte)
-  unfolding typed escaped sequenced Enters
-  meaning-enters Typing =
+  quietly : (m : Mode) → Enters byte (awaiting m)
+  quietly m = other Nothing m refl
+
+  -- no byte of a sequence does, final or not
+  arrow-other : isEntering (arrowOf byte) ≡ false
+  unfolding arrowOf
+  arrow-other = neither (eqb byte 0x41) _ _ refl (neither (eqb byte 0x42) _ _ refl (neither (eqb byte 0x43) _ _ refl (neither (eqb byte 0x44) _ _ refl refl)))
+
+  letter-other : isEntering (letter byte) ≡ false
+  unfolding letter
+  letter-other = neither (eqb byte 0x48) _ _ refl (neither (eqb byte 0x46) _ _ refl arrow-other)
+
+  tilde-other : (n : ℕ) → isEntering (tilde n) ≡ false
+  unfolding tilde
+  tilde-other n =
+      neither (eqb n 1) _ _ refl (neither (eqb n 7) _ _ refl (neither (eqb n 4) _ _ refl (neither (eqb n 8) _ _ refl (neither (eqb n 3) _ _ refl refl))))
+
+  ended-other : (n : ℕ) → isEntering (ended n byte) ≡ false
+  unfolding ended
+  ended-other n = neither (eqb byte 0x7E) _ _ (tilde-other n) (neither (leb n 1) _ _ letter-other refl)
+
+  onward-enters : (p : Progress) → Enters byte (awaitingMore p byte)
+  unfolding awaitingMore
+  onward-enters p = choose (ltb (p .read) longest) _ _ (λ q. quietly (Control (further p byte))) (quietly Typing)
+
+  meaning-enters : (profile : Profile) (m : Mode) → Enters byte (meaning profile m byte)
+  unfolding typed escaped sequenced controlled Enters
+  meaning-enters profile Typing =
       choose (eqb byte 0x0D) _ _ (λ q e. cr-enters byte q)
       (choose (eqb byte 0x0A) _ _ (λ q e. lf-enters byte q)
-      (choose (eqb byte 0x08) _ _ (λ q. other Erase Typing (λ e. let z : _≡_ {A = ℕ} 0 1 = cc in omega arith))
-      (choose (eqb byte 0x7F) _ _ (λ q. other Erase Typing (λ e. let z : _≡_ {A = ℕ} 0 1 = cc in omega arith))
-      (choose (eqb byte 0x1B) _ _ (λ q. other Nothing Escape (λ e. let z : _≡_ {A = ℕ} 0 1 = cc in omega arith))
-      (choose (ltb byte 0x20) _ _ (λ q. other Nothing Typing (λ e. let z : _≡_ {A = ℕ} 0 1 = cc in omega arith)) (other (Insert byte) Typing (λ e. let z : _≡_ {A = ℕ} 0 1 = cc in omega arith)))))))
-  meaning-enters Escape = choose (eqb byte 0x5B) _ _ (λ q. other Nothing Sequence (λ e. let z : _≡_ {A = ℕ} 0 1 = cc in omega arith)) (other Nothing Typing (λ e. let z : _≡_ {A = ℕ} 0 1 = cc in omega arith))
-  meaning-enters Sequence =
-      choose (eqb byte 0x41) _ _ (λ q. other Up Typing (λ e. let z : _≡_ {A = ℕ} 0 1 = cc in omega arith))
-      (choose (eqb byte 0x42) _ _ (λ q. other Down Typing (λ e. let z : _≡_ {A = ℕ} 0 1 = cc in omega arith))
-      (choose (eqb byte 0x43) _ _ (λ q. other Right Typing (λ e. let z : _≡_ {A = ℕ} 0 1 = cc in omega arith))
-      (choose (eqb byte 0x44) _ _ (λ q. other Left Typing (λ e. let z : _≡_ {A = ℕ} 0 1 = cc in omega arith)) (other Nothing Typing (λ e. let z : _≡_ {A = ℕ} 0 1 = cc in omega arith)))))
+      (choose (eqb byte 0x08) _ _ (λ q. other Erase Typing refl)
+      (choose (eqb byte 0x7F) _ _ (λ q. other Erase Typing refl)
+      (choose (eqb byte 0x1B) _ _ (λ q. quietly Escape)
+      (choose (ltb byte 0x20) _ _ (λ q. quietly Typing) (other (Insert byte) Typing refl))))))
+  meaning-enters profile Escape = choose (eqb byte 0x5B) _ _ (λ q. quietly (begun profile)) (quietly Typing)
+  meaning-enters profile Sequence = other (arrowOf byte) Typing arrow-other
+  meaning-enters profile (Control p) =
+      choose (goesOn byte) _ _ (λ q. onward-enters p)
+      (choose (isFinal byte) _ _ (λ q. other (ended (p .parameter) byte) Typing (ended-other (p .parameter))) (quietly Typing))
 
 module _ (prompt : List ℕ) (s : State) (byte : ℕ) (f : Fine s) where
   turn-brief : Brief prompt (turnOf prompt s byte)
   unfolding turnOf
-  turn-brief = let m : Meaning = meaning (s .mode) byte in action-brief prompt (inMode s (m .mode)) (f .short) (m .action)
+  turn-brief = let m : Meaning = meaning (s .profile) (s .mode) byte in action-brief prompt (inMode s (m .mode)) (f .short) (m .action)
 
   pub screen-short : length prompt ≤ 128 → length (turnOf prompt s byte .screen) ≤ 1023
   screen-short h = by turn-brief
@@ -211,7 +270,7 @@ module _ (prompt : List ℕ) (s : State) (byte : ℕ) (f : Fine s) where
   -- a turn that runs a line comes from one of the bytes before which the tree is tested
   pub enters-byte : turnOf prompt s byte .kind ≡ enters → isEnter byte ≡ true
   unfolding turnOf Other Enters
-  enters-byte e = let m : Meaning = meaning (s .mode) byte in meaning-enters byte (s .mode) (only-enter prompt (inMode s (m .mode)) (m .action) e)
+  enters-byte e = let m : Meaning = meaning (s .profile) (s .mode) byte in meaning-enters byte (s .profile) (s .mode) (only-enter prompt (inMode s (m .mode)) (m .action) e)
 
   pub enters-tested : (image : List ℕ) → turnOf prompt s byte .kind ≡ enters → treeBefore byte image ≡ checkTree image
   unfolding treeBefore

@@ -17,6 +17,7 @@ use Rattle.tree.specs.declared.check.Checked.the-variants.{Good, BadFrame}
 use Rattle.tree.specs.declared.walk.Walk.{Walk}
 use Rattle.tree.specs.Growth.{admits, passedBy}
 use Rattle.history.specs.Journal.{noEntries, recordOf}
+use Rattle.keys.specs.declared.standing.Profile.{Profile}
 use Rattle.editor.specs.declared.drawing.KeyAnswer.{KeyAnswer}
 use Rattle.editor.specs.Line.{freshEditor}
 use Rattle.editor.specs.Turns.{State, Turn, turnOf}
@@ -31,8 +32,9 @@ use Rattle.session.specs.declared.pressing.Pressing.{Pressing}
 use Rattle.session.specs.declared.taking.Taken.the-variants.{Tree, Keys, BadLine, Over, NoRoom as NoBuffer}
 use Rattle.session.specs.declared.taking.Took.{Took}
 
-abbrev pub fresh : Session
-fresh = record { editor = freshEditor; history = recordOf noEntries; walk = startWalk; keyed = false; lines = 0 }
+-- no line is read, and keys are read as the profile has them (2.3, 2.23)
+abbrev pub fresh : Profile → Session
+fresh profile = record { editor = freshEditor profile; history = recordOf noEntries; walk = startWalk; keyed = false; lines = 0 }
 
 -- a session with another part; a line more is counted where one is taken
 abbrev pub withState : Session → State → Session

@@ -9,6 +9,7 @@ use Rattle.frame.specs.declared.house.House.{House}
 use Rattle.frame.specs.declared.house.House.the-variants.{Frame, Unended, Empty, TooLong, Odd, NoDigit, Short}
 use Rattle.tree.specs.Images.{framesOf}
 use Rattle.tree.specs.Growth.{takes}
+use Rattle.keys.specs.declared.standing.Profile.{Profile}
 use Rattle.editor.specs.Turns.{State, freshState, turnOf}
 use Rattle.session.specs.Sizes.{lastLine, frameRoom}
 use Rattle.session.specs.Prints.{Printed, badLine, prompt, keyPrints, keyEnds}
@@ -45,9 +46,9 @@ pub record Standing : Type 0 where
   pub state : State
   pub lines : ℕ
 
--- (11.2)
-abbrev pub beginning : Standing
-beginning = record { image = []; keyed = false; state = freshState; lines = 0 }
+-- keys are read as the profile has them, from the fresh state on (2.23, 11.2)
+abbrev pub beginning : Profile → Standing
+beginning profile = record { image = []; keyed = false; state = freshState profile; lines = 0 }
 
 -- the same with one line more, and with what the line brings
 abbrev pub withImage : Standing → List ℕ → Standing

@@ -1,6 +1,7 @@
 // Where a session stands, by value: the editor and its history, the walk over the image so far, whether keys have come, the lines read.
 use editor::Editor;
 use history::History;
+use keys::Profile;
 use tree::Walk;
 ghost use mathlib.Core.Path.{_≡_};
 ghost use Prim.Native.Nat.{_<_};
@@ -22,12 +23,12 @@ impl Session {
     // The bytes of a frame that is read, at most.
     pub const FRAME_ROOM: usize = 512;
 
-    // No line is read.
-    pub fn fresh() -> Session
-        ensures { λ r. ⌜ r ≡ fresh ⌝ }
+    // No line is read, and keys are read as the profile has them.
+    pub fn fresh(profile: Profile) -> Session
+        ensures { λ r. ⌜ r ≡ fresh profile ⌝ }
     {
         Session {
-            editor: Editor::fresh(),
+            editor: Editor::fresh(profile),
             history: History::fresh(),
             walk: Walk::start(),
             keyed: false,

@@ -17,8 +17,10 @@ use Rattle.history.specs.declared.adding.Added.{Added}
 use Rattle.history.specs.declared.adding.Added.the-variants.{Done, BadState as BadHistory, TooLong, IllFormed}
 use Rattle.history.proofs.adding.Added.{the-type}
 use Rattle.history.proofs.Lasting.{added-good}
-use Rattle.editor.proofs.States.{good-parts}
+use Rattle.editor.proofs.States.{good-parts, state-parts, good-state}
 use Rattle.editor.proofs.Fine.{stays-good}
+use Rattle.keys.specs.declared.standing.Profile.{Profile}
+use Rattle.keys.specs.Modes.{isProfile, profileOf}
 use Rattle.editor.specs.declared.line.Editor.{Editor}
 use Rattle.editor.specs.declared.drawing.KeyAnswer.{KeyAnswer}
 use Rattle.editor.specs.declared.drawing.Pressed.the-variants.{BadState}
@@ -26,59 +28,67 @@ use Rattle.editor.specs.Line.{freshEditor}
 use Rattle.editor.specs.Turns.{turnOf}
 use Rattle.editor.specs.Answer.{stateOf, editorOf, historyOf, goodState, keyAnswer, refused, Pressing}
 use Rattle.state.specs.State.{stateSize, savedOf, editorIn, historyIn, goodSaved}
-use Rattle.state.specs.Calls.{beginAnswer, Beginning, turnIn, pressAnswer, savedAfter, SavedKey, savedAnswer, stateBy, SavedAdd}
+use Rattle.state.specs.Calls.{beginAnswer, freshSaved, Beginning, turnIn, pressAnswer, savedAfter, SavedKey, savedAnswer, stateBy, SavedAdd}
 use Rattle.state.specs.declared.calls.Begun.the-variants.{Ready, NoRoom, BadState as NoState}
 use Rattle.state.proofs.Savings.{size-is, good-saved-parts, Fits, good-fits, Read, read-good}
 
 -- a fresh session
-module _ (state slots : List ℕ) where
-  pub short-state : length state < 260 → Beginning state slots (NoRoom 260) state slots
+module _ (profile : ℕ) (state slots : List ℕ) where
+  pub no-profile : isProfile profile ≡ false → Beginning profile state slots NoState state slots
   unfolding beginAnswer
-  short-state a =
-      record {
-        answer = sym (then-is _ _ _ (ap (ltb (length state)) size-is ∙ lt-ltb _ 260 a) ∙ ap NoRoom size-is);
-        kept = refl;
-        held = refl;
-      }
+  no-profile n = record { answer = sym (else-is _ _ _ n); kept = refl; held = refl }
 
-  module _ (a : 260 ≤ length state) where
-    room : ltb (length state) stateSize ≡ false
-    room = ap (ltb (length state)) size-is ∙ le-ltb _ 260 a
-
-    pub short-slots : length slots < 25600 → Beginning state slots (NoRoom 25600) state slots
+  module _ (p : isProfile profile ≡ true) where
+    pub short-state : length state < 263 → Beginning profile state slots (NoRoom 263) state slots
     unfolding beginAnswer
-    short-slots b = record { answer = sym (else-is _ _ _ room ∙ then-is _ _ _ (lt-ltb _ 25600 b)); kept = refl; held = refl }
+    short-state a =
+        record {
+          answer = sym (then-is _ _ _ p ∙ then-is _ _ _ (ap (ltb (length state)) size-is ∙ lt-ltb _ 263 a) ∙ ap NoRoom size-is);
+          kept = refl;
+          held = refl;
+        }
 
-    module _ (b : 25600 ≤ length slots) where
-      roomy : beginAnswer (length state) (length slots) ≡ cond (ltb stateSize (length state)) NoState (cond (ltb 25600 (length slots)) NoState Ready)
+    module _ (a : 263 ≤ length state) where
+      room : ltb (length state) stateSize ≡ false
+      room = ap (ltb (length state)) size-is ∙ le-ltb _ 263 a
+
+      pub long-state : 263 < length state → Beginning profile state slots NoState state slots
       unfolding beginAnswer
-      roomy = else-is _ _ _ room ∙ else-is _ _ _ (le-ltb _ 25600 b)
+      long-state m =
+          record {
+            answer = sym (then-is _ _ _ p ∙ else-is _ _ _ room ∙ then-is _ _ _ (ap (λ (n : ℕ). ltb n (length state)) size-is ∙ lt-ltb 263 _ m));
+            kept = refl;
+            held = refl;
+          }
 
-      pub long-state : 260 < length state → Beginning state slots NoState state slots
-      long-state m = record { answer = sym (roomy ∙ then-is _ _ _ (ap (λ (n : ℕ). ltb n (length state)) size-is ∙ lt-ltb 260 _ m)); kept = refl; held = refl }
+      module _ (m : length state ≤ 263) where
+        exact : beginAnswer profile (length state) (length slots) ≡ cond (ltb (length slots) 25600) (NoRoom 25600) (cond (ltb 25600 (length slots)) NoState Ready)
+        unfolding beginAnswer
+        exact = then-is _ _ _ p ∙ else-is _ _ _ room ∙ else-is _ _ _ (ap (λ (n : ℕ). ltb n (length state)) size-is ∙ le-ltb 263 _ m)
 
-      module _ (m : length state ≤ 260) where
-        exact : ltb stateSize (length state) ≡ false
-        exact = ap (λ (n : ℕ). ltb n (length state)) size-is ∙ le-ltb 260 _ m
+        pub short-slots : length slots < 25600 → Beginning profile state slots (NoRoom 25600) state slots
+        short-slots b = record { answer = sym (exact ∙ then-is _ _ _ (lt-ltb _ 25600 b)); kept = refl; held = refl }
 
-        pub long-slots : 25600 < length slots → Beginning state slots NoState state slots
-        long-slots n = record { answer = sym (roomy ∙ else-is _ _ _ exact ∙ then-is _ _ _ (lt-ltb 25600 _ n)); kept = refl; held = refl }
+        module _ (b : 25600 ≤ length slots) where
+          pub long-slots : 25600 < length slots → Beginning profile state slots NoState state slots
+          long-slots n = record { answer = sym (exact ∙ else-is _ _ _ (le-ltb _ 25600 b) ∙ then-is _ _ _ (lt-ltb 25600 _ n)); kept = refl; held = refl }
 
-        pub begin-ready : (e : Editor) (h : History) (state′ slots′ : List ℕ) → length slots ≤ 25600 → e ≡ freshEditor → Emptied h slots′ → state′ ≡ savedOf e h
-            → Beginning state slots Ready state′ slots′
-        begin-ready e h state′ slots′ n p q w =
-            record {
-              answer = sym (roomy ∙ else-is _ _ _ exact ∙ else-is _ _ _ (le-ltb 25600 _ n));
-              kept = w ∙ ap (λ (x : Editor). savedOf x h) p ∙ ap (savedOf freshEditor) (q .state);
-              held = q .bytes;
-            }
+          pub begin-ready : (e : Editor) (h : History) (state′ slots′ : List ℕ) → length slots ≤ 25600 → e ≡ freshEditor (profileOf profile) → Emptied h slots′ → state′ ≡ savedOf e h
+              → Beginning profile state slots Ready state′ slots′
+          unfolding freshSaved
+          begin-ready e h state′ slots′ n q o w =
+              record {
+                answer = sym (exact ∙ else-is _ _ _ (le-ltb _ 25600 b) ∙ else-is _ _ _ (le-ltb 25600 _ n));
+                kept = w ∙ ap (λ (x : Editor). savedOf x h) q ∙ ap (savedOf (freshEditor (profileOf profile))) (o .state);
+                held = o .bytes;
+              }
 
-fresh-small : Fits freshEditor (recordOf noEntries)
+fresh-small : (p : Profile) → Fits (freshEditor p) (recordOf noEntries)
 unfolding recordOf
-fresh-small = (record { size = omega arith; cursor = omega arith }, record { count = omega arith; place = omega arith })
+fresh-small p = (record { size = omega arith; cursor = omega arith }, record { count = omega arith; place = omega arith })
 
-pub fresh-bytes : (e : Editor) (h : History) → e ≡ freshEditor → h ≡ recordOf noEntries → Fits e h
-fresh-bytes e h p q = rw (p, q) fresh-small
+pub fresh-bytes : (p : Profile) (e : Editor) (h : History) → e ≡ freshEditor p → h ≡ recordOf noEntries → Fits e h
+fresh-bytes p e h a b = rw (a, b) (fresh-small p)
 
 -- a text added
 module _ (state slots text : List ℕ) where
@@ -116,9 +126,7 @@ module _ (state slots text : List ℕ) where
           }
 
       pub add-good : goodState e r left ≡ true
-      unfolding goodState
-      add-good =
-          then-is _ _ _ (good-parts e h slots (read-good e h state slots read) .0) ∙ added-good h slots text r told left history-good b
+      add-good = good-state e r left (state-parts e h slots (read-good e h state slots read) .0) (added-good h slots text r told left history-good b)
 
       pub add-fits : Fits e r
       add-fits = good-fits e r left add-good

@@ -1,71 +1,98 @@
 -- Worked examples: the bytes of a state, and bytes that are none.
 use mathlib.Core.Path.{_≡_, refl}
-use mathlib.Core.Bool.{true, false}
+use mathlib.Core.Bool.{Bool, true, false}
 use Prim.Native.Nat.{ℕ}
-use mathlib.Core.List.{List, [], _∷_}
+use mathlib.Core.List.{List, [], _∷_, _++_}
 use lib.ListN.{take, drop}
 use Rattle.buffer.specs.Compare.{sameBytes}
 use Rattle.buffer.specs.Lend.{zeros}
-use Rattle.keys.specs.declared.meaning.Mode.the-variants.{Sequence}
-use Rattle.editor.specs.Line.{limit, padded, holding, lineOf, goodLine}
+use Rattle.keys.specs.declared.standing.Profile.the-variants.{Rust, Ecma48}
+use Rattle.keys.specs.declared.standing.Mode.the-variants.{Sequence, Control}
+use Rattle.keys.specs.Modes.{other, longest, single, goodProgress, isProfile, profileOf, isMode, modeOf}
+use Rattle.editor.specs.Line.{limit, padded, holding, lineOf, goodLine, goodEditor}
 use Rattle.history.specs.Saved.{savedSize as historySize, savedOf as historySaved, isSaved as isHistory}
-use Rattle.editor.specs.Saved.{savedSize as editorSize, savedOf as editorSaved, savedIn as editorSavedIn, hasMode, isSaved as isEditor}
+use Rattle.editor.specs.Saved.{savedSize as editorSize, savedOf as editorSaved, savedIn as editorSavedIn, hasKeys, hasForm, isSaved as isEditor}
 use Rattle.state.specs.State.{stateSize, savedOf, editorIn, goodSaved}
 use Rattle.state.specs.Calls.{beginAnswer}
 use Rattle.state.specs.declared.calls.Begun.the-variants.{Ready, NoRoom, BadState}
 
--- `ab` with the cursor at 1, after ESC `[`, and the second of three entries recalled
-front : take 6 (savedOf (holding (0x61 ∷ 0x62 ∷ []) 1 Sequence) (record { count = 3; place = 1 })) ≡ 2 ∷ 2 ∷ 1 ∷ 0x61 ∷ 0x62 ∷ 0 ∷ []
+-- `ab` with the cursor at 1, after ESC `[` in the profile of the original, and the second of three entries recalled
+front : take 6 (savedOf (holding (0x61 ∷ 0x62 ∷ []) 1 Sequence Rust) (record { count = 3; place = 1 })) ≡ 2 ∷ 2 ∷ 1 ∷ 0x61 ∷ 0x62 ∷ 0 ∷ []
 unfolding savedOf editorSaved historySaved holding padded limit zeros
 front = refl
 
-end : drop 257 (savedOf (holding (0x61 ∷ 0x62 ∷ []) 1 Sequence) (record { count = 3; place = 1 })) ≡ 0 ∷ 3 ∷ 1 ∷ []
+end : drop 257 (savedOf (holding (0x61 ∷ 0x62 ∷ []) 1 Sequence Rust) (record { count = 3; place = 1 })) ≡ 0 ∷ 0 ∷ 0 ∷ 0 ∷ 3 ∷ 1 ∷ []
 unfolding savedOf editorSaved historySaved holding padded limit zeros
 end = refl
 
-read-back : lineOf (editorIn (1 ∷ 2 ∷ 0 ∷ 0x61 ∷ 0x62 ∷ zeros 255)) ≡ 0x61 ∷ 0x62 ∷ []
+-- the same after ESC `[3` in the profile of ECMA-48: one byte is read, and the parameter is 3
+control-end :
+    drop 257 (savedOf (holding (0x61 ∷ 0x62 ∷ []) 1 (Control (record { read = 1; parameter = 3 })) Ecma48) (record { count = 3; place = 1 })) ≡ 0 ∷ 1 ∷ 1 ∷ 3 ∷ 3 ∷ 1 ∷ []
+unfolding savedOf editorSaved historySaved holding padded limit zeros
+control-end = refl
+
+read-back : lineOf (editorIn (1 ∷ 2 ∷ 0 ∷ 0x61 ∷ 0x62 ∷ zeros 258)) ≡ 0x61 ∷ 0x62 ∷ []
 unfolding lineOf editorIn editorSize editorSavedIn zeros
 read-back = refl
 
 -- the length, the mode and the cursor of bytes that are no good state, whatever the slots
-short : (slots : List ℕ) → goodSaved (zeros 259) slots ≡ false
-unfolding goodSaved isHistory isEditor hasMode editorSavedIn editorSize historySize goodLine lineOf padded limit sameBytes zeros
+short : (slots : List ℕ) → goodSaved (zeros 262) slots ≡ false
+unfolding goodSaved isHistory isEditor hasForm hasKeys isProfile isMode profileOf modeOf editorSavedIn editorSize historySize goodEditor goodLine lineOf padded limit sameBytes zeros
 short slots = refl
 
-long : (slots : List ℕ) → goodSaved (zeros 261) slots ≡ false
-unfolding goodSaved isHistory isEditor hasMode editorSavedIn editorSize historySize goodLine lineOf padded limit sameBytes zeros
+long : (slots : List ℕ) → goodSaved (zeros 264) slots ≡ false
+unfolding goodSaved isHistory isEditor hasForm hasKeys isProfile isMode profileOf modeOf editorSavedIn editorSize historySize goodEditor goodLine lineOf padded limit sameBytes zeros
 long slots = refl
 
-mode-three : (slots : List ℕ) → goodSaved (3 ∷ zeros 259) slots ≡ false
-unfolding goodSaved isEditor hasMode editorSize zeros
-mode-three slots = refl
+mode-four : (slots : List ℕ) → goodSaved (4 ∷ zeros 262) slots ≡ false
+unfolding goodSaved isEditor hasForm hasKeys isProfile isMode editorSize zeros
+mode-four slots = refl
 
-cursor-past-line : (slots : List ℕ) → goodSaved (0 ∷ 0 ∷ 1 ∷ zeros 257) slots ≡ false
-unfolding goodSaved isEditor hasMode editorSavedIn editorSize goodLine limit zeros
+cursor-past-line : (slots : List ℕ) → goodSaved (0 ∷ 0 ∷ 1 ∷ zeros 260) slots ≡ false
+unfolding goodSaved isEditor hasForm hasKeys isProfile isMode profileOf modeOf editorSavedIn editorSize goodEditor goodLine limit zeros
 cursor-past-line slots = refl
 
--- bytes that are an editor, beside which a history of another length is none (`fresh-good`: all of them zeros are a good state)
-is : isEditor (zeros 258) ≡ true
-unfolding isEditor hasMode editorSavedIn editorSize goodLine lineOf padded limit sameBytes zeros
-is = refl
+-- the editor of an empty line in a mode, with a profile, bytes read and a parameter
+abbrev keyed : (mode profile read parameter : ℕ) → List ℕ
+keyed mode profile read parameter = mode ∷ (zeros 257 ++ (profile ∷ read ∷ parameter ∷ []))
 
--- too short comes before too long, and the state before the slots
-both-short : beginAnswer 0 0 ≡ NoRoom 260
-unfolding beginAnswer stateSize editorSize historySize
+Good : (mode profile read parameter : ℕ) → Bool
+Good mode profile read parameter = isEditor (keyed mode profile read parameter)
+
+-- profiles and modes that belong together, and such that do not
+modes : (Good 0 0 0 0 ≡ true) × (Good 1 0 0 0 ≡ true) × (Good 2 0 0 0 ≡ true) × (Good 3 0 0 0 ≡ false)
+    × (Good 0 1 0 0 ≡ true) × (Good 1 1 0 0 ≡ true) × (Good 2 1 0 0 ≡ false) × (Good 3 1 0 0 ≡ true) × (Good 0 2 0 0 ≡ false)
+unfolding Good isEditor hasForm hasKeys isProfile isMode profileOf modeOf editorSavedIn editorSize goodEditor goodProgress goodLine lineOf padded limit sameBytes zeros
+modes = (refl, refl, refl, refl, refl, refl, refl, refl, refl)
+
+-- sequences that bytes lead to, and such that none do; outside one nothing is read
+sequences : (Good 3 1 1 3 ≡ true) × (Good 3 1 1 255 ≡ true) × (Good 3 1 15 255 ≡ true)
+    × (Good 3 1 0 1 ≡ false) × (Good 3 1 1 0 ≡ false) × (Good 3 1 1 2 ≡ false) × (Good 3 1 2 3 ≡ false) × (Good 3 1 16 255 ≡ false)
+    × (Good 0 1 1 255 ≡ false) × (Good 1 1 0 1 ≡ false)
+unfolding Good isEditor hasForm hasKeys isProfile isMode profileOf modeOf editorSavedIn editorSize goodEditor goodProgress single other longest goodLine lineOf padded limit sameBytes zeros
+sequences = (refl, refl, refl, refl, refl, refl, refl, refl, refl, refl)
+
+-- the state before the slots, and too short before too long; a number that is no profile's before both
+both-short : beginAnswer 0 0 0 ≡ NoRoom 263
+unfolding beginAnswer isProfile stateSize editorSize historySize
 both-short = refl
 
-short-slots : beginAnswer 261 25599 ≡ NoRoom 25600
-unfolding beginAnswer stateSize editorSize historySize
-short-slots = refl
-
-long-state : beginAnswer 261 25600 ≡ BadState
-unfolding beginAnswer stateSize editorSize historySize
+long-state : beginAnswer 1 264 25599 ≡ BadState
+unfolding beginAnswer isProfile stateSize editorSize historySize
 long-state = refl
 
-long-slots : beginAnswer 260 25601 ≡ BadState
-unfolding beginAnswer stateSize editorSize historySize
+short-slots : beginAnswer 0 263 25599 ≡ NoRoom 25600
+unfolding beginAnswer isProfile stateSize editorSize historySize
+short-slots = refl
+
+long-slots : beginAnswer 1 263 25601 ≡ BadState
+unfolding beginAnswer isProfile stateSize editorSize historySize
 long-slots = refl
 
-ready : beginAnswer 260 25600 ≡ Ready
-unfolding beginAnswer stateSize editorSize historySize
+no-profile : beginAnswer 2 0 0 ≡ BadState
+unfolding beginAnswer isProfile
+no-profile = refl
+
+ready : beginAnswer 1 263 25600 ≡ Ready
+unfolding beginAnswer isProfile stateSize editorSize historySize
 ready = refl

@@ -3,7 +3,6 @@ use Prim.Native.Nat.{ℕ}
 use mathlib.Core.Path.{_≡_, refl, sym, ap, _∙_}
 use mathlib.Core.Bool.{Bool, true, false, cond}
 use mathlib.Core.List.{List, []}
-use Rattle.buffer.proofs.Choices.{then-is}
 use Rattle.history.specs.Journal.{Journal, noEntries, offered, recordOf, slotsOf as journalSlots, journalOf, good}
 use Rattle.history.specs.Answer.{addAnswer, slotsBy}
 use Rattle.history.specs.declared.stepping.History.{History}
@@ -11,16 +10,17 @@ use Rattle.history.specs.declared.adding.Added.{Added}
 use Rattle.history.specs.declared.adding.Added.the-variants.{Done, BadState as BadHistory, TooLong, IllFormed}
 use Rattle.history.proofs.Called.{done-has}
 use Rattle.history.proofs.Lasting.{offered-good}
+use Rattle.keys.specs.Modes.{profileOf}
 use Rattle.editor.specs.declared.line.Editor.{Editor}
 use Rattle.editor.specs.declared.drawing.Pressed.{Pressed}
 use Rattle.editor.specs.Line.{holding, freshEditor}
 use Rattle.editor.specs.Turns.{State, turnOf, afterKeys}
 use Rattle.editor.specs.Answer.{stateOf, editorOf, historyOf, slotsOf, goodState, refused}
 use Rattle.editor.proofs.Lines.{good-line, length-of}
-use Rattle.editor.proofs.States.{good-parts}
+use Rattle.editor.proofs.States.{good-parts, state-parts, good-state}
 use Rattle.editor.proofs.Fine.{fine-of, fine-good, turn-fine, never-bad}
 use Rattle.state.specs.State.{savedOf, editorIn, historyIn, goodSaved}
-use Rattle.state.specs.Calls.{Beginning, turnIn, savedAfter, SavedKey, savedAnswer, stateBy, SavedAdd}
+use Rattle.state.specs.Calls.{freshSaved, Beginning, turnIn, savedAfter, SavedKey, savedAnswer, stateBy, SavedAdd}
 use Rattle.state.specs.declared.calls.Begun.the-variants.{Ready}
 use Rattle.state.proofs.Savings.{good-saved, good-saved-parts}
 
@@ -28,9 +28,9 @@ use Rattle.state.proofs.Savings.{good-saved, good-saved-parts}
 pub saved-good : (e : Editor) (h : History) (slots : List ℕ) → goodState e h slots ≡ true → goodSaved (savedOf e h) slots ≡ true
 saved-good e h slots g = good-saved e h slots (length-of e (good-line e (good-parts e h slots g .0)) .0) ∙ g
 
-pub fresh-good : goodSaved (savedOf freshEditor (recordOf noEntries)) (journalSlots noEntries) ≡ true
-unfolding editorOf afterKeys holding
-fresh-good = saved-good freshEditor (recordOf noEntries) (journalSlots noEntries) (never-bad [] [])
+pub fresh-good : (number : ℕ) → goodSaved (freshSaved number) (journalSlots noEntries) ≡ true
+unfolding freshSaved editorOf afterKeys holding
+fresh-good number = saved-good (freshEditor (profileOf number)) (recordOf noEntries) (journalSlots noEntries) (never-bad (profileOf number) [] [])
 
 either-good : (t : Bool) (a b s r : List ℕ) → goodSaved a s ≡ true → goodSaved b r ≡ true → goodSaved (cond t a b) (cond t s r) ≡ true
 either-good true a b s r p q = p
@@ -55,12 +55,11 @@ done-so state slots text g d =
 
 added-good : (state slots text : List ℕ) → goodSaved state slots ≡ true → savedAnswer state slots text ≡ Done
     → goodSaved (savedOf (editorIn state) (recordOf (offered text (journalOf (historyIn state) slots)))) (journalSlots (offered text (journalOf (historyIn state) slots))) ≡ true
-unfolding goodState
 added-good state slots text g d =
     let j : Journal = offered text (journalOf (historyIn state) slots) in
     saved-good (editorIn state) (recordOf j) (journalSlots j)
-    (then-is _ _ _ (good-parts (editorIn state) (historyIn state) slots (good-saved-parts state slots g .1) .0)
-    ∙ offered-good (historyIn state) slots text (recordOf j) (journalSlots j) (done-has (historyIn state) slots text (done-so state slots text g d)) (record { state = refl; bytes = refl }))
+    (good-state (editorIn state) (recordOf j) (journalSlots j) (state-parts (editorIn state) (historyIn state) slots (good-saved-parts state slots g .1) .0)
+    (offered-good (historyIn state) slots text (recordOf j) (journalSlots j) (done-has (historyIn state) slots text (done-so state slots text g d)) (record { state = refl; bytes = refl })))
 
 pub add-stays : (state slots text : List ℕ) (told : Added) (state′ slots′ : List ℕ) → goodSaved state slots ≡ true → SavedAdd state slots text told state′ slots′
     → goodSaved state′ slots′ ≡ true
@@ -75,16 +74,16 @@ add-stays state slots text told state′ slots′ g k =
     by (TooLong n) d = g
     by (IllFormed n) d = g
 
--- what calls reach: a session that was begun, whatever its buffers held, then keys and adds in any order, each with buffers of its own
+-- what calls reach: a session that was begun by any profile, whatever its buffers held, then keys and adds in any order, each with buffers of its own
 pub data Reached : List ℕ → List ℕ → Type 0 where
-  begun : {state slots state′ slots′ : List ℕ} → Beginning state slots Ready state′ slots′ → Reached state′ slots′
+  begun : {profile : ℕ} {state slots state′ slots′ : List ℕ} → Beginning profile state slots Ready state′ slots′ → Reached state′ slots′
   by-key : {state slots prompt line screen state′ slots′ line′ screen′ : List ℕ} {byte : ℕ} {told : Pressed} → Reached state slots
       → SavedKey state slots prompt byte line screen told state′ slots′ line′ screen′ → Reached state′ slots′
   by-add : {state slots text state′ slots′ : List ℕ} {told : Added} → Reached state slots → SavedAdd state slots text told state′ slots′ → Reached state′ slots′
 
 -- no sequence of calls reaches a bad state
 pub never-reached-bad : (state slots : List ℕ) → Reached state slots → goodSaved state slots ≡ true
-never-reached-bad state′ slots′ (begun b) = ap (λ (x : List ℕ). goodSaved x slots′) (b .kept) ∙ ap (goodSaved (savedOf freshEditor (recordOf noEntries))) (b .held) ∙ fresh-good
+never-reached-bad state′ slots′ (begun {profile} b) = ap (λ (x : List ℕ). goodSaved x slots′) (b .kept) ∙ ap (goodSaved (freshSaved profile)) (b .held) ∙ fresh-good profile
 never-reached-bad state′ slots′ (by-key {state} {slots} {prompt} {line} {screen} {line′ = line′} {screen′ = screen′} {byte = byte} {told = told} r k) =
     key-stays state slots prompt byte line screen told state′ slots′ line′ screen′ (never-reached-bad state slots r) k
 never-reached-bad state′ slots′ (by-add {state} {slots} {text} {told = told} r k) =

@@ -2,7 +2,7 @@
 use Prim.Native.Nat.{ℕ, _+_, _≤_}
 use mathlib.Core.Path.{_≡_, refl, sym, ap, _∙_}
 use mathlib.Core.Bool.{Bool, true, false, cond}
-use mathlib.Core.List.{List, [], _++_, append-nil}
+use mathlib.Core.List.{List, [], _∷_, _++_, append-nil}
 use native.Mathlib.Omega.{arith}
 use lib.ListN.{length, take, drop, length-append, length-drop, take-append-drop}
 use lib.Seq.{take-at, drop-at}
@@ -20,19 +20,22 @@ use Rattle.history.specs.Saved.{savedSize as historySize, savedOf as historySav
 use Rattle.history.proofs.States.{holds}
 use Rattle.history.proofs.Journals.{good-fits as history-fits}
 use Rattle.history.proofs.Saved.{saved-in as history-back, saved-back as history-bytes, length-saved as length-history, saved-is as history-is, saved-has as history-has, right-length, good-back, bad-back, restored-saved as history-restored}
+use Rattle.keys.specs.declared.standing.Profile.{Profile}
+use Rattle.keys.specs.Modes.{profileNumber}
+use Rattle.keys.proofs.Modes.{profile-back}
 use Rattle.editor.specs.declared.line.Editor.{Editor}
 use Rattle.editor.specs.declared.saving.Restored.{Restored as RestoredEditor}
-use Rattle.editor.specs.Line.{limit, padded, freshEditor, goodLine}
+use Rattle.editor.specs.Line.{limit, padded, freshEditor, goodEditor}
 use Rattle.editor.specs.Turns.{State, turnOf}
 use Rattle.editor.specs.Answer.{stateOf, goodState}
-use Rattle.editor.specs.Saved.{savedSize as editorSize, savedOf as editorSaved, savedIn as editorSavedIn, hasMode, isSaved as isEditor, restored as restoredEditor, Fits as EditorFits}
-use Rattle.editor.proofs.States.{good-parts}
-use Rattle.editor.proofs.Saved.{length-saved, saved-is as editor-is, saved-has as editor-has, right-head, head-size, saved-in, saved-back, good-fits as editor-fits, restored-is, restored-not, restored-saved as editor-restored}
+use Rattle.editor.specs.Saved.{savedSize as editorSize, savedOf as editorSaved, savedIn as editorSavedIn, hasForm, isSaved as isEditor, restored as restoredEditor, Fits as EditorFits}
+use Rattle.editor.proofs.States.{state-parts}
+use Rattle.editor.proofs.Saved.{length-saved, saved-is as editor-is, saved-has as editor-has, right-form, form-size, saved-in, saved-back, good-fits as editor-fits, restored-is, restored-not, restored-saved as editor-restored}
 use Rattle.state.specs.State.{stateSize, savedOf, editorIn, historyIn, goodSaved}
-use Rattle.state.specs.Calls.{turnIn}
+use Rattle.state.specs.Calls.{freshSaved, turnIn}
 
 -- the sizes
-pub size-is : stateSize ≡ 260
+pub size-is : stateSize ≡ 263
 unfolding stateSize editorSize historySize
 size-is = refl
 
@@ -49,9 +52,9 @@ rest-saved : (e : Editor) (h : History) → length (e .line) ≡ 255 → drop ed
 unfolding savedOf
 rest-saved e h l = drop-at (editorSaved e) (historySaved h) editorSize (editor-part e l)
 
-editor-saved : (e : Editor) (h : History) → length (e .line) ≡ 255 → editorIn (savedOf e h) ≡ e
+pub editor-saved : (e : Editor) (h : History) → length (e .line) ≡ 255 → editorIn (savedOf e h) ≡ e
 unfolding editorIn
-editor-saved e h l = ap editorSavedIn (front-saved e h l) ∙ saved-in e
+editor-saved e h l = ap editorSavedIn (front-saved e h l) ∙ saved-in e l
 
 pub history-saved : (e : Editor) (h : History) → length (e .line) ≡ 255 → historyIn (savedOf e h) ≡ h
 unfolding historyIn
@@ -64,7 +67,7 @@ good-saved e h slots l =
     ap (λ (x : List ℕ). cond (isEditor x) (isHistory (drop editorSize (savedOf e h)) slots) false) (front-saved e h l)
     ∙ ap (λ (x : List ℕ). cond (isEditor (editorSaved e)) (isHistory x slots) false) (rest-saved e h l)
     ∙ ap (λ (t : Bool). cond t (isHistory (historySaved h) slots) false) (editor-is e l)
-    ∙ ap (λ (t : Bool). cond (goodLine e) t false) (history-is h slots)
+    ∙ ap (λ (t : Bool). cond (goodEditor e) t false) (history-is h slots)
 
 pub held-saved : (e : Editor) (h : History) (slots : List ℕ) → length (e .line) ≡ 255 → stateOf (editorIn (savedOf e h)) (historyIn (savedOf e h)) slots ≡ stateOf e h slots
 held-saved e h slots l =
@@ -80,10 +83,10 @@ tests-held : (s slots : List ℕ) → goodSaved s slots ≡ true → (isEditor (
 unfolding goodSaved
 tests-held s slots g = holds (isEditor (take editorSize s)) _ g
 
--- bytes with a state's length and a mode; they are as good as the editor and the history that they hold
+-- bytes with a state's length and an editor's form; they are as good as the editor and the history that they hold
 pub record IsState (state : List ℕ) : Type 0 where
   pub size : length state ≡ stateSize
-  pub mode : hasMode (take editorSize state) ≡ true
+  pub form : hasForm (take editorSize state) ≡ true
 
 history-size : (s : List ℕ) → length s ≡ stateSize → length (drop editorSize s) ≡ historySize
 unfolding stateSize
@@ -92,8 +95,8 @@ history-size s n = let d = length-drop editorSize s in omega arith
 pub good-as : (s slots : List ℕ) → IsState s → goodSaved s slots ≡ goodState (editorIn s) (historyIn s) slots
 unfolding goodSaved goodState editorIn historyIn
 good-as s slots k =
-    ap (λ (t : Bool). cond t (isHistory (drop editorSize s) slots) false) (right-head (take editorSize s) (k .mode))
-    ∙ ap (λ (t : Bool). cond (goodLine (editorSavedIn (take editorSize s))) t false) (right-length (drop editorSize s) slots (history-size s (k .size)))
+    ap (λ (t : Bool). cond t (isHistory (drop editorSize s) slots) false) (right-form (take editorSize s) (k .form))
+    ∙ ap (λ (t : Bool). cond (goodEditor (editorSavedIn (take editorSize s))) t false) (right-length (drop editorSize s) slots (history-size s (k .size)))
 
 -- a good one is such
 is-state : (s : List ℕ) → length (take editorSize s) ≡ editorSize → length (drop editorSize s) ≡ historySize → length s ≡ stateSize
@@ -109,28 +112,32 @@ good-saved-parts s slots g = (shape, sym (good-as s slots shape) ∙ g)
 
     shape : IsState s
     shape =
-        let head = editor-has (take editorSize s) (parts .0) .head in
-        record { size = is-state s (head-size (take editorSize s) head) (history-has (drop editorSize s) slots (parts .1) .size); mode = head }
+        let form = editor-has (take editorSize s) (parts .0) .form in
+        record { size = is-state s (form-size (take editorSize s) form) (history-has (drop editorSize s) slots (parts .1) .size); form = form }
 
 -- what restores is the saving of what was restored
 pub saved-restored : (s : List ℕ) → IsState s → savedOf (editorIn s) (historyIn s) ≡ s
 unfolding savedOf editorIn historyIn
 saved-restored s k =
-    ap (λ (x : List ℕ). x ++ historySaved (historySavedIn (drop editorSize s))) (saved-back (take editorSize s) (k .mode))
+    ap (λ (x : List ℕ). x ++ historySaved (historySavedIn (drop editorSize s))) (saved-back (take editorSize s) (k .form))
     ∙ ap (λ (x : List ℕ). take editorSize s ++ x) (history-bytes (drop editorSize s) (history-size s (k .size)))
     ∙ take-append-drop editorSize s
 
--- a fresh session is all zeros
-pub fresh-zeros : savedOf freshEditor (recordOf noEntries) ≡ zeros 260
+-- a fresh session is all zeros but for its profile's number
+fresh-zeros : (p : Profile) → savedOf (freshEditor p) (recordOf noEntries) ≡ zeros 258 ++ (profileNumber p ∷ zeros 4)
 unfolding savedOf editorSaved historySaved recordOf padded limit zeros
-fresh-zeros = refl
+fresh-zeros p = refl
+
+pub fresh-saved : (p : Profile) → freshSaved (profileNumber p) ≡ zeros 258 ++ (profileNumber p ∷ zeros 4)
+unfolding freshSaved
+fresh-saved p = ap (λ (x : Profile). savedOf (freshEditor x) (recordOf noEntries)) (profile-back p) ∙ fresh-zeros p
 
 -- the numbers of a good state are bytes
 abbrev pub Fits : Editor → History → Type 0
 Fits e h = EditorFits e × HistoryFits h
 
 pub good-fits : (e : Editor) (h : History) (slots : List ℕ) → goodState e h slots ≡ true → Fits e h
-good-fits e h slots g = let p = good-parts e h slots g in (editor-fits e (p .0), history-fits h slots (p .1))
+good-fits e h slots g = let p = state-parts e h slots g in (editor-fits e (p .0), history-fits h slots (p .1))
 
 -- how the code writes them: the editor, then the history after it
 pub editor-room : (state : List ℕ) → length state ≡ stateSize → 0 + editorSize ≤ length state
@@ -161,14 +168,14 @@ save-written e h state mid left p r n l a b =
     ∙ append-nil all
 
 -- the sizes and parts, as the code has them
-pub as-size : (n : ℕ) → n ≡ 260 → n ≡ stateSize
+pub as-size : (n : ℕ) → n ≡ 263 → n ≡ stateSize
 as-size n h = h ∙ sym size-is
 
-pub part-editor : (s part : List ℕ) → part ≡ take 258 (drop 0 s) → part ≡ take editorSize s
+pub part-editor : (s part : List ℕ) → part ≡ take 261 (drop 0 s) → part ≡ take editorSize s
 unfolding editorSize
 part-editor s part e = e
 
-pub rest-history : (s rest : List ℕ) → rest ≡ drop 258 s → rest ≡ drop editorSize s
+pub rest-history : (s rest : List ℕ) → rest ≡ drop 261 s → rest ≡ drop editorSize s
 unfolding editorSize
 rest-history s rest e = e
 
@@ -223,7 +230,7 @@ read-size e h s slots b = good-saved-parts s slots (b .is) .0 .size
 pub restored-saved : (e : Editor) (h : History) (slots : List ℕ) → length (e .line) ≡ 255 → goodState e h slots ≡ true
     → (restoredEditor (take editorSize (savedOf e h)) ≡ record { valid = true; editor = e }) × (restoredHistory (drop editorSize (savedOf e h)) slots ≡ Good h)
 restored-saved e h slots l g =
-    let p = good-parts e h slots g in (
+    let p = state-parts e h slots g in (
       ap restoredEditor (front-saved e h l) ∙ editor-restored e l (p .0),
       ap (λ (x : List ℕ). restoredHistory x slots) (rest-saved e h l) ∙ history-restored h slots (p .1),
     )

@@ -1,4 +1,4 @@
--- What the calls on a saved state answer and leave (STANDARD 3.6, 4.1, 4.3, 4.5, 10.15, 10.16; 9 and 12 of 10.1).
+-- What the calls on a saved state answer and leave (STANDARD 3.6, 4.1, 4.3, 4.5, 10.15, 10.16, 10.23; 9 and 12 of 10.1).
 use Prim.Native.Nat.{ℕ}
 use mathlib.Core.Path.{_≡_}
 use mathlib.Core.Bool.{Bool, true, false, cond}
@@ -11,6 +11,7 @@ use Rattle.history.specs.Journal.{Journal, noEntries, offered, recordOf, slotsO
 use Rattle.history.specs.Answer.{addAnswer, slotsBy}
 use Rattle.history.specs.declared.adding.Added.{Added}
 use Rattle.history.specs.declared.adding.Added.the-variants.{Done, BadState as BadHistory, TooLong, IllFormed}
+use Rattle.keys.specs.Modes.{isProfile, profileOf}
 use Rattle.editor.specs.declared.drawing.Pressed.{Pressed}
 use Rattle.editor.specs.Line.{freshEditor}
 use Rattle.editor.specs.Turns.{State, Turn, turnOf}
@@ -19,15 +20,17 @@ use Rattle.state.specs.State.{stateSize, savedOf, editorIn, historyIn, g
 use Rattle.state.specs.declared.calls.Begun.{Begun}
 use Rattle.state.specs.declared.calls.Begun.the-variants.{Ready, NoRoom, BadState}
 
--- a fresh session: a buffer that is too short is refused with the length needed, the state's first; one of another length, which is then too long,
--- is a bad state's (10.16)
-unfoldable pub beginAnswer : ℕ → ℕ → Begun
-beginAnswer state slots =
-    cond (ltb state stateSize) (NoRoom stateSize)
-    (cond (ltb slots slotsSize) (NoRoom slotsSize)
+-- a fresh session: a number that is no profile's is refused first; then, the state before the slots, a buffer that is too short, with the length needed, and one that is too long
+-- (10.16, 10.23)
+unfoldable pub beginAnswer : ℕ → ℕ → ℕ → Begun
+beginAnswer profile state slots =
+    cond (isProfile profile)
+    (cond (ltb state stateSize) (NoRoom stateSize)
     (cond (ltb stateSize state) BadState
+    (cond (ltb slots slotsSize) (NoRoom slotsSize)
     (cond (ltb slotsSize slots) BadState
-    Ready)))
+    Ready))))
+    BadState
 
 abbrev pub isReady : Begun → Bool
 isReady Ready = true
@@ -45,10 +48,14 @@ value Ready = 0
 value (NoRoom n) = n
 value BadState = 0
 
--- (4.3, 10.16)
-pub record Beginning (state slots : List ℕ) (told : Begun) (state′ slots′ : List ℕ) : Type 0 where
-  pub answer : told ≡ beginAnswer (length state) (length slots)
-  pub kept : state′ ≡ cond (isReady told) (savedOf freshEditor (recordOf noEntries)) state
+-- the bytes of a fresh session (4.3)
+unfoldable pub freshSaved : ℕ → List ℕ
+freshSaved profile = savedOf (freshEditor (profileOf profile)) (recordOf noEntries)
+
+-- (4.3, 10.16, 10.23)
+pub record Beginning (profile : ℕ) (state slots : List ℕ) (told : Begun) (state′ slots′ : List ℕ) : Type 0 where
+  pub answer : told ≡ beginAnswer profile (length state) (length slots)
+  pub kept : state′ ≡ cond (isReady told) (freshSaved profile) state
   pub held : slots′ ≡ cond (isReady told) (journalSlots noEntries) slots
 
 -- one key: the turn that it takes in a saved state

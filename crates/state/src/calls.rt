@@ -11,34 +11,39 @@ use history::Added;
 use history::History;
 use history::Restored;
 use history::add_tested;
+use keys::is_profile;
+use keys::profile_of;
 
 // What beginning a session answers.
 pub enum Begun {
     Ready,
     // A buffer is too short: the length needed.
     NoRoom(usize),
-    // A buffer is longer than a state's, or than the slots.
+    // The profile is none, or a buffer is longer than a state's, or than the slots.
     BadState,
 }
 
-// A fresh session: no line, no history.
-pub fn begin(state: &mut [u8], slots: &mut [u8]) -> Begun
-    ensures { λ r. ⌜ Beginning (now (state .entry)) (now (slots .entry)) r (now (state .exit)) (now (slots .exit)) ⌝ }
+// A fresh session whose keys are read by the profile of that number: no line, no history.
+pub fn begin(profile: u8, state: &mut [u8], slots: &mut [u8]) -> Begun
+    ensures { λ r. ⌜ Beginning profile (now (state .entry)) (now (slots .entry)) r (now (state .exit)) (now (slots .exit)) ⌝ }
 {
+    if !is_profile(profile) {
+        return Begun::BadState;
+    }
     if state.len() < SIZE {
         return Begun::NoRoom(SIZE);
     }
-    if slots.len() < History::SLOTS {
-        return Begun::NoRoom(History::SLOTS);
-    }
     if SIZE < state.len() {
         return Begun::BadState;
+    }
+    if slots.len() < History::SLOTS {
+        return Begun::NoRoom(History::SLOTS);
     }
     if History::SLOTS < slots.len() {
         return Begun::BadState;
     }
     let history = History::fresh_in(slots);
-    save(Editor::fresh(), history, state);
+    save(Editor::fresh(profile_of(profile)), history, state);
     Begun::Ready
 }
 

@@ -14,6 +14,7 @@ use Rattle.editor.specs.Turns.{State}
 use Rattle.buffer.proofs.Zeros.{length-zeros}
 use Rattle.history.specs.Journal.{noEntries, slotsOf}
 use Rattle.history.proofs.Journals.{none-zeros}
+use Rattle.keys.specs.declared.standing.Profile.{Profile}
 use Rattle.session.specs.Lines.{Standing, beginning}
 use Rattle.session.specs.Calls.{fresh}
 use Rattle.session.specs.declared.standing.Session.{Session}
@@ -86,16 +87,17 @@ module _ (h : Session) (line image slots : List ℕ) where
         record { ready = k; held = omega arith; keys = omega arith; early = λ e f. leb-false _ _ e; unended = nothing-held }
 
 -- a fresh stream, with zeros for slots
-pub start-sound : (line image : List ℕ) → length line ≡ lineRoom → length image ≡ 32768 → Sound starting line image (slotsOf noEntries)
-start-sound line image w r =
+pub start-sound : (profile : Profile) (line image : List ℕ) → length line ≡ lineRoom → length image ≡ 32768 → Sound (starting profile) line image (slotsOf noEntries)
+start-sound profile line image w r =
     record {
-      ready = record { holds = holds-own beginning fresh image (slotsOf noEntries) (holds-fresh image); whole = w; room = r; slot = ap length none-zeros ∙ length-zeros 25600 };
+      ready = record { holds = holds-own (beginning profile) (fresh profile) image (slotsOf noEntries) (holds-fresh profile image); whole = w; room = r; slot = ap length none-zeros ∙ length-zeros 25600 };
       held = omega arith;
       keys = omega arith;
       early = λ e f. omega arith;
-      unended = nothing-held fresh line image (slotsOf noEntries);
+      unended = nothing-held (fresh profile) line image (slotsOf noEntries);
     }
 
-pub start-stands : (line image : List ℕ) → standOf starting line image (slotsOf noEntries) ≡ start
+pub start-stands : (profile : Profile) (line image : List ℕ) → standOf (starting profile) line image (slotsOf noEntries) ≡ start profile
 unfolding standOf
-start-stands line image = ap (λ (s : Standing). reads s []) (holds-standing beginning fresh image (slotsOf noEntries) (holds-fresh image))
+start-stands profile line image =
+    ap (λ (s : Standing). reads s []) (holds-standing (beginning profile) (fresh profile) image (slotsOf noEntries) (holds-fresh profile image))

@@ -12,6 +12,7 @@ use Rattle.frame.specs.House.{LF, endsInLF, digitsOf, readHouse}
 use Rattle.frame.specs.Hex.{unhex}
 use Rattle.frame.specs.declared.house.House.{House}
 use Rattle.session.specs.Prints.{Printed, badLine, linesOf}
+use Rattle.keys.specs.declared.standing.Profile.{Profile}
 use Rattle.session.specs.Lines.{formBy, formless, Form, lineForm, Standing, beginning, Taking, grown, pressing, refused, takeForm, takeLine, Course, preceded, pressKey, pressKeys, onTaking, lineCourse, session}
 use Rattle.session.specs.Sizes.{keyRoom}
 use Rattle.session.proofs.Printings.{lines-both}
@@ -213,6 +214,6 @@ run-comes _ _ _ f (steps room s piece more out r) =
     ∙ ap linesOf (sym (c .prints))
 
 -- from the beginning on it writes what the definition says of all bytes that were read
-pub whole : (bytes out : List ℕ) → Run start bytes out → out ≡ console bytes
+pub whole : (profile : Profile) (bytes out : List ℕ) → Run (start profile) bytes out → out ≡ console profile bytes
 unfolding console linesIn rest endsInLF
-whole bytes out r = run-comes start bytes out (omega arith, refl) r
+whole profile bytes out r = run-comes (start profile) bytes out (omega arith, refl) r

@@ -5,6 +5,7 @@ use mathlib.Core.List.{List, [], _∷_, _++_}
 use lib.Dec.{eqb, leb}
 use lib.ListN.{length}
 use Rattle.frame.specs.House.{LF}
+use Rattle.keys.specs.declared.standing.Profile.{Profile}
 use Rattle.session.specs.Prints.{linesOf}
 use Rattle.session.specs.Lines.{beginning, session}
 
@@ -31,6 +32,6 @@ cut held (byte ∷ bytes) =
 unfoldable pub linesIn : List ℕ → List (List ℕ)
 linesIn bytes = cut [] bytes
 
--- all that `console` writes for all that it reads (11.1)
-unfoldable pub console : List ℕ → List ℕ
-console bytes = linesOf (session beginning (linesIn bytes))
+-- all that `console` writes for all that it reads, with keys read as the profile has them (2.23, 11.1)
+unfoldable pub console : Profile → List ℕ → List ℕ
+console profile bytes = linesOf (session (beginning profile) (linesIn bytes))

@@ -9,6 +9,7 @@ use Rattle.buffer.specs.Write.{over}
 use Rattle.frame.specs.House.{endsInLF}
 use Rattle.tree.specs.Rules.{imageLimit}
 use Rattle.history.specs.Slots.{slotsSize}
+use Rattle.keys.specs.declared.standing.Profile.{Profile}
 use Rattle.editor.specs.Answer.{stateOf}
 use Rattle.session.specs.Sizes.{lastLine}
 use Rattle.session.specs.Prints.{Printed, badLine, linesOf}
@@ -34,8 +35,9 @@ settled h = record { session = h; held = 0; next = 0; keys = 0; over = leb lastL
 abbrev pub stopped : Session → Stream
 stopped h = record { session = h; held = 0; next = 0; keys = 0; over = true }
 
-abbrev pub starting : Stream
-starting = reading fresh 0
+-- nothing has come, and keys are read as the profile has them (2.23)
+abbrev pub starting : Profile → Stream
+starting profile = reading (fresh profile) 0
 
 -- no byte can be taken: keys are still to be pressed, or the session is at its end
 unfoldable pub busyWith : Stream → Bool

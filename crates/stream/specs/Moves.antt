@@ -5,6 +5,7 @@ use mathlib.Core.Bool.{cond}
 use mathlib.Core.List.{List, [], _∷_, _++_}
 use lib.Dec.{ltb}
 use lib.ListN.{length}
+use Rattle.keys.specs.declared.standing.Profile.{Profile}
 use Rattle.session.specs.Prints.{Printed, badLine, linesOf}
 use Rattle.session.specs.Lines.{Standing, beginning, Course, Taking, grown, pressing, refused, takeLine, pressKey, pressKeys, session}
 use Rattle.session.specs.Sizes.{lastLine, keyRoom}
@@ -16,8 +17,9 @@ pub data Stand : Type 0 where
   waits : (at : Standing) (keys : List ℕ) → Stand
   closed : Stand
 
-abbrev pub start : Stand
-start = reads beginning []
+-- nothing has come, and keys are read as the profile has them (2.23)
+abbrev pub start : Profile → Stand
+start profile = reads (beginning profile) []
 
 -- what is still to be printed, if these bytes are all that come
 abbrev pub onward : Course → (Standing → List Printed) → List Printed

@@ -1,4 +1,5 @@
 // Where a stream stands, by value: its session, and what lies in the buffer for a line.
+use keys::Profile;
 use session::Session;
 ghost use mathlib.Core.Path.{_≡_};
 ghost use Rattle.stream.specs.Held.{starting, reading, waiting, settled, stopped, busyWith};
@@ -30,12 +31,12 @@ impl Stream {
     // Room for a line: the longest house line has 1,024 digits and its LF, so with this many bytes it is none.
     pub const LINE_ROOM: usize = 1026;
 
-    // Nothing has come.
-    pub fn start() -> Stream
-        ensures { λ r. ⌜ r ≡ starting ⌝ }
+    // Nothing has come, and keys are read as the profile has them.
+    pub fn start(profile: Profile) -> Stream
+        ensures { λ r. ⌜ r ≡ starting profile ⌝ }
     {
         Stream {
-            session: Session::fresh(),
+            session: Session::fresh(profile),
             held: 0,
             next: 0,
             keys: 0,

@@ -1,17 +1,13 @@
 -- `rissemat::rissemat_fresh` meets its contract.
-use Rattle.rissemat.proofs.Answering.{fresh-call}
 use borrow.Author.Needs.{needs}
 use Rattle.rissemat.proofs.rissemat_fresh.Statement.{statement}
 use Rattle.rissemat.proofs.rissemat_fresh.Tie as tie
 
-begin-requires : tie.Need-begin-requires
-begin-requires c κs = search needs
+profile-number-requires : tie.Need-profile-number-requires
+profile-number-requires c κs = search needs
 
-of-fresh-requires : tie.Need-of-fresh-requires
-of-fresh-requires c κs = search needs
-
-packed-requires : tie.Need-packed-requires
-packed-requires c κs = search needs
+rissemat-fresh-with-requires : tie.Need-rissemat-fresh-with-requires
+rissemat-fresh-with-requires c κs = search needs
 
 same-length : tie.Need-same-length
 same-length c = search needs
@@ -21,10 +17,16 @@ same-length-2 c = search needs
 
 returns : tie.Need-returns
 returns c =
-    let begin = c .before .before .before .before .before .before .begin in
-    fresh-call (c .before .of-fresh .result) (c .packed .result) (begin .ensures) (c .before .of-fresh .ensures) (c .packed .ensures)
+    let profile-number = c .before .before .before .before .before .before .before .profile-number in
+    let rissemat-fresh-with = c .before .before .before .before .rissemat-fresh-with in
+    rw (profile-number .ensures) at (rissemat-fresh-with .ensures)
 
 pub rissemat-fresh-spec : {M : Type 1} → statement M
 rissemat-fresh-spec =
     tie.close
-    (tie.spec begin-requires of-fresh-requires packed-requires same-length same-length-2 returns)
+    (tie.spec
+    profile-number-requires
+    rissemat-fresh-with-requires
+    same-length
+    same-length-2
+    returns)

@@ -17,7 +17,7 @@ start-requires : tie.Need-start-requires Inv-loop μ-loop
 start-requires c κs = search needs
 
 loop-holds : tie.Need-loop-holds Inv-loop μ-loop
-loop-holds c = let s = c .before .before .before .before .before .before in let p = s .pre in let r = begins _ _ _ _ _ (p .0) (p .1) (p .2) (p .3) (p .4) in (rw (c .start .ensures) r, p .0, p .1, p .2, r .sound .ready .slot, p .4)
+loop-holds c = let s = c .before .before .before .before .before .before in let p = s .pre in let r = begins _ _ _ _ _ _ (p .0) (p .1) (p .2) (p .3) (p .4) in (rw (c .start .ensures) r, p .0, p .1, p .2, r .sound .ready .slot, p .4)
 
 same-length : tie.Need-same-length Inv-loop μ-loop
 same-length c = let i = c .before .before .loop .inv in i .0 .pieces ∙ sym (i .1)

@@ -5,10 +5,10 @@ use Rattle.replay_session.proofs.sample.differing.Statement.{statement}
 use Rattle.replay_session.proofs.sample.differing.Tie as tie
 
 abbrev Inv-loop : tie.InvT-loop
-Inv-loop session text way₀ way = way ≤ 6
+Inv-loop profile session text way₀ way = way ≤ 6
 
 abbrev μ-loop : tie.MeasureT-loop
-μ-loop session text way₀ way = 6 - way
+μ-loop profile session text way₀ way = 6 - way
 
 loop-holds : tie.Need-loop-holds Inv-loop μ-loop
 loop-holds c = search needs

@@ -20,7 +20,7 @@ start-requires : tie.Need-start-requires Inv-loop μ-loop
 start-requires c κs = search needs
 
 loop-holds : tie.Need-loop-holds Inv-loop μ-loop
-loop-holds c = let p = c .before .before .before .before .before .before .before .pre in let r = begins _ _ _ (p .0) (p .1) (p .2) in (rw (c .start .ensures) r, omega arith, refl, refl, r .ready .slot)
+loop-holds c = let p = c .before .before .before .before .before .before .before .pre in let r = begins _ _ _ _ (p .0) (p .1) (p .2) in (rw (c .start .ensures) r, omega arith, refl, refl, r .ready .slot)
 
 part-requires : tie.Need-part-requires Inv-loop μ-loop
 part-requires c κs = search needs

@@ -1,7 +1,7 @@
 -- `editor::line::Editor::act` meets its contract.
 use Rattle.editor.proofs.States.{good-parts}
-use Rattle.editor.proofs.Turns.{quiet}
-use Rattle.editor.proofs.Keeping.{quiet-keeps, erase-keeps, insert-keeps, up-keeps, down-keeps, right-keeps, left-keeps, acted, entered}
+use Rattle.editor.proofs.Turns.{quiet, go-end}
+use Rattle.editor.proofs.Keeping.{quiet-keeps, erase-keeps, insert-keeps, up-keeps, down-keeps, right-keeps, left-keeps, go-keeps, delete-keeps, acted, entered}
 use Rattle.editor.specs.Answer.{stateOf}
 use borrow.Author.Needs.{needs}
 use Rattle.editor.proofs.line.Editor.act.Statement.{statement}
@@ -63,6 +63,33 @@ left-requires c κs =
     let args = c .before .before .before .before .before .before .before .args in
     let pre = c .before .before .before .before .before .before .before .pre in
     good-parts (args .self) (args .history) (args .slots .now) (pre .0) .0
+
+enum-told-8 : tie.Need-enum-told-8
+enum-told-8 c = search needs
+
+go-to-requires : tie.Need-go-to-requires
+go-to-requires c κs =
+    let args = c .before .before .before .before .before .before .before .args in
+    let pre = c .before .before .before .before .before .before .before .pre in
+    (good-parts (args .self) (args .history) (args .slots .now) (pre .0) .0, pre .1 .0)
+
+enum-told-9 : tie.Need-enum-told-9
+enum-told-9 c = search needs
+
+go-to-requires-2 : tie.Need-go-to-requires-2
+go-to-requires-2 c κs =
+    let args = c .before .before .before .before .before .before .before .args in
+    let pre = c .before .before .before .before .before .before .before .pre in
+    (good-parts (args .self) (args .history) (args .slots .now) (pre .0) .0, pre .1 .0)
+
+enum-told-10 : tie.Need-enum-told-10
+enum-told-10 c = search needs
+
+delete-key-requires : tie.Need-delete-key-requires
+delete-key-requires c κs =
+    let args = c .before .before .before .before .before .before .before .args in
+    let pre = c .before .before .before .before .before .before .before .pre in
+    (good-parts (args .self) (args .history) (args .slots .now) (pre .0) .0, pre .1 .0)
 
 returns : tie.Need-returns
 returns c =
@@ -152,6 +179,36 @@ returns-8 c =
     let enum-told7 = c .before .before .before .before .enum-told7 in
     acted (args .self) (args .history) (args .slots .now) (args .prompt .now) (args .line .now) (args .screen .now) _ _ (enum-told7 .given .1) _ _ (good-parts (args .self) (args .history) (args .slots .now) (pre .0) .1) (left-keeps (args .prompt .now) (stateOf (args .self) (args .history) (args .slots .now))) (c .before .before .left .ensures (args .slots .now))
 
+same-length-12 : tie.Need-same-length-12
+same-length-12 c = search needs
+
+returns-9 : tie.Need-returns-9
+returns-9 c =
+    let args = c .before .before .before .before .before .before .before .before .before .before .args in
+    let pre = c .before .before .before .before .before .before .before .before .before .before .pre in
+    let enum-told8 = c .before .before .before .before .enum-told8 in
+    acted (args .self) (args .history) (args .slots .now) (args .prompt .now) (args .line .now) (args .screen .now) _ _ (enum-told8 .given .1) _ _ (good-parts (args .self) (args .history) (args .slots .now) (pre .0) .1) (go-keeps (args .prompt .now) (stateOf (args .self) (args .history) (args .slots .now)) 0) (c .before .before .go-to .ensures (args .slots .now))
+
+same-length-13 : tie.Need-same-length-13
+same-length-13 c = search needs
+
+returns-10 : tie.Need-returns-10
+returns-10 c =
+    let args = c .before .before .before .before .before .before .before .before .before .before .args in
+    let pre = c .before .before .before .before .before .before .before .before .before .before .pre in
+    let enum-told9 = c .before .before .before .before .enum-told9 in
+    acted (args .self) (args .history) (args .slots .now) (args .prompt .now) (args .line .now) (args .screen .now) _ _ (enum-told9 .given .1) _ _ (good-parts (args .self) (args .history) (args .slots .now) (pre .0) .1) (go-keeps (args .prompt .now) (stateOf (args .self) (args .history) (args .slots .now)) _) (go-end (args .self) (args .history) (args .slots .now) (args .screen .now) (good-parts (args .self) (args .history) (args .slots .now) (pre .0) .0) (args .prompt .now) _ _ (c .before .before .go-to2 .ensures (args .slots .now)))
+
+same-length-14 : tie.Need-same-length-14
+same-length-14 c = search needs
+
+returns-11 : tie.Need-returns-11
+returns-11 c =
+    let args = c .before .before .before .before .before .before .before .before .before .before .args in
+    let pre = c .before .before .before .before .before .before .before .before .before .before .pre in
+    let enum-told10 = c .before .before .before .before .enum-told10 in
+    acted (args .self) (args .history) (args .slots .now) (args .prompt .now) (args .line .now) (args .screen .now) _ _ (enum-told10 .given .1) _ _ (good-parts (args .self) (args .history) (args .slots .now) (pre .0) .1) (delete-keeps (args .prompt .now) (stateOf (args .self) (args .history) (args .slots .now))) (c .before .before .delete-key .ensures (args .slots .now))
+
 pub act-spec : {M : Type 1} → statement M
 act-spec =
     tie.close
@@ -171,6 +228,12 @@ act-spec =
     right-requires
     enum-told-7
     left-requires
+    enum-told-8
+    go-to-requires
+    enum-told-9
+    go-to-requires-2
+    enum-told-10
+    delete-key-requires
     returns
     same-length
     same-length-2
@@ -189,4 +252,10 @@ act-spec =
     same-length-10
     returns-7
     same-length-11
-    returns-8)
+    returns-8
+    same-length-12
+    returns-9
+    same-length-13
+    returns-10
+    same-length-14
+    returns-11)

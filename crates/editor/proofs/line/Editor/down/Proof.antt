@@ -1,6 +1,8 @@
 -- `editor::line::Editor::down` meets its contract.
 use Rattle.editor.proofs.Turns.{recalled-short, down-cleared, down-shown}
-use Rattle.editor.proofs.States.{held-fits, fresh-fits, short-enough}
+use Rattle.editor.proofs.States.{held-fits, short-enough}
+use native.Mathlib.Omega.{arith}
+use mathlib.Core.List.{[]}
 use mathlib.Core.Path.{refl}
 use borrow.Author.Needs.{needs}
 use Rattle.editor.proofs.line.Editor.down.Statement.{statement}
@@ -15,13 +17,13 @@ enum-known-recalled c = search needs
 enum-told : tie.Need-enum-told
 enum-told c = search needs
 
-fresh-requires : tie.Need-fresh-requires
-fresh-requires c κs = search needs
+emptied-requires : tie.Need-emptied-requires
+emptied-requires c κs = search needs
 
 redraw-requires : tie.Need-redraw-requires
 redraw-requires c κs =
     let pre = c .before .before .before .before .before .before .before .before .pre in
-    let f = fresh-fits _ (c .before .fresh .ensures) in (f .0, f .1, pre .1)
+    let f = held-fits _ [] _ _ _ (c .before .emptied .ensures) (omega arith) in (f .0, f .1, pre .1)
 
 same-length : tie.Need-same-length
 same-length c = search needs
@@ -32,8 +34,8 @@ returns c =
     let pre = c .before .before .before .before .before .before .before .before .before .before .before .pre in
     let next = c .before .before .before .before .before .before .before .next in
     let enum-told = c .before .before .before .before .before .enum-told in
-    let fresh = c .before .before .before .before .fresh in
-    down-cleared (args .self) (args .history) (args .slots .now) (args .screen .now) (pre .0) (next .result) (next .ensures) _ _ _ (args .prompt .now) _ (enum-told .given .1) refl (fresh .ensures) (c .before .before .redraw .ensures)
+    let emptied = c .before .before .before .before .emptied in
+    down-cleared (args .self) (args .history) (args .slots .now) (args .screen .now) (pre .0) (next .result) (next .ensures) _ _ _ (args .prompt .now) _ (enum-told .given .1) refl (emptied .ensures) (c .before .before .redraw .ensures)
 
 recall-requires : tie.Need-recall-requires
 recall-requires c κs = search needs
@@ -48,7 +50,7 @@ redraw-requires-2 : tie.Need-redraw-requires-2
 redraw-requires-2 c κs =
     let args = c .before .before .before .before .before .before .before .before .before .before .args in
     let pre = c .before .before .before .before .before .before .before .before .before .before .pre in
-    let f = held-fits _ _ _ _ (c .before .recalled2 .ensures) (recalled-short (args .self) (args .history) (args .slots .now) (args .screen .now) (pre .0) _ _ (c .before .before .recall .ensures)) in
+    let f = held-fits _ _ _ _ _ (c .before .recalled2 .ensures) (recalled-short (args .self) (args .history) (args .slots .now) (args .screen .now) (pre .0) _ _ (c .before .before .recall .ensures)) in
     (f .0, f .1, pre .1)
 
 same-length-2 : tie.Need-same-length-2
@@ -71,7 +73,7 @@ down-spec =
     next-requires
     enum-known-recalled
     enum-told
-    fresh-requires
+    emptied-requires
     redraw-requires
     same-length
     returns

@@ -77,8 +77,8 @@ push-requires c κs =
     let b = limit-above _ (pre .1) in
     omega arith
 
-fresh-requires : tie.Need-fresh-requires
-fresh-requires c κs = search needs
+emptied-requires : tie.Need-emptied-requires
+emptied-requires c κs = search needs
 
 same-length-2 : tie.Need-same-length-2
 same-length-2 c = search needs
@@ -100,7 +100,7 @@ returns-3 c =
     let shown-part = c .before .before .before .before .before .before .before .before .before .shown-part in
     let offer = c .before .before .before .before .before .before .before .before .offer in
     let push = c .before .before .before .push in
-    enter-line (args .self) (args .history) (args .slots .now) (args .line .now) (args .screen .now) (pre .0) _ _ _ _ _ (let z = if1 .left in omega arith) (if2 .left) (c .fresh .ensures) (rw (shown-part .ensures) at (offer .ensures)) (push .ensures .bytes ∙ overAt-front _ _) (push-byte .ensures .bytes ∙ overAt-front _ _)
+    enter-line (args .self) (args .history) (args .slots .now) (args .line .now) (args .screen .now) (pre .0) _ _ _ _ _ (let z = if1 .left in omega arith) (if2 .left) (c .emptied .ensures) (rw (shown-part .ensures) at (offer .ensures)) (push .ensures .bytes ∙ overAt-front _ _) (push-byte .ensures .bytes ∙ overAt-front _ _)
 
 pub enter-spec : {M : Type 1} → statement M
 enter-spec =
@@ -117,7 +117,7 @@ enter-spec =
     array-share-prefix-typed-2
     slice-aggregate-push
     push-requires
-    fresh-requires
+    emptied-requires
     same-length-2
     same-length-3
     same-length-4

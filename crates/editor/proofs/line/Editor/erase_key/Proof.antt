@@ -29,7 +29,7 @@ redraw-requires c κs =
     let t = g .short in
     let some : 0 < args .self .cursor = let z = c .before .before .if1 .left in omega arith in
     let short : length (erased (lineOf (args .self)) (args .self .cursor)) ≤ 255 = let m = length-erased (lineOf (args .self)) (args .self .cursor) some (omega arith) in omega arith in
-    let f = held-fits _ (erased (lineOf (args .self)) (args .self .cursor)) _ _ (c .before .erase .ensures) short in
+    let f = held-fits _ (erased (lineOf (args .self)) (args .self .cursor)) _ _ _ (c .before .erase .ensures) short in
     (f .0, f .1, pre .1)
 
 same-length : tie.Need-same-length

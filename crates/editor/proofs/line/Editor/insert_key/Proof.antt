@@ -27,7 +27,7 @@ redraw-requires c κs =
     let n = length-of (args .self) g .1 in
     let w = g .within in
     let short : length (inserted (lineOf (args .self)) (args .self .cursor) (args .byte)) ≤ 255 = let m = length-inserted (lineOf (args .self)) (args .self .cursor) (args .byte) (omega arith) in let l = c .before .before .if1 .left in omega arith in
-    let f = held-fits _ (inserted (lineOf (args .self)) (args .self .cursor) (args .byte)) _ _ (c .before .insert .ensures) short in
+    let f = held-fits _ (inserted (lineOf (args .self)) (args .self .cursor) (args .byte)) _ _ _ (c .before .insert .ensures) short in
     (f .0, f .1, pre .1)
 
 same-length : tie.Need-same-length

@@ -1,7 +1,7 @@
 -- `editor::line::Editor::press` meets its contract.
-use Rattle.editor.proofs.States.{moded-good}
+use Rattle.editor.proofs.States.{good-mode, moded-good}
 use Rattle.editor.proofs.Enters.{does-refused, does-taken, does-as}
-use Rattle.editor.proofs.KeyTurns.{turn-in}
+use Rattle.editor.proofs.KeyTurns.{meant-good, turn-in}
 use mathlib.Core.Path.{sym, _∙_}
 use borrow.Author.Needs.{needs}
 use Rattle.editor.proofs.line.Editor.press.Statement.{statement}
@@ -18,7 +18,8 @@ act-requires c κs =
     let args = c .before .before .before .before .before .before .before .before .before .args in
     let pre = c .before .before .before .before .before .before .before .before .before .pre in
     let in-mode = c .before .before .before .in-mode in
-    (moded-good (args .self) (args .history) (args .slots .now) _ _ (in-mode .ensures) (pre .0), pre .1)
+    let meaning-of = c .before .before .before .before .meaning-of in
+    (moded-good (args .self) (args .history) (args .slots .now) _ _ (in-mode .ensures) (meant-good (args .self .profile) (args .self .mode) (args .byte) (meaning-of .result) (meaning-of .ensures) (good-mode (args .self) (args .history) (args .slots .now) (pre .0))) (pre .0), pre .1)
 
 is-refusal-requires : tie.Need-is-refusal-requires
 is-refusal-requires c κs = search needs

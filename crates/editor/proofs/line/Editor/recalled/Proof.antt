@@ -1,5 +1,5 @@
 -- `editor::line::Editor::recalled` meets its contract. The first i bytes are the text's.
-use Rattle.editor.proofs.Lines.{within-limit, fresh-line, recall-end}
+use Rattle.editor.proofs.Lines.{within-limit, emptied-line, recall-end}
 use Rattle.buffer.specs.Lend.{zeros}
 use Rattle.buffer.proofs.Zeros.{length-zeros}
 use Rattle.buffer.proofs.Lending.{copy-step}
@@ -12,16 +12,16 @@ use Rattle.editor.proofs.line.Editor.recalled.Statement.{statement}
 use Rattle.editor.proofs.line.Editor.recalled.Tie as tie
 
 abbrev Inv-loop : tie.InvT-loop
-Inv-loop text line₀ i₀ line i = (i ≤ length text) × (line ≡ take i text ++ drop i (zeros 255))
+Inv-loop text mode profile line₀ i₀ line i = (i ≤ length text) × (line ≡ take i text ++ drop i (zeros 255))
 
 abbrev μ-loop : tie.MeasureT-loop
-μ-loop text line₀ i₀ line i = length text - i
+μ-loop text mode profile line₀ i₀ line i = length text - i
 
-fresh-requires : tie.Need-fresh-requires Inv-loop μ-loop
-fresh-requires c κs = tt
+emptied-requires : tie.Need-emptied-requires Inv-loop μ-loop
+emptied-requires c κs = tt
 
 loop-holds : tie.Need-loop-holds Inv-loop μ-loop
-loop-holds c = (omega arith, rw (c .before .fresh .ensures) fresh-line)
+loop-holds c = (omega arith, emptied-line _ _ _ (c .before .emptied .ensures))
 
 shared-slice-read-line : tie.Need-shared-slice-read-line Inv-loop μ-loop
 shared-slice-read-line c = omega arith
@@ -48,7 +48,7 @@ returns : tie.Need-returns Inv-loop μ-loop
 returns c =
     let args = c .before .before .before .before .before .args in
     let pre = c .before .before .before .before .before .pre in
-    recall-end (args .text .now) (c .before .loop .line) (c .before .loop .i) _ (within-limit _ (pre)) (omega arith) (c .before .loop .inv .1)
+    recall-end (args .text .now) (c .before .loop .line) (c .before .loop .i) _ _ (within-limit _ (pre)) (omega arith) (c .before .loop .inv .1)
 
 pub recalled-spec : {M : Type 1} → statement M
 recalled-spec =
@@ -56,7 +56,7 @@ recalled-spec =
     (tie.spec
     Inv-loop
     μ-loop
-    fresh-requires
+    emptied-requires
     loop-holds
     shared-slice-read-line
     array-write-line

@@ -35,7 +35,7 @@ redraw-requires : tie.Need-redraw-requires
 redraw-requires c κs =
     let args = c .before .before .before .before .before .before .before .before .before .before .args in
     let pre = c .before .before .before .before .before .before .before .before .before .before .pre in
-    let f = held-fits _ _ _ _ (c .before .recalled2 .ensures) (recalled-short (args .self) (args .history) (args .slots .now) (args .screen .now) (pre .0) _ _ (c .before .before .recall .ensures)) in
+    let f = held-fits _ _ _ _ _ (c .before .recalled2 .ensures) (recalled-short (args .self) (args .history) (args .slots .now) (args .screen .now) (pre .0) _ _ (c .before .before .recall .ensures)) in
     (f .0, f .1, pre .1)
 
 same-length : tie.Need-same-length
