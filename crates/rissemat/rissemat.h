@@ -28,9 +28,9 @@ uint64_t rissemat_quote(const uint8_t *words, size_t words_len, uint8_t *out, si
 /* A session between two calls is a state of 263 bytes and slots of 25,600 bytes, both the caller's: no call keeps anything.
  * The state: what is saved of the editor, bytes 0 to 260: mode (0 typing, 1 after ESC, 2 after ESC `[` with the Rust's keys, 3 in a control
  * sequence with ECMA-48's), line length, cursor, the 255 bytes of the line, key profile (0 the Rust's, 1 ECMA-48's), how many bytes of the
- * sequence were read after ESC `[` (0 to 15), its parameter (0 for none, the number 1, 3, 4, 7 or 8, not its ASCII byte, if that digit is the one byte read, otherwise 255);
- * then what is saved of the history, bytes 261 and 262: count, place. The slots: the entries of history in slots of 256 bytes, a length byte
- * then the text, oldest first, all unused bytes zero. */
+ * sequence were read after ESC `[` (0 to 15), its parameter (0 for none; the number 1, 3, 4, 7 or 8, not its ASCII byte, if that digit is the
+ * one byte read; otherwise 255); then what is saved of the history, bytes 261 and 262: count, place. The slots: the entries of history in
+ * slots of 256 bytes, a length byte then the text, oldest first, all unused bytes zero. */
 
 /* A fresh session with the Rust's keys: no line, no history. Both buffers are then zeros.
  * Refusals, of the first buffer that has another length, the state before the slots: 9 (too short: the length needed, 263 or 25,600),
