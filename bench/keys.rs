@@ -13,7 +13,7 @@ const ERASE: u8 = 0x7F;
 /// The letter, and the key that takes it back.
 pub const PAIR: [u8; 2] = [LETTER, ERASE];
 /// The lengths of a saved state, of its slots, of the line buffer, and more than any redraw writes.
-const STATE: usize = 263;
+const STATE: usize = 265;
 const SLOTS: usize = 25_600;
 const LINE: usize = 255;
 const SCREEN: usize = 512;

@@ -1,21 +1,36 @@
 // Adding to a history: the library against the original's CommandHistory, and its refusals against the model.
 use crate::lent::Lent;
 use crate::lines::{Mixer, about_white_space, every_line};
-use crate::model::{LINE, Model, saved};
+use crate::model::{ENTRIES, LINE, Model, saved};
 use crate::part::Part;
 use original::Original;
 
 const SHORT: usize = 4;
 const MIXED: usize = 3_000;
+const FULL: usize = 400;
 const SEED: u64 = 0x6869_7374_0000_0001;
+const SEED_FULL: u64 = 0x6869_7374_0000_0002;
+const PROMPT: &[u8] = b"axvisor:$ ";
+/// The least and the greatest length of the texts of a full history.
+const LENGTHS: [(usize, usize); 5] = [(1, 3), (1, 20), (1, LINE), (LINE - 2, LINE), (LINE, LINE)];
 
-/// Adds texts to a fresh history of both. The original takes well-formed ones of up to 255 bytes; then both are read through.
+/// Adds texts to a fresh history of both.
 fn check(part: &mut Part, lent: &mut Lent, texts: &[Vec<u8>]) {
+    check_by(part, lent, texts, Lent::add);
+}
+
+/// Brings texts to a fresh history of both. The original takes well-formed ones of up to 255 bytes; then both are read through.
+fn check_by(
+    part: &mut Part,
+    lent: &mut Lent,
+    texts: &[Vec<u8>],
+    mut bring: impl FnMut(&mut Lent, &mut Part, &mut Model, &[u8]) -> bool,
+) {
     part.input(&texts.concat());
     let mut theirs = Original::history();
     let mut model = Model::fresh();
     let fresh = lent.fresh(part, saved::STATE, saved::SLOTS);
-    if !fresh || !texts.iter().all(|text| lent.add(part, &mut model, text)) {
+    if !fresh || !texts.iter().all(|text| bring(lent, part, &mut model, text)) {
         return;
     }
     let well_formed = texts.iter().filter(|text| text.len() <= LINE).filter_map(|text| str::from_utf8(text).ok());
@@ -70,6 +85,39 @@ fn text(mixer: &mut Mixer) -> Vec<u8> {
         mixer.damage(&mut text);
     }
     text
+}
+
+/// Histories that take more than they keep: 110 to 310 texts, added and entered in turn, some of them damaged, some equal to the one
+/// before. The oldest entries go, and the total falls and rises.
+pub fn full_ones(part: &mut Part) {
+    let mut lent = Lent::new();
+    let mut mixer = Mixer::new(SEED_FULL);
+    for number in 0..FULL {
+        let (least, longest) = LENGTHS[number % LENGTHS.len()];
+        let mut texts: Vec<Vec<u8>> = Vec::new();
+        for _ in 0..ENTRIES + 10 + mixer.random.below(2 * ENTRIES + 1) {
+            let length = least + mixer.random.below(longest - least + 1);
+            let mut text = mixer.text(length).into_bytes();
+            match mixer.random.below(16) {
+                0 => text = texts.last().cloned().unwrap_or(text),
+                1 => mixer.damage(&mut text),
+                _ => {}
+            }
+            texts.push(text);
+        }
+        let mut turn = 0;
+        check_by(part, &mut lent, &texts, |lent, part, model, text| {
+            turn += 1;
+            if turn % 2 == 0 { lent.add(part, model, text) } else { enter(lent, part, model, text) }
+        });
+    }
+}
+
+/// Enters a text: it is the line that was typed, with the cursor at its end.
+fn enter(lent: &mut Lent, part: &mut Part, model: &mut Model, text: &[u8]) -> bool {
+    (model.line, model.cursor) = (text.to_vec(), text.len());
+    lent.hold(&model.state(), &model.slots());
+    lent.press(part, model, PROMPT, b'\r').is_some()
 }
 
 /// Texts about the longest that is taken, and of any greater length, each ill-formed too.

@@ -25,6 +25,7 @@ mod session;
 mod shell;
 mod states;
 mod streams;
+mod totals;
 mod tree;
 mod trees;
 mod watched;
@@ -34,7 +35,7 @@ mod workers;
 use part::Part;
 use std::process::ExitCode;
 
-const PARTS: [(&str, fn(&mut Part)); 74] = [
+const PARTS: [(&str, fn(&mut Part)); 77] = [
     ("session: the original under keys", session::compare),
     ("marked: M1 to M8", marked::compare),
     ("words: every short line", words::short_lines),
@@ -50,6 +51,7 @@ const PARTS: [(&str, fn(&mut Part)); 74] = [
     ("history: white space", history::blank_texts),
     ("history: texts about the limits", history::long_texts),
     ("history: mixed texts", history::mixed_texts),
+    ("history: full ones", history::full_ones),
     ("keys: named streams", keys::named_streams),
     ("keys: every short stream", keys::short_streams),
     ("keys: every byte in every mode", keys::every_byte),
@@ -69,6 +71,8 @@ const PARTS: [(&str, fn(&mut Part)); 74] = [
     ("states: mixed damage", states::mixed),
     ("states: every byte of the slots", states::slots),
     ("states: entries that are bad", states::entries),
+    ("states: every total", totals::every),
+    ("states: totals about the right one", totals::about),
     ("states: buffers of other lengths", states::lengths),
     ("tree: the original's own trees", tree::original_trees),
     ("tree: random trees", tree::random_trees),

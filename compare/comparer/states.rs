@@ -2,7 +2,7 @@
 use crate::lent::{Lent, NONE, Room};
 use crate::lines::{Mixer, every_character};
 use crate::model::answers::BAD_STATE;
-use crate::model::saved::{EDITOR, HEAD, PARAMETER, PROFILE, READ, SLOT, SLOTS, STATE};
+use crate::model::saved::{EDITOR, HEAD, PARAMETER, PROFILE, READ, SLOT, SLOTS, STATE, TOTAL};
 use crate::model::{LINE, Mode, Model, Profile};
 use crate::part::Part;
 
@@ -12,8 +12,9 @@ const DAMAGED: usize = 100_000;
 const PROMPT: &[u8] = b"axvisor:$ ";
 /// The keys that come in turn.
 pub const KEYS: [u8; 13] = [b'x', b'\r', 0x1B, b'A', 0x7F, b'B', 0xC3, 0x01, b'~', b'H', b'[', b'1', b'F'];
-/// A length that is no state's, three bytes short.
+/// Lengths that are no state's: five bytes short, without what tells of keys and without the total, and two, without the total.
 const WITHOUT_PROFILE: usize = 260;
+const WITHOUT_TOTAL: usize = 263;
 /// What bytes of the slots are changed to, besides their neighbours.
 const BYTES: [u8; 5] = [0, b' ', b'a', 0x85, 0xFF];
 /// What a bad state is lent: all that it needs, and a prompt, a text and buffers that would be refused as well.
@@ -21,21 +22,36 @@ const LENT: [(&[u8], &[u8], Room); 2] =
     [(PROMPT, b"a", Room { line: LINE, screen: 400 }), (b"\xFF", &[0xFF; 300], NONE)];
 
 /// Calls on saved states, with keys that come in turn.
-struct Saved<'a> {
+pub struct Saved<'a> {
     part: &'a mut Part,
     lent: Lent,
     turn: usize,
 }
 
 impl Saved<'_> {
-    /// A key and a text on a state, good or bad. Bad ones are refused before the prompt, the buffers and the text are looked at.
+    /// A state, good or bad, as it is, and with the total put right where it is not that of the slots: what else is bad is then
+    /// refused without it.
     fn check(&mut self, state: &[u8], slots: &[u8]) {
-        self.part.input(state);
-        self.calls(state, slots);
+        self.both(state, slots, &[]);
     }
 
-    fn calls(&mut self, state: &[u8], slots: &[u8]) {
+    /// The same. In the input what was put into the slots stands behind the state.
+    fn both(&mut self, state: &[u8], slots: &[u8], put: &[u8]) {
+        self.one(state, slots, put);
+        if let Some(state) = righted(state, slots) {
+            self.calls(&state, slots, put);
+        }
+    }
+
+    /// A state as it is, with the next key.
+    pub fn one(&mut self, state: &[u8], slots: &[u8], put: &[u8]) {
         self.turn += 1;
+        self.calls(state, slots, put);
+    }
+
+    /// A key and a text on a state. Bad ones are refused before the prompt, the buffers and the text are looked at.
+    fn calls(&mut self, state: &[u8], slots: &[u8], put: &[u8]) {
+        self.part.input(&[state, put].concat());
         let key = KEYS[self.turn / 2 % KEYS.len()];
         self.lent.hold(state, slots);
         let Some(mut model) = Model::read(state, slots) else {
@@ -67,14 +83,22 @@ impl Saved<'_> {
     fn put(&mut self, state: &[u8], slots: &mut [u8], place: usize, bytes: &[u8]) {
         let before = slots[place..][..bytes.len()].to_vec();
         slots[place..][..bytes.len()].copy_from_slice(bytes);
-        self.part.input(&[state, &(place as u32).to_be_bytes(), bytes].concat());
-        self.calls(state, slots);
+        self.both(state, slots, &[&(place as u32).to_be_bytes(), bytes].concat());
         slots[place..][..bytes.len()].copy_from_slice(&before);
     }
 }
 
-fn saved(part: &mut Part) -> Saved<'_> {
+pub fn saved(part: &mut Part) -> Saved<'_> {
     Saved { part, lent: Lent::new(), turn: 0 }
+}
+
+/// The state with the total of as many slots as it counts, if it has another and so many are there.
+fn righted(state: &[u8], slots: &[u8]) -> Option<Vec<u8>> {
+    let used = slots.get(..usize::from(*state.get(EDITOR)?) * SLOT)?;
+    let total: u16 = used.chunks_exact(SLOT).map(|slot| u16::from(slot[0])).sum();
+    let mut righted = state.to_vec();
+    righted.get_mut(TOTAL..STATE)?.copy_from_slice(&total.to_be_bytes());
+    (righted != state).then_some(righted)
 }
 
 /// Good states: fresh; a line of three characters with the cursor inside and three entries; a full line and a full history of
@@ -177,7 +201,7 @@ pub fn mixed(part: &mut Part) {
         put_keys(&mut state, random.pick(&told));
         for _ in 0..1 + random.below(3) {
             let any = random.below(STATE);
-            let place = random.pick(&[0, 1, 2, PROFILE, READ, PARAMETER, EDITOR, EDITOR + 1, any]);
+            let place = random.pick(&[0, 1, 2, PROFILE, READ, PARAMETER, EDITOR, EDITOR + 1, TOTAL, TOTAL + 1, any]);
             let any = random.below(256) as u8;
             state[place] = random.pick(&[0, 1, 2, 3, 4, 8, 15, 16, 255, any]);
         }
@@ -227,15 +251,20 @@ pub fn entries(part: &mut Part) {
     }
 }
 
-/// States and slots of other lengths, to keys and texts and to `fresh`, with each profile and without.
+/// States and slots of other lengths, to keys and texts and to `fresh`, with each profile and without; good states cut off at each
+/// place.
 pub fn lengths(part: &mut Part) {
     let mut saved = saved(part);
-    for state in [0, 1, HEAD, PROFILE, WITHOUT_PROFILE, EDITOR, STATE - 1, STATE, STATE + 1] {
+    for state in [0, 1, HEAD, PROFILE, WITHOUT_PROFILE, EDITOR, WITHOUT_TOTAL, STATE - 1, STATE, STATE + 1] {
         for slots in [0, 1, SLOT, SLOTS - SLOT, SLOTS - 1, SLOTS, SLOTS + 1] {
             saved.check(&vec![0; state], &vec![0; slots]);
             saved.part.input(&[]);
             saved.lent.fresh(saved.part, state, slots);
             (0..=255).for_each(|profile| _ = saved.lent.fresh_with(saved.part, profile, state, slots));
         }
+    }
+    for model in good() {
+        let (state, slots) = (model.state(), model.slots());
+        (0..STATE).for_each(|length| saved.check(&state[..length], &slots));
     }
 }

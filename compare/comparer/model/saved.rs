@@ -2,13 +2,15 @@
 use super::{ENTRIES, LAST, LINE, Mode, Model, PROFILES, Profile};
 
 /// The editor's part: mode, length of the line, cursor, the bytes of the line, then the profile and what is told of a control
-/// sequence: how many bytes of it were read, and its parameter. The history's part after it: count and place.
+/// sequence: how many bytes of it were read, and its parameter. The history's part after it: count, place, and the total of the
+/// entries' lengths, high byte first.
 pub const HEAD: usize = 3;
 pub const PROFILE: usize = HEAD + LINE;
 pub const READ: usize = PROFILE + 1;
 pub const PARAMETER: usize = PROFILE + 2;
 pub const EDITOR: usize = PROFILE + 3;
-pub const STATE: usize = EDITOR + 2;
+pub const TOTAL: usize = EDITOR + 2;
+pub const STATE: usize = TOTAL + 2;
 /// A slot has a length byte and room for the longest line.
 pub const SLOT: usize = 1 + LINE;
 pub const SLOTS: usize = ENTRIES * SLOT;
@@ -29,8 +31,14 @@ impl Model {
         state[..HEAD].copy_from_slice(&head.map(|number| number as u8));
         state[HEAD..][..self.line.len()].copy_from_slice(&self.line);
         state[PROFILE..EDITOR].copy_from_slice(&keys);
-        state[EDITOR..].copy_from_slice(&history.map(|number| number as u8));
+        state[EDITOR..TOTAL].copy_from_slice(&history.map(|number| number as u8));
+        state[TOTAL..].copy_from_slice(&self.total().to_be_bytes());
         state
+    }
+
+    /// The bytes of all entries, counted anew each time: the model keeps no total.
+    pub fn total(&self) -> u16 {
+        total(&self.entries)
     }
 
     pub fn slots(&self) -> Vec<u8> {
@@ -45,7 +53,7 @@ impl Model {
     /// The values of a saved state, none if it is bad.
     pub fn read(state: &[u8], slots: &[u8]) -> Option<Model> {
         let (&[mode, length, cursor], rest) = state.split_first_chunk()?;
-        let (line, &[profile, read, parameter, count, place]) = rest.split_last_chunk()?;
+        let (line, &[profile, read, parameter, count, place, high, low]) = rest.split_last_chunk()?;
         let [length, cursor, count, place] = [length, cursor, count, place].map(usize::from);
         if line.len() != LINE || slots.len() != SLOTS {
             return None;
@@ -57,6 +65,7 @@ impl Model {
             && zero(unused)
             && cursor <= length
             && place <= count
+            && u16::from_be_bytes([high, low]) == total(&entries)
             && entries.windows(2).all(|pair| pair[0] != pair[1]);
         let (mode, profile) = (*MODES.get(usize::from(mode))?, numbered(profile)?);
         let sequence = match (mode, profile) {
@@ -68,6 +77,10 @@ impl Model {
         };
         good.then(|| Model { profile, mode, sequence, line: line.to_vec(), cursor, entries, place })
     }
+}
+
+fn total(entries: &[Vec<u8>]) -> u16 {
+    entries.iter().map(|entry| entry.len() as u16).sum()
 }
 
 /// The profile with this number.

@@ -9,8 +9,8 @@ use types.Run.{OneOf, miss}
 use denote.Enum.Declared.{tagOf}
 use lib.ListN.{length, take, drop, length-drop}
 use lib.Seq.{drop-drop}
-use Rattle.frame.specs.Text.{Bytes}
-use Rattle.frame.proofs.Texts.{bytes-drop}
+use Rattle.buffer.specs.Numbers.{Bytes}
+use Rattle.buffer.proofs.Numbers.{bytes-drop}
 use Rattle.table.specs.Inner.{partOf}
 use Rattle.image.specs.Frames.{Frame, node, option, flag}
 use Rattle.image.specs.Reading.{Read, read, broken, ended, headFirst, readBy, readFirst, definitionLengths, nodeIn, optionIn, flagIn}

@@ -7,3 +7,4 @@ pub mod Ordering
 pub mod Greatest
 pub mod Zeros
 pub mod Inking
+pub mod Numbers

@@ -125,7 +125,7 @@ module _ (e : Editor) (h : History) (slots prompt : List ℕ) (byte : ℕ) (line
               ∙ ap (λ (t : Turn). keyAnswer (goodState e h slots) prompt t (length line) (length screen)) nothing-done
               ∙ then-is _ _ _ g ∙ then-is _ _ _ fair ∙ else-is _ _ _ (le-ltb (length line) limit room) ∙ else-is _ _ _ (le-ltb (length screen) 0 (omega arith)),
           p .editor ∙ stays (refused (k .answer)) e _ (ap (λ (t : Turn). editorOf (t .after)) nothing-done ∙ holds-editor e h slots (good .0)),
-          p .history ∙ stays (refused (k .answer)) h _ (ap (λ (t : Turn). historyOf (t .after)) nothing-done ∙ holds-history e h slots),
+          p .history ∙ stays (refused (k .answer)) h _ (ap (λ (t : Turn). historyOf (t .after)) nothing-done ∙ holds-history e h slots (good .1)),
           p .held ∙ stays (refused (k .answer)) slots _ (ap (λ (t : Turn). slotsOf (t .after)) nothing-done ∙ holds-slots e h slots (good .1)),
           p .given ∙ stays (refused (k .answer)) line _ (ap (λ (t : Turn). over (t .submitted) line) nothing-done ∙ over-nothing line),
           p .shown ∙ stays (refused (k .answer)) screen _ (ap (λ (t : Turn). over (t .screen) screen) nothing-done ∙ over-nothing screen),

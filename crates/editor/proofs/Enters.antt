@@ -108,7 +108,7 @@ module _ (e : Editor) (h : History) (slots line screen : List ℕ) (g : goodStat
       let t : Turn = entering s [] in
       does-as e h t slots line screen (enter s) _ _ _ _ (sym (then-is _ _ _ (eq-eqb (length (lineOf e)) 0 (size ∙ z))))
       (does-fits e h t slots line screen _ _ _ _ l
-      (ap (λ (x : Editor). keyOf x h (Entered 0)) (sym (holds-editor e h slots line-good)) ∙ ap (λ (x : History). keyOf (editorOf s) x (Entered 0)) (sym (holds-history e h slots)))
+      (ap (λ (x : Editor). keyOf x h (Entered 0)) (sym (holds-editor e h slots line-good)) ∙ ap (λ (x : History). keyOf (editorOf s) x (Entered 0)) (sym (holds-history e h slots (good-parts e h slots g .1))))
       (sym (holds-slots e h slots (good-parts e h slots g .1))) (sym (over-nothing line)) d)
 
   pub enter-line : (h′ : History) (e′ : Editor) (slots′ line′ screen′ : List ℕ) → 0 < length screen → (e .length ≡ 0 → ⊥)
@@ -140,7 +140,7 @@ module _ (e e₁ : Editor) (h : History) (t : Turn) (slots line screen : List �
   unfolding made madeBy attempt
   by-room b q = d .acts .made ∙ ap made q
 
-  same : (k′ : KeyAnswer) → k′ ≡ madeBy e h t (length screen) → Does e h t slots line screen k′ slots′ line′ screen′
+  same : (k′ : KeyAnswer) → k′ ≡ madeBy e h t (historyOf (t .after)) (length screen) → Does e h t slots line screen k′ slots′ line′ screen′
   same k′ m = record { acts = record { made = m; shown = d .acts .shown }; held = d .held; given = d .given }
 
   pub does-refused : refused (k .answer) ≡ true → Does e h t slots line screen (keyOf e h (k .answer)) slots′ line′ screen′

@@ -23,7 +23,7 @@ use Rattle.editor.specs.declared.drawing.Pressed.the-variants.{Shown, Dr
 use Rattle.editor.specs.Line.{limit, padded, holding, lineOf, goodLine, goodEditor, content}
 use Rattle.editor.specs.Turns.{State, Turn, dropping, showing, redrawn, redrawing}
 use Rattle.editor.specs.Answer.{stateOf, editorOf, historyOf, slotsOf, goodState}
-use Rattle.editor.specs.Inner.{attempt, keyOf, Shows, madeBy, Acts}
+use Rattle.editor.specs.Inner.{attempt, keyOf, Shows, madeBy, ActsTo, Acts}
 use Rattle.editor.proofs.Lines.{editor, good-line, length-of, held-line, line-held, length-padded}
 use Rattle.editor.proofs.Showings.{attempt-fits}
 
@@ -63,9 +63,9 @@ moded-good e h slots e₁ mode q m g =
     ∙ good-state (editor (e .line) (e .length) (e .cursor) mode (e .profile)) h slots (good-editor _ m (line-in e mode (p .0))) (p .1)
 
 -- what holds a state
-pub holds-history : (e : Editor) (h : History) (slots : List ℕ) → historyOf (stateOf e h slots) ≡ h
+pub holds-history : (e : Editor) (h : History) (slots : List ℕ) → good h slots ≡ true → historyOf (stateOf e h slots) ≡ h
 unfolding stateOf
-holds-history e h slots = record-held h slots
+holds-history e h slots g = record-held h slots g
 
 pub holds-editor : (e : Editor) (h : History) (slots : List ℕ) → goodLine e ≡ true → editorOf (stateOf e h slots) ≡ e
 unfolding editorOf stateOf
@@ -125,33 +125,29 @@ unfolding over
 over-nothing d = refl
 
 module _ (e : Editor) (h : History) (screen : List ℕ) where
-  pub acts-quiet : (s : State) (e′ : Editor) (h′ : History) → e′ ≡ editorOf s → h′ ≡ historyOf s → Acts e h (showing s []) screen (keyOf e′ h′ (Shown 0)) screen
+  pub acts-quiet : (s : State) (e′ : Editor) (h′ : History) → e′ ≡ editorOf s → ActsTo e h (showing s []) h′ screen (keyOf e′ h′ (Shown 0)) screen
   unfolding madeBy
-  acts-quiet s e′ h′ p q =
+  acts-quiet s e′ h′ p =
       record {
-        made = ap (λ (x : Editor). keyOf x h′ (Shown 0)) p ∙ ap (λ (x : History). keyOf (editorOf s) x (Shown 0)) q ∙ sym (attempt-fits [] (length screen) _ _ (omega arith));
+        made = ap (λ (x : Editor). keyOf x h′ (Shown 0)) p ∙ sym (attempt-fits [] (length screen) _ _ (omega arith));
         shown = sym (attempt-fits [] (length screen) screen (over [] screen) (omega arith) ∙ over-nothing screen);
       }
 
-  pub acts-dropped : (s : State) (e′ : Editor) (h′ : History) → e′ ≡ editorOf s → h′ ≡ historyOf s
-      → Acts e h (dropping s) screen (keyOf e′ h′ Dropped) screen
+  pub acts-dropped : (s : State) (e′ : Editor) (h′ : History) → e′ ≡ editorOf s → ActsTo e h (dropping s) h′ screen (keyOf e′ h′ Dropped) screen
   unfolding madeBy
-  acts-dropped s e′ h′ p q =
+  acts-dropped s e′ h′ p =
       record {
-        made = ap (λ (x : Editor). keyOf x h′ Dropped) p ∙ ap (λ (x : History). keyOf (editorOf s) x Dropped) q ∙ sym (attempt-fits [] (length screen) _ _ (omega arith));
+        made = ap (λ (x : Editor). keyOf x h′ Dropped) p ∙ sym (attempt-fits [] (length screen) _ _ (omega arith));
         shown = sym (attempt-fits [] (length screen) screen (over [] screen) (omega arith) ∙ over-nothing screen);
       }
 
-  -- bytes shown, with the state that holds
-  pub acts-shown : (s : State) (bytes : List ℕ) (goes : Editor) (h′ : History) (k : KeyAnswer) (left : List ℕ) → goes ≡ editorOf s → h′ ≡ historyOf s
-      → Shows bytes e h goes h′ screen k left → Acts e h (showing s bytes) screen k left
+  -- bytes shown, with the editor that holds
+  pub acts-shown : (s : State) (bytes : List ℕ) (goes : Editor) (h′ : History) (k : KeyAnswer) (left : List ℕ) → goes ≡ editorOf s
+      → Shows bytes e h goes h′ screen k left → ActsTo e h (showing s bytes) h′ screen k left
   unfolding madeBy
-  acts-shown s bytes goes h′ k left p q a =
+  acts-shown s bytes goes h′ k left p a =
       record {
-        made =
-            a .made
-            ∙ ap (λ (x : Editor). attempt bytes (length screen) (keyOf e h (NoRoom (length bytes))) (keyOf x h′ (Shown (length bytes)))) p
-            ∙ ap (λ (x : History). attempt bytes (length screen) (keyOf e h (NoRoom (length bytes))) (keyOf (editorOf s) x (Shown (length bytes)))) q;
+        made = a .made ∙ ap (λ (x : Editor). attempt bytes (length screen) (keyOf e h (NoRoom (length bytes))) (keyOf x h′ (Shown (length bytes)))) p;
         shown = a .shown;
       }
 
@@ -161,10 +157,16 @@ module _ (e : Editor) (h : History) (screen : List ℕ) where
       ap (λ (x : Editor). redraw prompt (content (lineOf x)) (x .cursor)) p
       ∙ ap (λ (l : List ℕ). redraw prompt (content l) (s .cursor)) (line-held (s .line) (s .cursor) (s .mode) (s .profile))
 
-  pub acts-redrawn : (prompt : List ℕ) (s : State) (goes : Editor) (h′ : History) (k : KeyAnswer) (left : List ℕ) → goes ≡ editorOf s → h′ ≡ historyOf s
-      → Shows (redraw prompt (content (lineOf goes)) (goes .cursor)) e h goes h′ screen k left → Acts e h (redrawing prompt s) screen k left
-  acts-redrawn prompt s goes h′ k left p q a = acts-shown s (redrawn prompt s) goes h′ k left p q (rw (redrawn-by prompt s goes p) at a)
+  pub acts-redrawn : (prompt : List ℕ) (s : State) (goes : Editor) (h′ : History) (k : KeyAnswer) (left : List ℕ) → goes ≡ editorOf s
+      → Shows (redraw prompt (content (lineOf goes)) (goes .cursor)) e h goes h′ screen k left → ActsTo e h (redrawing prompt s) h′ screen k left
+  acts-redrawn prompt s goes h′ k left p a = acts-shown s (redrawn prompt s) goes h′ k left p (rw (redrawn-by prompt s goes p) at a)
 
-  -- the turn by another name
-  pub acts-as : (t u : Turn) (k : KeyAnswer) (left : List ℕ) → t ≡ u → Acts e h t screen k left → Acts e h u screen k left
+  -- the turn by another name, and the record after it
+  pub acts-as : {h′ : History} (t u : Turn) (k : KeyAnswer) (left : List ℕ) → t ≡ u → ActsTo e h t h′ screen k left → ActsTo e h u h′ screen k left
   acts-as t u k left q a = rw q at a
+
+  pub turn-as : (t u : Turn) (k : KeyAnswer) (left : List ℕ) → t ≡ u → Acts e h t screen k left → Acts e h u screen k left
+  turn-as t u k left q a = rw q at a
+
+  pub acts-to : (t : Turn) (h′ : History) (k : KeyAnswer) (left : List ℕ) → h′ ≡ historyOf (t .after) → ActsTo e h t h′ screen k left → Acts e h t screen k left
+  acts-to t h′ k left q a = rw q at a

@@ -24,10 +24,10 @@ use Rattle.editor.specs.declared.drawing.KeyAnswer.{KeyAnswer}
 use Rattle.editor.specs.declared.drawing.Pressed.the-variants.{Shown, Dropped}
 use Rattle.editor.specs.Line.{limit, holding, lineOf, goodLine, inserted, erased, content}
 use Rattle.editor.specs.Turns.{State, showing, redrawing, withLine, cleared, erase, insert, recalled, up, onPlace, down, goTo, delete, right, left, arrow, turnBy}
-use Rattle.editor.specs.Answer.{stateOf, editorOf, historyOf, goodState}
-use Rattle.editor.specs.Inner.{keyOf, Shows, Acts}
+use Rattle.editor.specs.Answer.{stateOf, editorOf, goodState}
+use Rattle.editor.specs.Inner.{keyOf, Shows, ActsTo, Acts}
 use Rattle.editor.proofs.Lines.{editor, good-line, length-of, same-editor}
-use Rattle.editor.proofs.States.{good-parts, held-good, holds-history, holds-editor, acts-quiet, acts-dropped, acts-shown, acts-redrawn, acts-as}
+use Rattle.editor.proofs.States.{good-parts, held-good, holds-history, holds-editor, acts-quiet, acts-dropped, acts-shown, acts-redrawn, acts-as, turn-as, acts-to}
 
 -- a good editor with the cursor elsewhere
 pub held-as : (e : Editor) (cursor : ℕ) (mode : Mode) (profile : Profile) → goodLine e ≡ true → editor (e .line) (e .length) cursor mode profile ≡ holding (lineOf e) cursor mode profile
@@ -58,67 +58,62 @@ module _ (e : Editor) (h : History) (slots screen : List ℕ) (g : goodLine e �
   s : State
   s = stateOf e h slots
 
-  -- a line that has changed keeps the history
-  history-stays : (line : List ℕ) (cursor : ℕ) → h ≡ historyOf (withLine s line cursor)
-  unfolding s
-  history-stays line cursor = sym (holds-history e h slots)
-
   held-line : (line : List ℕ) (cursor : ℕ) → holding line cursor (e .mode) (e .profile) ≡ editorOf (withLine s line cursor)
   unfolding editorOf s stateOf
   held-line line cursor = refl
 
   -- nothing is done
-  pub quiet : Acts e h (showing (stateOf e h slots) []) screen (keyOf e h (Shown 0)) screen
-  quiet = acts-quiet e h screen (stateOf e h slots) e h (sym (holds-editor e h slots g)) (sym (holds-history e h slots))
+  pub quiet : ActsTo e h (showing (stateOf e h slots) []) h screen (keyOf e h (Shown 0)) screen
+  quiet = acts-quiet e h screen (stateOf e h slots) e h (sym (holds-editor e h slots g))
 
   -- erasing
-  pub erase-quiet : (prompt : List ℕ) → e .cursor ≡ 0 → Acts e h (erase prompt (stateOf e h slots)) screen (keyOf e h (Shown 0)) screen
+  pub erase-quiet : (prompt : List ℕ) → e .cursor ≡ 0 → ActsTo e h (erase prompt (stateOf e h slots)) h screen (keyOf e h (Shown 0)) screen
   unfolding erase s stateOf
   erase-quiet prompt z = acts-as e h screen (showing s []) (erase prompt s) _ _ (sym (then-is _ _ _ (eq-eqb (e .cursor) 0 z))) quiet
 
   module _ (k : KeyAnswer) (goes : Editor) (shown : List ℕ) where
     pub erase-shown : (prompt : List ℕ) → (e .cursor ≡ 0 → ⊥) → goes ≡ holding (erased (lineOf e) (e .cursor)) (e .cursor - 1) (e .mode) (e .profile)
-        → Shows (redraw prompt (content (lineOf goes)) (goes .cursor)) e h goes h screen k shown → Acts e h (erase prompt (stateOf e h slots)) screen k shown
+        → Shows (redraw prompt (content (lineOf goes)) (goes .cursor)) e h goes h screen k shown → ActsTo e h (erase prompt (stateOf e h slots)) h screen k shown
     unfolding erase s stateOf
     erase-shown prompt n p a =
         let line : List ℕ = erased (lineOf e) (e .cursor) in
         acts-as e h screen (redrawing prompt (withLine s line (e .cursor - 1))) (erase prompt s) k shown (sym (else-is _ _ _ (ne-eqb (e .cursor) 0 n)))
-        (acts-redrawn e h screen prompt (withLine s line (e .cursor - 1)) goes h k shown (p ∙ held-line line (e .cursor - 1)) (history-stays line (e .cursor - 1)) a)
+        (acts-redrawn e h screen prompt (withLine s line (e .cursor - 1)) goes h k shown (p ∙ held-line line (e .cursor - 1)) a)
 
     -- typing
     pub insert-shown : (prompt : List ℕ) (byte : ℕ) → e .length < limit → goes ≡ holding (inserted (lineOf e) (e .cursor) byte) (e .cursor + 1) (e .mode) (e .profile)
-        → Shows (redraw prompt (content (lineOf goes)) (goes .cursor)) e h goes h screen k shown → Acts e h (insert prompt (stateOf e h slots) byte) screen k shown
+        → Shows (redraw prompt (content (lineOf goes)) (goes .cursor)) e h goes h screen k shown → ActsTo e h (insert prompt (stateOf e h slots) byte) h screen k shown
     unfolding insert s stateOf
     insert-shown prompt byte l p a =
         let line : List ℕ = inserted (lineOf e) (e .cursor) byte in
         let size = length-of e (good-line e g) .1 in
         acts-as e h screen (redrawing prompt (withLine s line (e .cursor + 1))) (insert prompt s byte) k shown
         (sym (then-is _ _ _ (ap (λ (n : ℕ). ltb n limit) size ∙ lt-ltb (e .length) limit l)))
-        (acts-redrawn e h screen prompt (withLine s line (e .cursor + 1)) goes h k shown (p ∙ held-line line (e .cursor + 1)) (history-stays line (e .cursor + 1)) a)
+        (acts-redrawn e h screen prompt (withLine s line (e .cursor + 1)) goes h k shown (p ∙ held-line line (e .cursor + 1)) a)
 
-  pub insert-dropped : (prompt : List ℕ) (byte : ℕ) → limit ≤ e .length → Acts e h (insert prompt (stateOf e h slots) byte) screen (keyOf e h Dropped) screen
+  pub insert-dropped : (prompt : List ℕ) (byte : ℕ) → limit ≤ e .length → ActsTo e h (insert prompt (stateOf e h slots) byte) h screen (keyOf e h Dropped) screen
   unfolding insert s stateOf
   insert-dropped prompt byte l =
       let size = length-of e (good-line e g) .1 in
       acts-as e h screen _ (insert prompt s byte) _ _
       (sym (else-is _ _ _ (ap (λ (n : ℕ). ltb n limit) size ∙ le-ltb (e .length) limit l)))
-      (acts-dropped e h screen s e h (sym (holds-editor e h slots g)) (sym (holds-history e h slots)))
+      (acts-dropped e h screen s e h (sym (holds-editor e h slots g)))
 
   -- to a place
-  pub go-quiet : (prompt : List ℕ) (place : ℕ) → e .cursor ≡ place → Acts e h (goTo prompt (stateOf e h slots) place) screen (keyOf e h (Shown 0)) screen
+  pub go-quiet : (prompt : List ℕ) (place : ℕ) → e .cursor ≡ place → ActsTo e h (goTo prompt (stateOf e h slots) place) h screen (keyOf e h (Shown 0)) screen
   unfolding goTo s stateOf
   go-quiet prompt place q = acts-as e h screen (showing s []) (goTo prompt s place) _ _ (sym (then-is _ _ _ (eq-eqb (e .cursor) place q))) quiet
 
   -- to the end of the line, as the editor has its length
-  pub go-end : (prompt : List ℕ) (k : KeyAnswer) (shown : List ℕ) → Acts e h (goTo prompt (stateOf e h slots) (e .length)) screen k shown
-      → Acts e h (turnBy prompt (stateOf e h slots) End) screen k shown
+  pub go-end : (prompt : List ℕ) (k : KeyAnswer) (shown : List ℕ) → ActsTo e h (goTo prompt (stateOf e h slots) (e .length)) h screen k shown
+      → ActsTo e h (turnBy prompt (stateOf e h slots) End) h screen k shown
   unfolding stateOf
   go-end prompt k shown a =
       let size = length-of e (good-line e g) .1 in
       acts-as e h screen _ _ k shown (ap (goTo prompt (stateOf e h slots)) (sym size)) a
 
   -- the byte at the cursor
-  pub delete-quiet : (prompt : List ℕ) → e .length ≤ e .cursor → Acts e h (delete prompt (stateOf e h slots)) screen (keyOf e h (Shown 0)) screen
+  pub delete-quiet : (prompt : List ℕ) → e .length ≤ e .cursor → ActsTo e h (delete prompt (stateOf e h slots)) h screen (keyOf e h (Shown 0)) screen
   unfolding delete s stateOf
   delete-quiet prompt l =
       let size = length-of e (good-line e g) .1 in
@@ -126,44 +121,44 @@ module _ (e : Editor) (h : History) (slots screen : List ℕ) (g : goodLine e �
 
   module _ (k : KeyAnswer) (goes : Editor) (shown : List ℕ) where
     pub go-shown : (prompt : List ℕ) (place : ℕ) → (e .cursor ≡ place → ⊥) → goes ≡ editor (e .line) (e .length) place (e .mode) (e .profile)
-        → Shows (redraw prompt (content (lineOf goes)) (goes .cursor)) e h goes h screen k shown → Acts e h (goTo prompt (stateOf e h slots) place) screen k shown
+        → Shows (redraw prompt (content (lineOf goes)) (goes .cursor)) e h goes h screen k shown → ActsTo e h (goTo prompt (stateOf e h slots) place) h screen k shown
     unfolding goTo s stateOf
     go-shown prompt place n p a =
         acts-as e h screen (redrawing prompt (withLine s (lineOf e) place)) (goTo prompt s place) k shown (sym (else-is _ _ _ (ne-eqb (e .cursor) place n)))
         (acts-redrawn e h screen prompt (withLine s (lineOf e) place) goes h k shown
-        (p ∙ held-as e place (e .mode) (e .profile) g ∙ held-line (lineOf e) place) (history-stays (lineOf e) place) a)
+        (p ∙ held-as e place (e .mode) (e .profile) g ∙ held-line (lineOf e) place) a)
 
     pub delete-shown : (prompt : List ℕ) → e .cursor < e .length → goes ≡ holding (erased (lineOf e) (e .cursor + 1)) (e .cursor) (e .mode) (e .profile)
-        → Shows (redraw prompt (content (lineOf goes)) (goes .cursor)) e h goes h screen k shown → Acts e h (delete prompt (stateOf e h slots)) screen k shown
+        → Shows (redraw prompt (content (lineOf goes)) (goes .cursor)) e h goes h screen k shown → ActsTo e h (delete prompt (stateOf e h slots)) h screen k shown
     unfolding delete s stateOf
     delete-shown prompt l p a =
         let line : List ℕ = erased (lineOf e) (e .cursor + 1) in
         let size = length-of e (good-line e g) .1 in
         acts-as e h screen (redrawing prompt (withLine s line (e .cursor))) (delete prompt s) k shown
         (sym (then-is _ _ _ (ap (ltb (e .cursor)) size ∙ lt-ltb (e .cursor) (e .length) l)))
-        (acts-redrawn e h screen prompt (withLine s line (e .cursor)) goes h k shown (p ∙ held-line line (e .cursor)) (history-stays line (e .cursor)) a)
+        (acts-redrawn e h screen prompt (withLine s line (e .cursor)) goes h k shown (p ∙ held-line line (e .cursor)) a)
 
   -- along the line
-  pub right-quiet : e .length ≤ e .cursor → Acts e h (right (stateOf e h slots)) screen (keyOf e h (Shown 0)) screen
+  pub right-quiet : e .length ≤ e .cursor → ActsTo e h (right (stateOf e h slots)) h screen (keyOf e h (Shown 0)) screen
   unfolding right s stateOf
   right-quiet l =
       let size = length-of e (good-line e g) .1 in
       acts-as e h screen (showing s []) (right s) _ _ (sym (else-is _ _ _ (ap (ltb (e .cursor)) size ∙ le-ltb (e .cursor) (e .length) l))) quiet
 
-  pub left-quiet : e .cursor ≡ 0 → Acts e h (left (stateOf e h slots)) screen (keyOf e h (Shown 0)) screen
+  pub left-quiet : e .cursor ≡ 0 → ActsTo e h (left (stateOf e h slots)) h screen (keyOf e h (Shown 0)) screen
   unfolding left s stateOf
   left-quiet z = acts-as e h screen (showing s []) (left s) _ _ (sym (then-is _ _ _ (eq-eqb (e .cursor) 0 z))) quiet
 
   module _ (k : KeyAnswer) (goes : Editor) (shown : List ℕ) where
     moved-shown : (cursor final : ℕ) → goes ≡ editor (e .line) (e .length) cursor (e .mode) (e .profile) → Shows (arrow final) e h goes h screen k shown
-        → Acts e h (showing (withLine (stateOf e h slots) (lineOf e) cursor) (arrow final)) screen k shown
+        → ActsTo e h (showing (withLine (stateOf e h slots) (lineOf e) cursor) (arrow final)) h screen k shown
     unfolding s
     moved-shown cursor final p a =
         acts-shown e h screen (withLine s (lineOf e) cursor) (arrow final) goes h k shown
-        (p ∙ held-as e cursor (e .mode) (e .profile) g ∙ held-line (lineOf e) cursor) (history-stays (lineOf e) cursor) a
+        (p ∙ held-as e cursor (e .mode) (e .profile) g ∙ held-line (lineOf e) cursor) a
 
     pub right-shown : e .cursor < e .length → goes ≡ editor (e .line) (e .length) (e .cursor + 1) (e .mode) (e .profile) → Shows (arrow 0x43) e h goes h screen k shown
-        → Acts e h (right (stateOf e h slots)) screen k shown
+        → ActsTo e h (right (stateOf e h slots)) h screen k shown
     unfolding right stateOf
     right-shown l p a =
         let size = length-of e (good-line e g) .1 in
@@ -171,7 +166,7 @@ module _ (e : Editor) (h : History) (slots screen : List ℕ) (g : goodLine e �
         (sym (then-is _ _ _ (ap (ltb (e .cursor)) size ∙ lt-ltb (e .cursor) (e .length) l))) (moved-shown (e .cursor + 1) 0x43 p a)
 
     pub left-shown : (e .cursor ≡ 0 → ⊥) → goes ≡ editor (e .line) (e .length) (e .cursor - 1) (e .mode) (e .profile) → Shows (arrow 0x44) e h goes h screen k shown
-        → Acts e h (left (stateOf e h slots)) screen k shown
+        → ActsTo e h (left (stateOf e h slots)) h screen k shown
     unfolding left stateOf
     left-shown n p a =
         acts-as e h screen _ (left (stateOf e h slots)) k shown
@@ -212,7 +207,7 @@ module _ (e : Editor) (h : History) (slots screen : List ℕ) (good-state : good
   line-good = good-parts e h slots good-state .0
 
   placed-as : (place : ℕ) → placedAt h place ≡ recordOf (atPlace (journalOf h slots) place)
-  placed-as place = ap (λ (x : History). placedAt x place) (sym (record-held h slots)) ∙ sym (record-placed (journalOf h slots) place)
+  placed-as place = ap (λ (x : History). placedAt x place) (sym (record-held h slots is)) ∙ sym (record-placed (journalOf h slots) place)
 
   pub recalled-short : (n : ℕ) (text : List ℕ) → text ≡ entryOf (journalOf h slots) n → length text ≤ 255
   recalled-short n text p = rw p (fair-short (journalOf h slots) n (good-fair h slots is))
@@ -223,8 +218,8 @@ module _ (e : Editor) (h : History) (slots screen : List ℕ) (good-state : good
         → Acts e h (redrawing prompt (recalled (stateOf e h slots) n)) screen k shown
     unfolding stateOf editorOf
     recall-shown q p m a =
-        acts-redrawn e h screen prompt (recalled (stateOf e h slots) n) goes h′ k shown
-        (m ∙ ap (λ (y : List ℕ). holding y (length y) (e .mode) (e .profile)) p) (q ∙ placed-as n) a
+        acts-to e h screen (redrawing prompt (recalled (stateOf e h slots) n)) h′ k shown (q ∙ placed-as n)
+        (acts-redrawn e h screen prompt (recalled (stateOf e h slots) n) goes h′ k shown (m ∙ ap (λ (y : List ℕ). holding y (length y) (e .mode) (e .profile)) p) a)
 
     pub up-shown : (step : Step) → step ≡ back h → step .recalled ≡ Entry n → h′ ≡ step .history → text ≡ entryOf (journalOf h slots) n → goes ≡ holding text (length text) (e .mode) (e .profile)
         → Shows (redraw prompt (content (lineOf goes)) (goes .cursor)) e h goes h′ screen k shown
@@ -233,7 +228,7 @@ module _ (e : Editor) (h : History) (slots screen : List ℕ) (good-state : good
     up-shown step q r j p m a =
         let b = back-some h step n q r in
         let here = place-held h slots in
-        acts-as e h screen (redrawing prompt (recalled (stateOf e h slots) n)) (up prompt (stateOf e h slots)) k shown
+        turn-as e h screen (redrawing prompt (recalled (stateOf e h slots) n)) (up prompt (stateOf e h slots)) k shown
         (sym (else-is _ _ _ (ne-eqb (journalOf h slots .place) 0 (λ z. b .some (sym here ∙ z)))
         ∙ ap (λ (i : ℕ). redrawing prompt (recalled (stateOf e h slots) i)) (ap (λ (i : ℕ). i - 1) here ∙ sym (b .number))))
         (recall-shown (j ∙ b .history) p m a)
@@ -241,8 +236,8 @@ module _ (e : Editor) (h : History) (slots screen : List ℕ) (good-state : good
   pub up-quiet : (prompt : List ℕ) (step : Step) → step ≡ back h → step .recalled ≡ Nothing → Acts e h (up prompt (stateOf e h slots)) screen (keyOf e h (Shown 0)) screen
   unfolding up stateOf
   up-quiet prompt step q r =
-      acts-as e h screen (showing (stateOf e h slots) []) (up prompt (stateOf e h slots)) _ _
-      (sym (then-is _ _ _ (eq-eqb (journalOf h slots .place) 0 (place-held h slots ∙ back-none h step q r)))) (quiet e h slots screen line-good)
+      turn-as e h screen (showing (stateOf e h slots) []) (up prompt (stateOf e h slots)) _ _
+      (sym (then-is _ _ _ (eq-eqb (journalOf h slots .place) 0 (place-held h slots ∙ back-none h step q r)))) (acts-to e h screen (showing (stateOf e h slots) []) h _ _ (sym (holds-history e h slots is)) (quiet e h slots screen line-good))
 
 recalled-none : (n p : ℕ) → n ≤ p → recalledAt n p ≡ Nothing
 unfolding recalledAt
@@ -307,7 +302,7 @@ module _ (e : Editor) (h : History) (slots screen : List ℕ) (good-state : good
     down-shown n text r j x m a =
         let f = found (h .count) p (step .recalled) (ap (λ (y : Step). y .recalled) stepped) n r in
         let here : n ≡ p = f .1 in
-        acts-as e h screen (redrawing prompt (recalled (stateOf e h slots) n)) (down prompt (stateOf e h slots)) k shown
+        turn-as e h screen (redrawing prompt (recalled (stateOf e h slots) n)) (down prompt (stateOf e h slots)) k shown
         (sym (then-is _ _ _ (ap (ltb p) counted ∙ lt-ltb p (h .count) (f .0)) ∙ ap (λ (i : ℕ). redrawing prompt (recalled (stateOf e h slots) i)) (sym here)))
         (recall-shown e h slots screen good-state k goes shown prompt n text h′ (j ∙ ap (λ (y : Step). y .history) stepped ∙ ap (placedAt h) (sym here)) x m a)
 
@@ -318,6 +313,7 @@ module _ (e : Editor) (h : History) (slots screen : List ℕ) (good-state : good
     down-cleared r j m a =
         let none = found-none (h .count) p (step .recalled) (ap (λ (y : Step). y .recalled) stepped) r in
         let s : State = cleared (stateOf e h slots) (atPlace (journalOf h slots) p) in
-        acts-as e h screen (redrawing prompt s) (down prompt (stateOf e h slots)) k shown
+        turn-as e h screen (redrawing prompt s) (down prompt (stateOf e h slots)) k shown
         (sym (else-is _ _ _ (ap (ltb p) counted ∙ none)))
-        (acts-redrawn e h screen prompt s goes h′ k shown m (j ∙ ap (λ (y : Step). y .history) stepped ∙ placed-as e h slots screen good-state p) a)
+        (acts-to e h screen (redrawing prompt s) h′ k shown (j ∙ ap (λ (y : Step). y .history) stepped ∙ placed-as e h slots screen good-state p)
+        (acts-redrawn e h screen prompt s goes h′ k shown m a))

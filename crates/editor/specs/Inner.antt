@@ -26,19 +26,22 @@ pub record Shows (bytes : List ℕ) (stays : Editor) (before : History) (goes : 
   pub made : k ≡ attempt bytes (length screen) (keyOf stays before (NoRoom (length bytes))) (keyOf goes history (Shown (length bytes)))
   pub shown : screen′ ≡ attempt bytes (length screen) screen (over bytes screen)
 
--- what a turn comes to for one who holds e and h
-unfoldable pub madeBy : Editor → History → Turn → ℕ → KeyAnswer
-madeBy e h t room =
-    attempt (t .screen) room (keyOf e h (NoRoom (length (t .screen)))) (keyOf (editorOf (t .after)) (historyOf (t .after)) (taken t (t .kind)))
+-- what a turn comes to for one who holds e and h, with the record that is handed back if it is taken
+unfoldable pub madeBy : Editor → History → Turn → History → ℕ → KeyAnswer
+madeBy e h t after room =
+    attempt (t .screen) room (keyOf e h (NoRoom (length (t .screen)))) (keyOf (editorOf (t .after)) after (taken t (t .kind)))
 
 -- a turn that leaves the slots and the line buffer alone
-pub record Acts (e : Editor) (h : History) (t : Turn) (screen : List ℕ) (k : KeyAnswer) (screen′ : List ℕ) : Type 0 where
-  pub made : k ≡ madeBy e h t (length screen)
+pub record ActsTo (e : Editor) (h : History) (t : Turn) (after : History) (screen : List ℕ) (k : KeyAnswer) (screen′ : List ℕ) : Type 0 where
+  pub made : k ≡ madeBy e h t after (length screen)
   pub shown : screen′ ≡ attempt (t .screen) (length screen) screen (over (t .screen) screen)
 
--- whatever the slots hold
+abbrev pub Acts : Editor → History → Turn → List ℕ → KeyAnswer → List ℕ → Type 0
+Acts e h t screen k screen′ = ActsTo e h t (historyOf (t .after)) screen k screen′
+
+-- one that leaves the history alone too: the record is handed back as it came, whatever the slots hold
 abbrev pub ActsFor : (List ℕ → Turn) → Editor → History → List ℕ → KeyAnswer → List ℕ → Type 0
-ActsFor t e h screen k screen′ = (slots : List ℕ) → Acts e h (t slots) screen k screen′
+ActsFor t e h screen k screen′ = (slots : List ℕ) → ActsTo e h (t slots) h screen k screen′
 
 -- any turn
 pub record Does (e : Editor) (h : History) (t : Turn) (slots line screen : List ℕ) (k : KeyAnswer) (slots′ line′ screen′ : List ℕ) : Type 0 where

@@ -10,7 +10,7 @@ use borrow.Author.Tests.{lt-ltb, le-ltb, le-leb, lt-leb, leb-true, leb-false, lt
 use Rattle.buffer.proofs.Lists.{drop-step, drop-end}
 use Rattle.buffer.proofs.Choices.{then-is, else-is}
 use Rattle.buffer.proofs.Lending.{copy-step}
-use Rattle.frame.specs.Text.{Bytes}
+use Rattle.buffer.specs.Numbers.{Bytes}
 use Rattle.frame.specs.Hex.{digitOf, hexOf, inRange, digitValue, isDigit, valueOf, pairOf, unhex, firstBad}
 use Rattle.frame.specs.declared.hex.Digit.{Digit}
 use Rattle.frame.specs.declared.hex.Digit.the-variants.{Value, Other}

@@ -5,7 +5,8 @@ use mathlib.Core.List.{List, [], _∷_, _++_}
 use lib.ListN.{length, take, drop, getD}
 use native.Mathlib.Omega.{arith}
 use Rattle.buffer.proofs.Lists.{drop-step, drop-end}
-use Rattle.frame.specs.Text.{Bytes, readText}
+use Rattle.buffer.specs.Numbers.{Bytes}
+use Rattle.frame.specs.Text.{readText}
 use Rattle.frame.specs.Framed.{frameOf, framed, frameFirst}
 use Rattle.frame.specs.declared.prefixed.Text.{Text}
 use Rattle.frame.specs.declared.prefixed.Text.the-variants.{Sized, Broken as NoText}

@@ -12,7 +12,7 @@ use types.Run.{OneOf, miss}
 use denote.Enum.Declared.{tagOf}
 use Rattle.buffer.specs.Write.{over, Written, Pushed, overIfFits}
 use Rattle.buffer.proofs.Choices.{then-is, else-is}
-use Rattle.frame.specs.Text.{Bytes}
+use Rattle.buffer.specs.Numbers.{Bytes}
 use Rattle.frame.specs.Hex.{hexOf, unhex, firstBad}
 use Rattle.frame.specs.House.{LF, houseLine, endsInLF, digitsOf, readDigits, readHouse, leftBy, houseLeaves, HouseRead, writeHouse, HouseWritten}
 use Rattle.frame.specs.declared.house.House.{House}

@@ -9,12 +9,12 @@ use lib.ListN.{length, take, drop, length-append, length-take, length-drop}
 use lib.Seq.{drop-drop, drop-append-seam, take-add, take-append-seam}
 use Rattle.buffer.proofs.Lists.{drop-end}
 use Rattle.frame.specs.Framed.{frameOf, frameFirst}
-use Rattle.frame.specs.Text.{Bytes}
+use Rattle.buffer.specs.Numbers.{Bytes}
 use Rattle.frame.specs.Series.{onFrame, textsFrom, textsIn, Whole, runs, AllFrames}
 use Rattle.frame.specs.declared.framed.Framed.{Framed}
 use Rattle.frame.specs.declared.framed.Framed.the-variants.{Frame, Broken, End}
 use Rattle.frame.proofs.framed.Framed.{the-type}
-use Rattle.frame.proofs.Texts.{bytes-drop}
+use Rattle.buffer.proofs.Numbers.{bytes-drop}
 use Rattle.frame.proofs.Frames.{length-frameOf, frame-read, frame-found, frame-within, frame-back}
 
 -- what is read already

@@ -11,7 +11,7 @@ use Rattle.buffer.specs.Write.{over, Written, overIfFits}
 use Rattle.buffer.proofs.Choices.{then-is, else-is}
 use Rattle.text.specs.Decoding.{wellFormedLength}
 use Rattle.text.specs.Apart.{wordsBetween}
-use Rattle.frame.specs.Text.{Bytes}
+use Rattle.buffer.specs.Numbers.{Bytes}
 use Rattle.frame.specs.Framed.{frameOf}
 use Rattle.tree.specs.Images.{framesOf}
 use Rattle.tree.specs.Rules.{checkTree}

@@ -2,7 +2,8 @@
 use mathlib.Core.Path.{_≡_, refl}
 use mathlib.Core.List.{List, [], _∷_}
 use Rattle.buffer.specs.Compare.{sameBytes}
-use Rattle.frame.specs.Text.{numberBytes, textOf}
+use Rattle.buffer.specs.Numbers.{numberBytes}
+use Rattle.frame.specs.Text.{textOf}
 use Rattle.frame.specs.Framed.{frameOf}
 use Rattle.image.specs.Frames.{Frame, node, flag, absent, present}
 use Rattle.tree.specs.Subtrees.{upTo, onFrom, subtree}

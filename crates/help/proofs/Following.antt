@@ -11,7 +11,7 @@ use Rattle.buffer.proofs.Lists.{drop-end}
 use Rattle.text.specs.Apart.{wordsBetween, nextWord}
 use Rattle.text.specs.declared.apart.Word.{Word}
 use Rattle.text.specs.declared.apart.Word.the-variants.{At, Nothing}
-use Rattle.frame.specs.Text.{Bytes}
+use Rattle.buffer.specs.Numbers.{Bytes}
 use Rattle.image.specs.Frames.{Frame, encodeFrame}
 use Rattle.tree.specs.Images.{framesOf, flat}
 use Rattle.tree.specs.Rules.{start, checkTree}

@@ -1,18 +1,21 @@
--- What holds of a history's calls: a text that is added was asked of a good state.
-use Prim.Native.Nat.{ℕ, _≤_}
-use mathlib.Core.Path.{_≡_, refl}
+-- What holds of a history's calls: a text that is added was asked of a good state, and changes the total by what it adds and drops.
+use Prim.Native.Nat.{ℕ, _+_, _-_, _≤_}
+use mathlib.Core.Path.{_≡_, refl, sym, ap, _∙_}
 use mathlib.Core.Bool.{Bool, true, false, cond}
-use mathlib.Core.List.{List}
+use mathlib.Core.List.{List, []}
 use native.Mathlib.Omega.{arith}
 use lib.Dec.{ltb}
-use lib.ListN.{length}
+use lib.ListN.{length, getD}
 use borrow.Author.Tests.{ltb-false}
 use Rattle.text.specs.Decoding.{wellFormedLength, wellFormed}
-use Rattle.history.specs.Journal.{offered, journalOf, good}
-use Rattle.history.specs.Answer.{addAnswer}
+use Rattle.history.specs.Entries.{mostEntries, isNew, total}
+use Rattle.history.specs.Journal.{count, entryOf, offered, recordOf, journalOf, good}
+use Rattle.history.specs.Answer.{addAnswer, recordBy, Addition}
 use Rattle.history.specs.declared.stepping.History.{History}
+use Rattle.history.specs.declared.adding.Added.{Added}
 use Rattle.history.specs.declared.adding.Added.the-variants.{Done, BadState as BadHistory, TooLong, IllFormed}
-use Rattle.history.proofs.Journals.{Fair, good-fair, fair-offered}
+use Rattle.history.proofs.Journals.{Fair, good-fair, fair-offered, good-total}
+use Rattle.history.proofs.Totals.{total-added}
 
 -- a text that is added is short and well-formed, and the state good
 pub record Taken (h : History) (slots text : List ℕ) : Type 0 where
@@ -34,3 +37,18 @@ done-has h slots text d = by (good h slots) (ltb 255 (length text)) (wellFormed 
 -- and the history after it keeps the rules
 pub taken-fair : (h : History) (slots text : List ℕ) → Taken h slots text → Fair (offered text (journalOf h slots))
 taken-fair h slots text t = fair-offered text (journalOf h slots) (good-fair h slots (t .is-good)) (t .short) (t .formed)
+
+-- the total after it: that before, with what is added and without what is dropped
+pub added-total : (h : History) (slots text : List ℕ) (r : History) (left : List ℕ) → Addition h slots text r Done left
+    → r .total
+    ≡ cond (isNew text (journalOf h slots .entries))
+    (cond (ltb (count (journalOf h slots)) mostEntries) (h .total) (h .total - length (entryOf (journalOf h slots) 0)) + length text)
+    (h .total)
+unfolding recordOf
+added-total h slots text r left a =
+    let es : List (List ℕ) = journalOf h slots .entries in
+    let done : addAnswer (good h slots) text ≡ Done = sym (a .answer) in
+    let before : h .total ≡ total es = good-total h slots (done-has h slots text done .is-good) .0 in
+    ap (λ (x : History). x .total) (a .state ∙ ap (λ (x : Added). recordBy x h (offered text (journalOf h slots))) done)
+    ∙ total-added text es
+    ∙ ap (λ (t : ℕ). cond (isNew text es) (cond (ltb (length es) mostEntries) t (t - length (getD es 0 [])) + length text) t) (sym before)

@@ -1,4 +1,4 @@
--- Laws of a history as one value: who holds one that keeps the rules is good, and holds just what it says; offering a text and a step keep the rules.
+-- Laws of a history as one value: who holds one that keeps the rules is good, and holds just what it says, its total among it; offering a text and a step keep the rules.
 use Prim.Native.Nat.{ℕ, zero, suc, _+_, _-_, _≤_}
 use mathlib.Core.Path.{_≡_, refl, sym, ap, _∙_}
 use mathlib.Core.Bool.{Bool, true, false, cond}
@@ -6,14 +6,14 @@ use mathlib.Core.List.{List, [], _∷_}
 use native.Mathlib.Omega.{arith}
 use lib.Dec.{eqb, ltb}
 use lib.ListN.{length, getD}
-use borrow.Author.Tests.{eq-eqb, ltb-true}
+use borrow.Author.Tests.{eq-eqb, eqb-true, eqb-false, ltb-true}
 use Rattle.buffer.specs.Compare.{sameBytes}
 use Rattle.buffer.specs.Lend.{zeros}
 use Rattle.buffer.proofs.Choices.{true-is-not-false}
 use Rattle.text.proofs.Prefix.{prefix-none, codes-none}
 use Rattle.text.specs.Apart.{blank}
 use Rattle.text.specs.Decoding.{wellFormed}
-use Rattle.history.specs.Entries.{usable, sound}
+use Rattle.history.specs.Entries.{usable, sound, total}
 use Rattle.history.specs.Slots.{run, layout, entriesOf}
 use Rattle.history.specs.Journal.{Journal, noEntries, count, entryOf, offered, atPlace, recordOf, slotsOf, journalOf, good}
 use Rattle.history.specs.Steps.{placedAt, back, recalledAt, onward}
@@ -22,6 +22,8 @@ use Rattle.history.specs.declared.stepping.History.{History}
 use Rattle.history.specs.declared.stepping.Recalled.the-variants.{Entry, Nothing}
 use Rattle.history.specs.declared.stepping.Step.{Step}
 use Rattle.history.proofs.Layouts.{none, length-layout, length-entries, entries-layout}
+use Rattle.history.proofs.Steps.{same-numbers}
+use Rattle.history.proofs.Totals.{total-most}
 use Rattle.history.proofs.States.{holds, Good, good-has, good-short, short-at}
 use Rattle.history.proofs.Kept.{good-of, Entries, added-entries}
 
@@ -49,9 +51,9 @@ good-fair h slots g =
     let b = k .placed in
     record { entries = record { short = good-short h slots k; few = omega arith; is-sound = k .is-sound }; placed = omega arith }
 
-pub record-held : (h : History) (slots : List ℕ) → recordOf (journalOf h slots) ≡ h
+pub record-held : (h : History) (slots : List ℕ) → good h slots ≡ true → recordOf (journalOf h slots) ≡ h
 unfolding recordOf journalOf
-record-held h slots = ap (λ (n : ℕ). placedAt (record { count = n; place = n }) (h .place)) (length-entries (h .count) slots)
+record-held h slots g = same-numbers (length-entries (h .count) slots) refl (sym (good-has h slots g .tallies))
 
 pub slots-held : (h : History) (slots : List ℕ) → good h slots ≡ true → slotsOf (journalOf h slots) ≡ slots
 unfolding slotsOf journalOf
@@ -67,13 +69,14 @@ unfolding recordOf slotsOf
 fair-good j f =
     let es : List (List ℕ) = j .entries in
     let back : entriesOf (length es) (layout es) ≡ es = entries-layout es (f .entries .short) in
-    good-of (record { count = length es; place = j .place }) (layout es)
+    good-of (record { count = length es; place = j .place; total = total es }) (layout es)
     (record {
       size = length-layout es (f .entries .short) (f .entries .few);
       counted = f .entries .few;
       placed = f .placed;
       is-sound = ap (sound []) back ∙ f .entries .is-sound;
       laid = ap layout back;
+      tallies = sym (ap total back);
     })
 
 -- no entry: slots that are all zeros
@@ -117,13 +120,44 @@ formed-at before (e ∷ es) (suc n) s = formed-at e es n (rest (sameBytes before
 pub fair-formed : (j : Journal) (n : ℕ) → Fair j → wellFormed (entryOf j n) ≡ true
 fair-formed j n f = formed-at [] (j .entries) n (f .entries .is-sound)
 
+-- the total of a good state is that of its entries' lengths, at most 255 for each of at most 100
+pub good-total : (h : History) (slots : List ℕ) → good h slots ≡ true → (h .total ≡ total (journalOf h slots .entries)) × (h .total ≤ 25500)
+unfolding journalOf
+good-total h slots g =
+    let k = good-has h slots g in
+    let a = k .tallies in
+    let b = total-most (entriesOf (h .count) slots) (good-short h slots k) in
+    let n = length-entries (h .count) slots in
+    let c = k .counted in
+    (a, omega arith)
+
+-- any other is bad: whatever else there is, and beside a good state's count, place and slots
+pub wrong-total : (h : History) (slots : List ℕ) → (h .total ≡ total (journalOf h slots .entries) → ⊥) → good h slots ≡ false
+wrong-total h slots n = by (good h slots) refl
+  where
+    by : (t : Bool) → good h slots ≡ t → t ≡ false
+    by true g = absurd (n (good-total h slots g .0))
+    by false g = refl
+
+pub one-total : (h : History) (slots : List ℕ) (n : ℕ) → good h slots ≡ true → good (record { count = h .count; place = h .place; total = n }) slots ≡ eqb n (h .total)
+one-total h slots n g = by (eqb n (h .total)) refl (good (record { count = h .count; place = h .place; total = n }) slots) refl
+  where
+    k : Good h slots
+    k = good-has h slots g
+
+    by : (t : Bool) → eqb n (h .total) ≡ t → (u : Bool) → good (record { count = h .count; place = h .place; total = n }) slots ≡ u → u ≡ t
+    by true e u q = sym q ∙ ap (λ (m : ℕ). good (record { count = h .count; place = h .place; total = m }) slots) (eqb-true n (h .total) e) ∙ g
+    by false e false q = refl
+    by false e true q = absurd (eqb-false n (h .total) e (good-has _ slots q .tallies ∙ sym (k .tallies)))
+
 -- its numbers fit the bytes that are saved
 pub good-fits : (h : History) (slots : List ℕ) → good h slots ≡ true → Fits h
 good-fits h slots g =
     let k = good-has h slots g in
     let a = k .counted in
     let b = k .placed in
-    record { count = omega arith; place = omega arith }
+    let d = good-total h slots g .1 in
+    record { count = omega arith; place = omega arith; total = omega arith }
 
 -- a step moves the place only, and keeps it within the count
 pub record-placed : (j : Journal) (place : ℕ) → recordOf (atPlace j place) ≡ placedAt (recordOf j) place
@@ -137,7 +171,7 @@ slots-placed j place = refl
 pub placed-good : (h : History) (slots : List ℕ) (place : ℕ) → good h slots ≡ true → place ≤ h .count → good (placedAt h place) slots ≡ true
 placed-good h slots place g p =
     let k = good-has h slots g in
-    good-of (placedAt h place) slots (record { size = k .size; counted = k .counted; placed = p; is-sound = k .is-sound; laid = k .laid })
+    good-of (placedAt h place) slots (record { size = k .size; counted = k .counted; placed = p; is-sound = k .is-sound; laid = k .laid; tallies = k .tallies })
 
 pub back-good : (h : History) (slots : List ℕ) → good h slots ≡ true → good (back h .history) slots ≡ true
 unfolding back

@@ -14,24 +14,23 @@ use Rattle.buffer.proofs.Zeros.{zero-bytes}
 use Rattle.buffer.proofs.Lending.{rest-lent}
 use Rattle.buffer.proofs.Greatest.{greatest-append}
 use Rattle.buffer.proofs.Ordering.{same-append, same-after, same-as, same-is, is-same}
+use Rattle.buffer.proofs.Numbers.{bytes-drop}
 use Rattle.buffer.specs.Compare.{sameBytes}
+use Rattle.buffer.specs.Numbers.{Bytes}
 use Rattle.buffer.specs.Greatest.{greatest}
 use Rattle.text.proofs.Pieces.{pieces-none}
 use Rattle.text.specs.Apart.{blank, allWhite}
-use Rattle.history.specs.Entries.{mostEntries, usable, sound}
+use Rattle.history.specs.Entries.{mostEntries, usable, sound, total}
 use Rattle.buffer.specs.Lend.{zeros}
 use Rattle.history.specs.Slots.{slot, run, layout, entry, entriesOf}
 use Rattle.history.specs.Journal.{slotsOf, journalOf, good}
 use Rattle.history.specs.declared.stepping.History.{History}
-use Rattle.history.specs.Inner.{unused, goodSlot, slotBefore, judged}
+use Rattle.history.specs.Inner.{unused, goodSlot, slotBefore, judged, tallied}
 use Rattle.history.proofs.Layouts.{length-slot, length-entries, entry-slot}
 
--- every element is a byte
-abbrev pub Bytes : List ℕ → Type 0
-Bytes s = (i : ℕ) → getD s i 0 ≤ 255
-
-later-bytes : (s : List ℕ) → Bytes s → Bytes (drop 256 s)
-later-bytes s b i = rw (getD-drop 256 s i 0) (b (256 + i))
+first-byte : (s : List ℕ) → Bytes s → getD s 0 0 ≤ 255
+unfolding Bytes
+first-byte s b = let h = b 0 in omega arith
 
 -- a slot is its length byte, its entry and what lies after
 module _ (bs : List ℕ) (fits : 256 ≤ length bs) (byte : getD bs 0 0 ≤ 255) where
@@ -134,12 +133,15 @@ slot-by-slot m zero before prev bs h l b f =
     sym (zero-bytes bs) ∙ ap (λ (k : ℕ). sameBytes (zeros k) bs) e
 slot-by-slot zero (suc n) before prev bs h l b f = absurd (omega arith)
 slot-by-slot (suc m) (suc n) before prev bs h l b f =
-    by (λ t q. slot-by-slot m n t e (drop 256 bs) (omega arith) (let d = length-drop 256 bs in omega arith) (later-bytes bs b) (rw q (after {e = e} (short-entry bs fits (b 0))))) (usable e) (eqb (greatest (unused bs)) 0) refl refl
+    by (λ t q. slot-by-slot m n t e (drop 256 bs) (omega arith) (let d = length-drop 256 bs in omega arith) (bytes-drop 256 bs b) (rw q (after {e = e} (short-entry bs fits byte)))) (usable e) (eqb (greatest (unused bs)) 0) refl refl
     ∙ ap (λ (t : Bool). cond (cond (usable e) (cond (sameBytes prev e) false (sound e es)) false) t false)
-    (sym (layout-step bs es (zeros (256 * m - 256 * n)) fits (b 0)) ∙ ap (λ (k : ℕ). sameBytes ((slot e ++ run es) ++ zeros k) bs) less)
+    (sym (layout-step bs es (zeros (256 * m - 256 * n)) fits byte) ∙ ap (λ (k : ℕ). sameBytes ((slot e ++ run es) ++ zeros k) bs) less)
   where
     fits : 256 ≤ length bs
     fits = omega arith
+
+    byte : getD bs 0 0 ≤ 255
+    byte = first-byte bs b
 
     less : 256 * m - 256 * n ≡ 256 * suc m - 256 * suc n
     less = omega arith
@@ -157,19 +159,43 @@ slot-by-slot (suc m) (suc n) before prev bs h l b f =
     by later false v p q = refl
     by later true false p q = sym (neither (cond (sameBytes prev e) false (sound e es)))
     by later true true p q =
-        let is : take 256 bs ≡ slot e = sym (same-is (slot e) (take 256 bs) (slot-laid bs fits (b 0) ∙ q)) in
+        let is : take 256 bs ≡ slot e = sym (same-is (slot e) (take 256 bs) (slot-laid bs fits byte ∙ q)) in
         ap (λ (t : Bool). cond t false (judged (take 256 bs) n (drop 256 bs))) (ap (sameBytes before) is ∙ follows-same before prev e f p)
         ∙ joined (sameBytes prev e) (sound e es) _ (judged (take 256 bs) n (drop 256 bs)) (later (take 256 bs) is)
 
--- and so the whole state
+-- and so the whole state, with its total
+nested : (s l t : Bool) → cond (cond s l false) t false ≡ cond s (cond l t false) false
+nested true l t = refl
+nested false l t = refl
+
 pub good-is : (h : History) (slots : List ℕ) → Bytes slots → length slots ≡ 25600 → h .count ≤ 100 → h .place ≤ h .count
-    → judged [] (h .count) slots ≡ good h slots
-unfolding good slotsOf journalOf layout mostEntries
+    → tallied (h .count) (h .total) slots ≡ good h slots
+unfolding good slotsOf journalOf layout mostEntries tallied
 good-is h slots b l c k =
     let es : List (List ℕ) = entriesOf (h .count) slots in
-    slot-by-slot 100 (h .count) [] [] slots c l b first
-    ∙ ap (λ (n : ℕ). cond (sound [] es) (sameBytes (run es ++ zeros (25600 - 256 * n)) slots) false) (sym (length-entries (h .count) slots))
+    let tallies : Bool = eqb (h .total) (total es) in
+    ap (λ (t : Bool). cond t tallies false)
+    (slot-by-slot 100 (h .count) [] [] slots c l b first
+    ∙ ap (λ (n : ℕ). cond (sound [] es) (sameBytes (run es ++ zeros (25600 - 256 * n)) slots) false) (sym (length-entries (h .count) slots)))
+    ∙ nested (sound [] es) _ tallies
     ∙ sym (then-is _ _ _ (eq-eqb _ _ l) ∙ then-is _ _ _ (le-leb _ _ c) ∙ then-is _ _ _ (le-leb _ _ k))
+
+-- slots of which one is not good, and slots with another total and with theirs
+pub tallied-not : (n sum : ℕ) (s : List ℕ) → judged [] n s ≡ false → tallied n sum s ≡ false
+unfolding tallied
+tallied-not n sum s e = else-is _ _ _ e
+
+pub tallied-other : (n sum : ℕ) (s : List ℕ) → (sum ≡ total (entriesOf n s) → ⊥) → tallied n sum s ≡ false
+unfolding tallied
+tallied-other n sum s e = ap (λ (t : Bool). cond (judged [] n s) t false) (ne-eqb _ _ e) ∙ neither (judged [] n s)
+
+pub tallied-so : (n sum : ℕ) (s : List ℕ) → sum ≡ total (entriesOf n s) → tallied n sum s ≡ judged [] n s
+unfolding tallied
+tallied-so n sum s e = ap (λ (t : Bool). cond (judged [] n s) t false) (eq-eqb _ _ e) ∙ itself (judged [] n s)
+  where
+    itself : (t : Bool) → cond t true false ≡ t
+    itself true = refl
+    itself false = refl
 
 before-next : (s : List ℕ) (at : ℕ) → slotBefore (at + 256) s ≡ take 256 (drop at s)
 unfolding slotBefore

@@ -1,10 +1,10 @@
 -- Entries of which a good state can be made, and that adding keeps them so.
-use Prim.Native.Nat.{ℕ, _+_, _-_, _<_, _≤_}
-use mathlib.Core.Path.{_≡_, refl, sym, ap, _∙_}
+use Prim.Native.Nat.{ℕ, _<_, _≤_}
+use mathlib.Core.Path.{_≡_, refl, sym, _∙_}
 use mathlib.Core.Bool.{Bool, true, false, cond, not}
 use mathlib.Core.List.{List, [], _∷_, _++_}
 use native.Mathlib.Omega.{arith}
-use lib.Dec.{ltb, eqb}
+use lib.Dec.{ltb}
 use lib.ListN.{length, drop, length-append}
 use borrow.Author.Tests.{eq-eqb, le-leb, ltb-true, ltb-false}
 use Rattle.buffer.proofs.Choices.{then-is, else-is, true-is-not-false}
@@ -27,7 +27,8 @@ good-of h slots g =
     ∙ then-is _ _ _ (le-leb _ _ (g .counted))
     ∙ then-is _ _ _ (le-leb _ _ (g .placed))
     ∙ then-is _ _ _ (g .is-sound)
-    ∙ is-same _ _ (g .laid)
+    ∙ then-is _ _ _ (is-same _ _ (g .laid))
+    ∙ eq-eqb _ _ (g .tallies)
 
 -- entries of which a good state can be made, at any place
 pub record Entries (es : List (List ℕ)) : Type 0 where

@@ -1,6 +1,7 @@
 -- The laws of the crate `history` that belong to no one function.
 pub mod Layouts
 pub mod Judging
+pub mod Totals
 pub mod Steps
 pub mod Newest
 pub mod States

@@ -1,50 +1,71 @@
 -- Laws of the bytes that are saved of a history: what was saved is read back, nothing in the bytes is lost, and what is restored is good.
-use Prim.Native.Nat.{ℕ}
+use Prim.Native.Nat.{ℕ, _+_, _*_, _/_, _%_}
 use mathlib.Core.Path.{_≡_, refl, sym, ap, _∙_}
 use mathlib.Core.Bool.{Bool, true, false}
 use mathlib.Core.List.{List, [], _∷_}
 use native.Mathlib.Omega.{arith}
-use lib.Dec.{eqb}
-use lib.ListN.{length, getD}
-use borrow.Author.Tests.{eq-eqb, ne-eqb, eqb-true}
+use lib.ListN.{length, take, drop, getD, length-drop}
+use lib.Seq.{take-all}
 use Rattle.buffer.proofs.Choices.{then-is, else-is}
+use Rattle.buffer.proofs.Ordering.{same-is, is-same, same-lengths}
+use Rattle.buffer.proofs.Numbers.{length-number, number-kept, number-two, value-number, value-two, bytes-drop}
+use Rattle.buffer.specs.Compare.{sameBytes}
+use Rattle.buffer.specs.Numbers.{Bytes, numberOf}
 use Rattle.history.specs.Journal.{good}
 use Rattle.history.specs.Saved.{savedSize, savedOf, savedIn, isSaved, restored}
 use Rattle.history.specs.declared.stepping.History.{History}
 use Rattle.history.specs.declared.saving.Restored.the-variants.{Good, Bad}
+use Rattle.history.proofs.Steps.{same-numbers}
 use Rattle.history.proofs.States.{holds}
 
 pub length-saved : (h : History) → length (savedOf h) ≡ savedSize
 unfolding savedOf savedSize
-length-saved h = refl
+length-saved h = let n = length-number 2 (h .total) in omega arith
+
+-- the total's bytes as the code makes them
+pub saved-bytes : (h : History) → h .count ∷ h .place ∷ h .total / 256 ∷ h .total % 256 ∷ [] ≡ savedOf h
+unfolding savedOf
+saved-bytes h = ap (λ (l : List ℕ). h .count ∷ h .place ∷ l) (sym (number-two (h .total)))
 
 pub saved-in : (h : History) → savedIn (savedOf h) ≡ h
 unfolding savedIn savedOf
-saved-in h = refl
+saved-in h = ap (λ (n : ℕ). record { count = h .count; place = h .place; total = n }) (number-kept 1 (h .total))
 
-pub saved-back : (bytes : List ℕ) → length bytes ≡ savedSize → savedOf (savedIn bytes) ≡ bytes
+-- bytes that are what is saved of what they hold: as many as that takes, the last of them below 256
+abbrev pub HasForm : List ℕ → Type 0
+HasForm bytes = savedOf (savedIn bytes) ≡ bytes
+
+pub form-size : (bytes : List ℕ) → HasForm bytes → length bytes ≡ savedSize
+form-size bytes f = ap length (sym f) ∙ length-saved (savedIn bytes)
+
+-- four that are bytes
+pub bytes-form : (bytes : List ℕ) → length bytes ≡ savedSize → Bytes bytes → HasForm bytes
 unfolding savedIn savedOf savedSize
-saved-back [] n = absurd (let z : _≡_ {A = ℕ} 0 2 = n in omega arith)
-saved-back (a ∷ []) n = absurd (omega arith)
-saved-back (a ∷ b ∷ []) n = refl
-saved-back (a ∷ b ∷ d ∷ s) n = absurd (omega arith)
+bytes-form [] n b = absurd (let z : _≡_ {A = ℕ} 0 4 = n in omega arith)
+bytes-form (c ∷ []) n b = absurd (omega arith)
+bytes-form (c ∷ p ∷ []) n b = absurd (omega arith)
+bytes-form (c ∷ p ∷ h ∷ []) n b = absurd (omega arith)
+bytes-form (c ∷ p ∷ h ∷ l ∷ []) n b =
+    ap (λ (s : List ℕ). c ∷ p ∷ s) (value-number (h ∷ l ∷ []) (bytes-drop 2 (c ∷ p ∷ h ∷ l ∷ []) b))
+bytes-form (c ∷ p ∷ h ∷ l ∷ x ∷ s) n b = absurd (omega arith)
 
--- bytes that are a history beside slots: their length, and what they hold
+-- bytes that are a history beside slots: their form, and what they hold
 pub record IsSaved (bytes slots : List ℕ) : Type 0 where
-  pub size : length bytes ≡ savedSize
+  pub form : HasForm bytes
   pub is-good : good (savedIn bytes) slots ≡ true
 
 pub saved-has : (bytes slots : List ℕ) → isSaved bytes slots ≡ true → IsSaved bytes slots
 unfolding isSaved
-saved-has bytes slots h = let a = holds (eqb (length bytes) savedSize) _ h in record { size = eqb-true _ _ (a .0); is-good = a .1 }
+saved-has bytes slots h =
+    let a = holds (sameBytes (savedOf (savedIn bytes)) bytes) _ h in record { form = same-is _ _ (a .0); is-good = a .1 }
 
--- at the right length they are as good as what they hold
-pub right-length : (bytes slots : List ℕ) → length bytes ≡ savedSize → isSaved bytes slots ≡ good (savedIn bytes) slots
+-- in the right form they are as good as what they hold
+pub right-form : (bytes slots : List ℕ) → HasForm bytes → isSaved bytes slots ≡ good (savedIn bytes) slots
 unfolding isSaved
-right-length bytes slots n = then-is _ _ _ (eq-eqb _ _ n)
+right-form bytes slots f = then-is _ _ _ (is-same _ _ f)
 
 pub saved-is : (h : History) (slots : List ℕ) → isSaved (savedOf h) slots ≡ good h slots
-saved-is h slots = right-length (savedOf h) slots (length-saved h) ∙ ap (λ (x : History). good x slots) (saved-in h)
+saved-is h slots = right-form (savedOf h) slots (ap savedOf (saved-in h)) ∙ ap (λ (x : History). good x slots) (saved-in h)
 
 -- what is restored
 pub restored-is : (bytes slots : List ℕ) → isSaved bytes slots ≡ true → restored bytes slots ≡ Good (savedIn bytes)
@@ -86,24 +107,35 @@ restored-good bytes slots h q =
     ap (λ (x : History). good x slots) (k .held) ∙ saved-has bytes slots (k .is) .is-good
 
 -- the ways through the code
-pub wrong-length : (bytes slots : List ℕ) → (length bytes ≡ 2 → ⊥) → Bad ≡ restored bytes slots
+pub wrong-length : (bytes slots : List ℕ) → (length bytes ≡ 4 → ⊥) → Bad ≡ restored bytes slots
 unfolding isSaved savedSize
-wrong-length bytes slots n = sym (restored-not bytes slots (else-is _ _ _ (ne-eqb _ _ n)))
+wrong-length bytes slots n =
+    sym (restored-not bytes slots (else-is _ _ _ (same-lengths (savedOf (savedIn bytes)) bytes (λ e. n (sym e ∙ length-saved (savedIn bytes))))))
 
-module _ (bytes slots : List ℕ) (count place : ℕ) (n : length bytes ≡ 2) (p : count ≡ getD bytes 0 0) (q : place ≡ getD bytes 1 0) where
-  read : record { count = count; place = place } ≡ savedIn bytes
-  unfolding savedIn
-  read = numbers p q
-    where
-      numbers : {a b c d : ℕ} → a ≡ b → c ≡ d → _≡_ {A = History} (record { count = a; place = c }) (record { count = b; place = d })
-      numbers e f = cc
+module _ (bytes slots : List ℕ) (count place high low : ℕ) (n : length bytes ≡ 4) (small : Bytes bytes)
+    (p : count ≡ getD bytes 0 0) (q : place ≡ getD bytes 1 0) (r : high ≡ getD bytes 2 0) (s : low ≡ getD bytes 3 0) where
+  told : History
+  told = record { count = count; place = place; total = high * 256 + low }
 
-  as-good : isSaved bytes slots ≡ good (record { count = count; place = place }) slots
+  total-read : high * 256 + low ≡ numberOf (drop 2 bytes)
+  total-read =
+      let two : take 2 (drop 2 bytes) ≡ drop 2 bytes = take-all 2 (drop 2 bytes) (let d = length-drop 2 bytes in omega arith) in
+      let v = value-two bytes 2 (omega arith) in
+      (omega arith) ∙ ap numberOf two
+
+  read : told ≡ savedIn bytes
+  unfolding savedIn told
+  read = same-numbers p q total-read
+
+  as-good : isSaved bytes slots ≡ good told slots
   unfolding savedSize
-  as-good = right-length bytes slots n ∙ ap (λ (x : History). good x slots) (sym read)
+  as-good = right-form bytes slots (bytes-form bytes n small) ∙ ap (λ (x : History). good x slots) (sym read)
 
-  pub read-bad : good (record { count = count; place = place }) slots ≡ false → Bad ≡ restored bytes slots
+  pub read-bad : good (record { count = count; place = place; total = high * 256 + low }) slots ≡ false → Bad ≡ restored bytes slots
+  unfolding told
   read-bad g = sym (restored-not bytes slots (as-good ∙ g))
 
-  pub read-good : good (record { count = count; place = place }) slots ≡ true → Good (record { count = count; place = place }) ≡ restored bytes slots
+  pub read-good : good (record { count = count; place = place; total = high * 256 + low }) slots ≡ true
+      → Good (record { count = count; place = place; total = high * 256 + low }) ≡ restored bytes slots
+  unfolding told
   read-good g = ap Good read ∙ sym (restored-is bytes slots (as-good ∙ g))

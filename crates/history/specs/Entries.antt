@@ -1,8 +1,8 @@
--- The entries of a history: at most 100, from oldest to newest (STANDARD 3.1, 3.4, 3.13, 12.8).
-use Prim.Native.Nat.{ℕ}
+-- The entries of a history: at most 100, from oldest to newest (STANDARD 3.1, 3.4, 3.13, 3.15, 12.8).
+use Prim.Native.Nat.{ℕ, _+_}
 use mathlib.Core.Bool.{Bool, true, false, cond, not}
 use mathlib.Core.List.{List, [], _∷_, _++_}
-use lib.Dec.{ltb, eqb}
+use lib.Dec.{ltb}
 use lib.ListN.{length, drop}
 use Rattle.buffer.specs.Compare.{sameBytes}
 use Rattle.text.specs.Decoding.{wellFormed}
@@ -39,3 +39,8 @@ usable text = cond (blank text) false (wellFormed text)
 unfoldable pub sound : List ℕ → List (List ℕ) → Bool
 sound before [] = true
 sound before (e ∷ es) = cond (usable e) (cond (sameBytes before e) false (sound e es)) false
+
+-- the total of the entries' lengths: the bytes in use (3.15)
+unfoldable pub total : List (List ℕ) → ℕ
+total [] = 0
+total (e ∷ es) = length e + total es

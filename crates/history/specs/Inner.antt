@@ -6,8 +6,8 @@ use lib.Dec.{ltb, eqb}
 use lib.ListN.{take, drop, getD}
 use Rattle.buffer.specs.Compare.{sameBytes}
 use Rattle.buffer.specs.Greatest.{greatest}
-use Rattle.history.specs.Entries.{usable}
-use Rattle.history.specs.Slots.{entry}
+use Rattle.history.specs.Entries.{usable, total}
+use Rattle.history.specs.Slots.{entry, entriesOf}
 
 -- what lies after the entry in the slot that bytes begin with
 unfoldable pub unused : List ℕ → List ℕ
@@ -26,3 +26,7 @@ unfoldable pub judged : List ℕ → ℕ → List ℕ → Bool
 judged before zero bytes = eqb (greatest bytes) 0
 judged before (suc n) bytes =
     cond (goodSlot bytes) (cond (sameBytes before (take 256 bytes)) false (judged (take 256 bytes) n (drop 256 bytes))) false
+
+-- the same of n slots, and that their entries have this total
+unfoldable pub tallied : ℕ → ℕ → List ℕ → Bool
+tallied n sum bytes = cond (judged [] n bytes) (eqb sum (total (entriesOf n bytes))) false

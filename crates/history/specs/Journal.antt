@@ -6,7 +6,7 @@ use mathlib.Core.List.{List, []}
 use lib.Dec.{leb, eqb}
 use lib.ListN.{length, getD}
 use Rattle.buffer.specs.Compare.{sameBytes}
-use Rattle.history.specs.Entries.{mostEntries, added, sound}
+use Rattle.history.specs.Entries.{mostEntries, added, sound, total}
 use Rattle.history.specs.Slots.{slotsSize, layout, entriesOf}
 use Rattle.history.specs.declared.stepping.History.{History}
 
@@ -35,26 +35,28 @@ offered text j = record { entries = added text (j .entries); place = length (add
 abbrev pub atPlace : Journal → ℕ → Journal
 atPlace j place = record { entries = j .entries; place = place }
 
--- the record and the slots that hold a history, and the history that they hold (3.12, 4.3)
+-- the record and the slots that hold a history, and the history that they hold (3.12, 3.15, 4.3)
 unfoldable pub recordOf : Journal → History
-recordOf j = record { count = length (j .entries); place = j .place }
+recordOf j = record { count = length (j .entries); place = j .place; total = total (j .entries) }
 
 -- (3.10, 3.12, 4.3)
 unfoldable pub slotsOf : Journal → List ℕ
 slotsOf j = layout (j .entries)
 
--- (3.10, 3.12)
+-- (3.10, 3.12; the total has no part in it)
 unfoldable pub journalOf : History → List ℕ → Journal
 journalOf h slots = record { entries = entriesOf (h .count) slots; place = h .place }
 
 -- A state is bad exactly if the buffer has another length, the count exceeds 100, the place exceeds the count, a used slot has length 0 or is
--- blank or ill-formed, two neighbours are equal, or an unused byte is not zero (3.2, 3.13).
+-- blank or ill-formed, two neighbours are equal, an unused byte is not zero, or the total is not that of the entries' lengths (3.2, 3.13, 3.15).
 unfoldable pub good : History → List ℕ → Bool
 good h slots =
     cond (eqb (length slots) slotsSize)
     (cond (leb (h .count) mostEntries)
     (cond (leb (h .place) (h .count))
-    (cond (sound [] (entriesOf (h .count) slots)) (sameBytes (slotsOf (journalOf h slots)) slots) false)
+    (cond (sound [] (entriesOf (h .count) slots))
+    (cond (sameBytes (slotsOf (journalOf h slots)) slots) (eqb (h .total) (total (entriesOf (h .count) slots))) false)
+    false)
     false)
     false)
     false

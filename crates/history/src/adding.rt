@@ -11,6 +11,7 @@ use super::slots::drop_oldest;
 use super::slots::store;
 use super::stepping::History;
 use super::testing::is_good;
+use buffer::byte_at;
 use buffer::same;
 use text::is_blank;
 use text::well_formed_prefix;
@@ -53,10 +54,12 @@ pub fn offer(history: History, slots: &mut [u8], text: &[u8]) -> History
     ensures { λ r. ⌜ Offered history (now (slots .entry)) (now (text .entry)) r (now (slots .exit)) ⌝ }
 {
     let count = history.count;
+    let grown = history.total + text.len();
     if !is_new(history, slots, text) {
         return History {
             count,
             place: count,
+            total: history.total,
         };
     }
     if count < History::MOST {
@@ -65,13 +68,16 @@ pub fn offer(history: History, slots: &mut [u8], text: &[u8]) -> History
         return History {
             count: more,
             place: more,
+            total: grown,
         };
     }
+    let total = grown - byte_at(slots, 0);
     drop_oldest(slots);
     store(text, slots, History::LAST);
     History {
         count,
         place: count,
+        total,
     }
 }
 

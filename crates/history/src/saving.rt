@@ -1,4 +1,4 @@
-// What is saved of a history between two calls: its numbers, a byte each; and a history read back, where it is good.
+// What is saved of a history between two calls: its numbers, a byte each and two for the total; and a history read back, where it is good.
 ghost use Prim.Native.Nat.{_+_, _≤_};
 ghost use mathlib.Core.Path.{_≡_};
 ghost use lib.ListN.{length};
@@ -19,14 +19,19 @@ pub enum Restored {
 
 impl History {
     // How many bytes are saved.
-    pub const SAVED: usize = 2;
+    pub const SAVED: usize = 4;
 
     // Writes the record at a place and returns the place after it.
     pub fn save(self, out: &mut [u8], at: usize) -> usize
         requires { ⌜ Fits self × (at + savedSize ≤ length (now out)) ⌝ }
         ensures { λ r. ⌜ Pushed (savedOf self) (now (out .entry)) at r (now (out .exit)) ⌝ }
     {
-        let bytes = [self.count as u8, self.place as u8];
+        let bytes = [
+            self.count as u8,
+            self.place as u8,
+            (self.total / 256) as u8,
+            (self.total % 256) as u8,
+        ];
         push(&bytes, out, at)
     }
 
@@ -40,6 +45,7 @@ impl History {
         let history = History {
             count: byte_at(bytes, 0),
             place: byte_at(bytes, 1),
+            total: byte_at(bytes, 2) * 256 + byte_at(bytes, 3),
         };
         if !is_good(history, slots) {
             return Restored::Bad;

@@ -1,4 +1,4 @@
-// A history by value: how many entries it has and the place among them, the steps that the arrow keys take, and the entry of a number.
+// A history by value: how many entries it has, the place among them and the total of their lengths, the steps that the arrow keys take, and the entry of a number.
 ghost use lib.ListN.{length};
 ghost use mathlib.Core.Path.{_≡_};
 ghost use Rattle.history.specs.Slots.{slotsSize};
@@ -12,6 +12,8 @@ use buffer::part;
 pub struct History {
     pub count: usize,
     pub place: usize,
+    // The bytes in use: the lengths of all entries together.
+    pub total: usize,
 }
 
 // What a step through a history recalls.
@@ -44,7 +46,11 @@ impl History {
     pub fn fresh() -> History
         ensures { λ r. ⌜ r ≡ recordOf noEntries ⌝ }
     {
-        History { count: 0, place: 0 }
+        History {
+            count: 0,
+            place: 0,
+            total: 0,
+        }
     }
 
     // No entry, and slots that hold none, whatever they held.

@@ -1,14 +1,13 @@
 // The state test. Every key runs it, so it goes over the slots in passes without an early exit; only a text with a byte of 80 or more is read by character.
 ghost use Prim.Native.Nat.{_+_, _*_, _<_, _≤_, max};
 ghost use mathlib.Core.Path.{_≡_};
-ghost use mathlib.Core.List.{[]};
 ghost use lib.ListN.{length, take, drop};
 ghost use Rattle.buffer.specs.Compare.{sameBytes};
 ghost use Rattle.buffer.specs.Greatest.{greatest};
 ghost use Rattle.history.specs.Entries.{usable};
 ghost use Rattle.history.specs.Slots.{slotSize};
 ghost use Rattle.history.specs.Journal.{good};
-ghost use Rattle.history.specs.Inner.{goodSlot, slotBefore, judged};
+ghost use Rattle.history.specs.Inner.{goodSlot, slotBefore, tallied};
 use super::stepping::History;
 use buffer::byte_at;
 use buffer::greatest_byte;
@@ -77,13 +76,14 @@ fn is_repeated(slots: &[u8], at: usize) -> bool
     same_throughout(&slots[before..at], &slots[at..next])
 }
 
-// Whether so many slots are good and no two neighbours the same, with zeros after them.
-fn are_good(slots: &[u8], count: usize) -> bool
+// Whether so many slots are good and no two neighbours the same, with zeros after them, and their entries have that total.
+fn are_good(slots: &[u8], count: usize, total: usize) -> bool
     requires { ⌜ slotSize * count ≤ length (now slots) ⌝ }
-    ensures { λ r. ⌜ r ≡ judged [] count (now (slots .entry)) ⌝ }
+    ensures { λ r. ⌜ r ≡ tallied count total (now (slots .entry)) ⌝ }
 {
     let mut k = 0;
     let mut at = 0;
+    let mut sum = 0;
     while k < count {
         if !is_good_slot(slots, at) {
             return false;
@@ -91,8 +91,12 @@ fn are_good(slots: &[u8], count: usize) -> bool
         if is_repeated(slots, at) {
             return false;
         }
+        sum += byte_at(slots, at);
         k += 1;
         at += History::SLOT;
+    }
+    if sum != total {
+        return false;
     }
     greatest_byte(&slots[at..]) == 0
 }
@@ -111,5 +115,5 @@ pub fn is_good(history: History, slots: &[u8]) -> bool
     if count < history.place {
         return false;
     }
-    are_good(slots, count)
+    are_good(slots, count, history.total)
 }

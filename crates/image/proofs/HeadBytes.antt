@@ -11,7 +11,7 @@ use borrow.Author.Tests.{leb-true, eqb-true, le-leb, lt-leb}
 use types.Run.{OneOf, miss}
 use denote.Enum.Declared.{tagOf}
 use Rattle.image.proofs.head.Head.{the-type}
-use Rattle.frame.specs.Text.{Bytes}
+use Rattle.buffer.specs.Numbers.{Bytes}
 use Rattle.image.specs.Limits.{fair}
 use Rattle.image.specs.Reading.{strictly, Small, nodeLengths, definitionLengths, nodeFirst, optionFirst, flagFirst, headFirst, strictFirst, nodeIn, optionIn, flagIn}
 use Rattle.image.specs.Inner.{definedIn}

@@ -7,7 +7,7 @@ use lib.ListN.{length, drop}
 use types.Run.{OneOf, miss}
 use denote.Enum.Declared.{tagOf}
 use Rattle.image.proofs.head.Head.{the-type}
-use Rattle.frame.specs.Text.{Bytes}
+use Rattle.buffer.specs.Numbers.{Bytes}
 use Rattle.image.specs.Frames.{Frame, node, option, flag}
 use Rattle.image.specs.Reading.{headFirst, Read, read, broken, ended, readFirst, nodeIn, optionIn, flagIn}
 use Rattle.image.specs.declared.head.Lengths.{Lengths}

@@ -28,7 +28,7 @@ use Rattle.parse.specs.Answer.{toldIn, namedAs, outcomeAnswer, outcomeLeaves, o
 use Rattle.parse.specs.declared.answer.Parsed.{Parsed}
 use Rattle.parse.specs.declared.answer.Parsed.the-variants.{BadTree, NoRoom}
 use Rattle.parse.proofs.Answers.{Numbered, report, four, five, six, seven, numbered}
-use Rattle.frame.specs.Text.{Bytes}
+use Rattle.buffer.specs.Numbers.{Bytes}
 use Rattle.frame.specs.Framed.{frameOf}
 use Rattle.help.specs.Texts.{helpText}
 use Rattle.message.specs.Messages.{goodbye}

@@ -11,6 +11,7 @@ use Rattle.text.specs.Apart.{trimmed, wordsBetween}
 use Rattle.words.specs.Tokens.{wordsOf, wordFrames}
 use Rattle.words.specs.declared.tokenizer.Tokens.{Tokens}
 use Rattle.words.specs.Answer.{number as wordsNumber, value as wordsValue}
+use Rattle.history.specs.Entries.{total}
 use Rattle.history.specs.Journal.{offered, journalOf}
 use Rattle.history.specs.Answer.{recordBy, Addition, number as addNumber, value as addValue}
 use Rattle.history.specs.declared.stepping.History.{History}
@@ -63,6 +64,7 @@ use Rattle.promises.proofs.Tables.{Answered, told}
 use Rattle.promises.proofs.Answers.{tooLong, illFormed, tokenizeTable, tokenize-tells, quoteTable, quote-tells, checkTable, check-tells, parseTable, parse-tells, helpTable, help-tells, Ended, runTable, run-tells}
 use Rattle.promises.proofs.KeyAnswers.{Keyed, keyed, pressTable, press-tells, savedAddTable, saved-add-tells, beginTable, begin-tells}
 use Rattle.promises.proofs.Lasting.{never-bad, full-line-saved}
+use Rattle.promises.proofs.BytesInUse.{inUse, in-bytes}
 use Rattle.promises.proofs.SameAsRust.{words, key, add-command}
 use Rattle.promises.proofs.OtherCommands.{named, Agree, parse-alone, help-alone, run-alone}
 
@@ -176,6 +178,10 @@ reached (by-history-add {state} {slots} {text} {state′} {slots′} {p} r c) = 
 
 pub never-bad-by-calls : (state slots : List ℕ) → ReachedByCalls state slots → goodSaved state slots ≡ true
 never-bad-by-calls state slots r = never-bad state slots (reached r)
+
+-- and the two bytes that a status page reads tell the sum of the entries' lengths
+pub in-use-by-calls : (state slots : List ℕ) → ReachedByCalls state slots → (inUse state ≡ total (journalOf (historyIn state) slots .entries)) × (inUse state ≤ 25500)
+in-use-by-calls state slots r = in-bytes state slots (reached r)
 
 pub full-line : (state slots prompt : List ℕ) (byte : ℕ) (line screen : List ℕ) (p : ℕ) (state′ slots′ line′ screen′ : List ℕ)
     → KeyCall state slots prompt byte line screen p state′ slots′ line′ screen′ → goodSaved state slots ≡ true → goodPrompt prompt ≡ true → limit ≤ length line

@@ -231,8 +231,8 @@ unfoldable pub beginTable : ℕ → List ℕ → List ℕ → Answered (List ℕ
 beginTable profile state slots =
     first
     (row 12 (not (isProfile profile)) 0 (state, slots)
-    ∷ row 9 (ltb (length state) 263) 263 (state, slots)
-    ∷ row 12 (ltb 263 (length state)) 0 (state, slots)
+    ∷ row 9 (ltb (length state) 265) 265 (state, slots)
+    ∷ row 12 (ltb 265 (length state)) 0 (state, slots)
     ∷ row 9 (ltb (length slots) 25600) 25600 (state, slots)
     ∷ row 12 (ltb 25600 (length slots)) 0 (state, slots)
     ∷ [])
@@ -245,8 +245,8 @@ begin-tells profile state slots r state′ slots′ p =
     ap (told (begunNumber r) (begunValue r)) (pair (p .kept) (p .held))
     ∙ ap tells (p .answer)
     ∙ known (isProfile profile) _ _
-    (either tells (ltb (length state) 263) _ _ _ _ refl
-    (either tells (ltb 263 (length state)) _ _ _ _ refl (either tells (ltb (length slots) 25600) _ _ _ _ refl (either tells (ltb 25600 (length slots)) _ _ _ _ refl refl))))
+    (either tells (ltb (length state) 265) _ _ _ _ refl
+    (either tells (ltb 265 (length state)) _ _ _ _ refl (either tells (ltb (length slots) 25600) _ _ _ _ refl (either tells (ltb 25600 (length slots)) _ _ _ _ refl refl))))
   where
     tells : Begun → Answered (List ℕ × List ℕ)
     tells x = told (begunNumber x) (begunValue x) (cond (isReady x) (freshSaved profile) state, cond (isReady x) (journalSlots noEntries) slots)

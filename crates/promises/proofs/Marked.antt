@@ -10,7 +10,8 @@ use Rattle.buffer.specs.Compare.{order, sameBytes}
 use Rattle.text.specs.Unicode.{encode, encodeAll}
 use Rattle.text.specs.Decoding.{leastSecond, greatestSecond, within, decodeTwo, decodeThree, decodeFour, table, decodeFirst, piecesFrom, piecesOf, codesOf, codesIn, wellFormedLength}
 use Rattle.text.specs.Space.{whiteSpace, among, isWhiteSpace}
-use Rattle.frame.specs.Text.{numberBytes, textOf}
+use Rattle.buffer.specs.Numbers.{numberBytes}
+use Rattle.frame.specs.Text.{textOf}
 use Rattle.words.specs.Tokens.{roleOf, tokensFrom, tokens, wordsOf, wordFrames}
 use Rattle.words.specs.Answer.{written, Tokenized, number as tokensNumber, value as tokensValue}
 use Rattle.words.specs.declared.tokenizer.Tokens.{Tokens}

@@ -18,7 +18,7 @@ use Rattle.text.specs.declared.utf8.Decoded.the-variants.{Character}
 use Rattle.text.proofs.Encoding.{SoundOf, decode-sound, decode-complete}
 use Rattle.text.proofs.Prefix.{codes-are, prefix-well-formed, prefix-longest, whole-is, is-whole}
 use Rattle.text.proofs.Splits.{Trimming, trimming}
-use Rattle.frame.specs.Text.{Bytes}
+use Rattle.buffer.specs.Numbers.{Bytes}
 use Rattle.frame.specs.Hex.{digitOf, digitValue, valueOf as valueIn}
 use Rattle.frame.proofs.Digits.{digit-read}
 use Rattle.words.specs.Tokens.{wordsOf}

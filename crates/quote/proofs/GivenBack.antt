@@ -18,7 +18,7 @@ use Rattle.text.specs.Unicode.{low, Scalars, none, more, encode, encodeAll, Wel
 use Rattle.text.specs.Decoding.{codesIn}
 use Rattle.text.specs.Space.{whiteSpace, among, isWhiteSpace}
 use Rattle.text.specs.Apart.{unlessEmpty}
-use Rattle.frame.specs.Text.{Bytes}
+use Rattle.buffer.specs.Numbers.{Bytes}
 use Rattle.frame.specs.Framed.{frameOf}
 use Rattle.frame.proofs.Frames.{frame-back, frame-within}
 use Rattle.words.specs.declared.role.Role.{Role}

@@ -7,7 +7,7 @@ use lib.ListN.{length, take, drop, replicate, length-append, length-replicate}
 use borrow.Rule.Slice.PartMut.{putMid}
 use Rattle.frame.specs.Text.{textOf}
 use Rattle.frame.specs.Framed.{frameOf}
-use Rattle.frame.proofs.Texts.{number-two}
+use Rattle.buffer.proofs.Numbers.{number-two}
 use Rattle.frame.proofs.Frames.{length-frameOf}
 use Rattle.buffer.specs.Write.{over, Written, Pushed}
 use Rattle.buffer.proofs.Writing.{pushed-front}

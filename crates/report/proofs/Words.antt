@@ -17,7 +17,8 @@ use Rattle.frame.specs.declared.prefixed.Text.the-variants.{Sized, Broken as No
 use Rattle.frame.specs.declared.framed.Framed.{Framed}
 use Rattle.frame.specs.declared.framed.Framed.the-variants.{Frame}
 use Rattle.frame.proofs.framed.Framed.{the-type}
-use Rattle.frame.proofs.Texts.{read-told, value-two}
+use Rattle.buffer.proofs.Numbers.{value-two}
+use Rattle.frame.proofs.Texts.{read-told}
 use Rattle.frame.proofs.Frames.{length-frameOf, first-at, frame-within}
 use Rattle.frame.proofs.Series.{texts-more, texts-stop, texts-end}
 use Rattle.report.proofs.Ahead.{Ahead, ahead-lent, ahead-turn, runs-more, runs-none, count-turn}

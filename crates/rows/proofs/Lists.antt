@@ -9,8 +9,8 @@ use borrow.Author.Tests.{eq-eqb, ne-eqb}
 use lib.ListN.{length, drop, length-append, length-drop}
 use lib.Seq.{drop-drop}
 use Rattle.buffer.proofs.Lists.{drop-end}
-use Rattle.frame.specs.Text.{Bytes}
-use Rattle.frame.proofs.Texts.{bytes-drop}
+use Rattle.buffer.specs.Numbers.{Bytes}
+use Rattle.buffer.proofs.Numbers.{bytes-drop}
 use Rattle.image.specs.Frames.{Perhaps, absent, present, Frame, node, option, flag, text, perhaps, encodeFrame}
 use Rattle.image.specs.Reading.{Read, read, broken, ended, readFirst}
 use Rattle.image.proofs.Encoding.{length-text, read-within, read-size}

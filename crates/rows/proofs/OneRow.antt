@@ -8,7 +8,7 @@ use lib.ListN.{length, take, drop, replicate, length-replicate}
 use borrow.Author.Tests.{eq-eqb, ne-eqb}
 use types.Run.{OneOf, miss}
 use denote.Enum.Declared.{tagOf}
-use Rattle.frame.specs.Text.{Bytes}
+use Rattle.buffer.specs.Numbers.{Bytes}
 use Rattle.image.specs.Frames.{Perhaps, Frame, node, option, flag}
 use Rattle.image.specs.Reading.{span, perhapsIn, definitionLengths, nameIn, longIn, noteIn, optionIn, flagIn, headFirst, read, readBy, readFirst}
 use Rattle.image.specs.declared.head.Lengths.{Lengths}

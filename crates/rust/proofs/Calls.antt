@@ -15,7 +15,7 @@ use Rattle.words.specs.Tokens.{wordsOf, wordFrames}
 use Rattle.words.specs.Answer.{written, answerFor as wordsAnswer, leavesBy as wordsLeft, leavesFor as wordsLeave, Tokenized}
 use Rattle.words.specs.declared.tokenizer.Tokens.{Tokens}
 use Rattle.words.specs.declared.tokenizer.Tokens.the-variants.{Words, NoRoom as WordsNoRoom}
-use Rattle.frame.specs.Text.{Bytes}
+use Rattle.buffer.specs.Numbers.{Bytes}
 use Rattle.image.specs.Frames.{Frame}
 use Rattle.tree.specs.Images.{framesOf, flat}
 use Rattle.tree.specs.Rules.{checkTree}

@@ -9,7 +9,8 @@ use Rattle.text.specs.Decoding.{leastSecond, greatestSecond, within, decodeTwo,
 use Rattle.text.specs.Space.{whiteSpace, among, isWhiteSpace}
 use Rattle.text.specs.Apart.{afterRun, trimEnd, trimmed, wordsAfter, wordsBetween}
 use Rattle.frame.specs.Hex.{digitOf}
-use Rattle.frame.specs.Text.{numberBytes, textOf}
+use Rattle.buffer.specs.Numbers.{numberBytes}
+use Rattle.frame.specs.Text.{textOf}
 use Rattle.frame.specs.Framed.{frameOf}
 use Rattle.frame.specs.Series.{runs as frameRuns}
 use Rattle.image.specs.Frames.{absent, present, option, flag}

@@ -4,7 +4,8 @@ use mathlib.Core.Bool.{true, false}
 use mathlib.Core.List.{List, [], _∷_}
 use native.Mathlib.Omega.{arith}
 use Rattle.buffer.specs.Compare.{order, sameBytes}
-use Rattle.frame.specs.Text.{numberBytes, textOf as framed}
+use Rattle.buffer.specs.Numbers.{numberBytes}
+use Rattle.frame.specs.Text.{textOf as framed}
 use Rattle.image.specs.Frames.{Frame, node, option, flag, text, perhaps, encodeFrame}
 use Rattle.image.specs.Limits.{allShown, isName, isNote, isShort, definable, fair}
 use Rattle.tree.specs.Images.{flat}

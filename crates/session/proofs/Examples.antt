@@ -9,7 +9,8 @@ use Rattle.text.specs.Inner.{letterHead, lowWhite, gap}
 use Rattle.text.specs.Space.{whiteSpace, among, isWhiteSpace}
 use Rattle.text.specs.Apart.{runOf, afterRun, trimEnd, trimmed, allWhite, blank, wordsAfter, wordsBetween, nextWord}
 use Rattle.buffer.specs.Compare.{order, sameBytes}
-use Rattle.frame.specs.Text.{Bytes, numberBytes, numberOf, textOf, readText}
+use Rattle.buffer.specs.Numbers.{Bytes, numberBytes, numberOf}
+use Rattle.frame.specs.Text.{textOf, readText}
 use Rattle.frame.specs.Framed.{frameOf, frameFirst}
 use Rattle.frame.specs.Series.{textsFrom, textsIn, runs}
 use Rattle.frame.specs.House.{houseLine, endsInLF, digitsOf, readDigits, readHouse, houseLeaves, writeHouse}

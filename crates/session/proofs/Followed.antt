@@ -10,7 +10,7 @@ use lib.ListN.{length, take, drop}
 use lib.Seq.{take-append-seam}
 use Rattle.buffer.specs.Write.{over, overAt}
 use Rattle.buffer.proofs.Choices.{then-is, else-is, true-is-not-false}
-use Rattle.frame.specs.Text.{Bytes}
+use Rattle.buffer.specs.Numbers.{Bytes}
 use Rattle.frame.specs.Hex.{unhex}
 use Rattle.frame.specs.House.{digitsOf, readHouse, leftBy, houseLeaves}
 use Rattle.frame.specs.declared.house.House.{House}

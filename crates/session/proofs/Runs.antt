@@ -12,7 +12,7 @@ use lib.Seq.{drop-cons, length-take-le, take-append-add, take-append-seam}
 use Rattle.buffer.specs.Write.{over, Pushed}
 use Rattle.buffer.proofs.Lending.{length-over, length-overAt}
 use Rattle.buffer.proofs.Writing.{pushed-both}
-use Rattle.frame.specs.Text.{Bytes}
+use Rattle.buffer.specs.Numbers.{Bytes}
 use Rattle.frame.specs.House.{houseLine}
 use Rattle.frame.proofs.Lines.{length-houseLine}
 use Rattle.tree.specs.Images.{framesOf}

@@ -11,7 +11,7 @@ use Rattle.buffer.specs.Write.{over}
 use Rattle.text.specs.Decoding.{wellFormedLength}
 use Rattle.text.specs.Apart.{trimmed, blank, wordsBetween}
 use Rattle.text.proofs.Prefix.{prefix-fits}
-use Rattle.frame.specs.Text.{Bytes}
+use Rattle.buffer.specs.Numbers.{Bytes}
 use Rattle.words.specs.Tokens.{wordsOf, wordFrames}
 use Rattle.words.specs.Answer.{written}
 use Rattle.words.proofs.Standing.{written-most}

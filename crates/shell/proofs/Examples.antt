@@ -6,7 +6,8 @@ use Rattle.text.specs.Unicode.{encode, encodeAll}
 use Rattle.text.specs.Decoding.{decodeTwo, decodeThree, decodeFour, table, decodeFirst, piecesFrom, piecesOf, codesOf, codesIn, bytesAll, wellFormedLength}
 use Rattle.text.specs.Space.{whiteSpace, among, isWhiteSpace}
 use Rattle.text.specs.Apart.{afterRun, trimEnd, trimmed, allWhite, blank, wordsAfter, wordsBetween}
-use Rattle.frame.specs.Text.{numberBytes, textOf}
+use Rattle.buffer.specs.Numbers.{numberBytes}
+use Rattle.frame.specs.Text.{textOf}
 use Rattle.frame.specs.Framed.{frameOf}
 use Rattle.frame.specs.Series.{runs}
 use Rattle.table.specs.Map.{put, has}

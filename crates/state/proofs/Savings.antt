@@ -1,25 +1,28 @@
 -- Laws of saved states: what was saved is restored, nothing in the bytes is lost, and how the code writes them.
-use Prim.Native.Nat.{ℕ, _+_, _≤_}
+use Prim.Native.Nat.{ℕ, _+_, _*_, _≤_}
 use mathlib.Core.Path.{_≡_, refl, sym, ap, _∙_}
 use mathlib.Core.Bool.{Bool, true, false, cond}
 use mathlib.Core.List.{List, [], _∷_, _++_, append-nil}
 use native.Mathlib.Omega.{arith}
-use lib.ListN.{length, take, drop, length-append, length-drop, take-append-drop}
-use lib.Seq.{take-at, drop-at}
+use lib.ListN.{length, take, drop, getD, length-append, length-drop, take-append-drop}
+use lib.Seq.{take-at, drop-at, take-all, drop-drop}
 use Rattle.buffer.proofs.Choices.{then-is, else-is, true-is-not-false}
 use Rattle.buffer.proofs.Lists.{drop-end}
 use Rattle.buffer.proofs.Lending.{overAt-front, length-overAt}
 use Rattle.buffer.proofs.Writing.{pushed-both}
 use Rattle.buffer.specs.Write.{over, Pushed}
 use Rattle.buffer.specs.Lend.{zeros}
+use Rattle.buffer.specs.Numbers.{Bytes, numberBytes, numberOf}
+use Rattle.buffer.proofs.Numbers.{value-two, bytes-drop}
 use Rattle.history.specs.declared.stepping.History.{History}
+use Rattle.history.specs.Entries.{total}
 use Rattle.history.specs.Journal.{noEntries, recordOf}
 use Rattle.history.specs.declared.saving.Restored.{Restored as RestoredHistory}
 use Rattle.history.specs.declared.saving.Restored.the-variants.{Good, Bad}
 use Rattle.history.specs.Saved.{savedSize as historySize, savedOf as historySaved, savedIn as historySavedIn, isSaved as isHistory, restored as restoredHistory, Fits as HistoryFits}
 use Rattle.history.proofs.States.{holds}
 use Rattle.history.proofs.Journals.{good-fits as history-fits}
-use Rattle.history.proofs.Saved.{saved-in as history-back, saved-back as history-bytes, length-saved as length-history, saved-is as history-is, saved-has as history-has, right-length, good-back, bad-back, restored-saved as history-restored}
+use Rattle.history.proofs.Saved.{HasForm, form-size as history-size, bytes-form, saved-in as history-back, length-saved as length-history, saved-is as history-is, saved-has as history-has, right-form as right-form-history, good-back, bad-back, restored-saved as history-restored}
 use Rattle.keys.specs.declared.standing.Profile.{Profile}
 use Rattle.keys.specs.Modes.{profileNumber}
 use Rattle.keys.proofs.Modes.{profile-back}
@@ -35,7 +38,7 @@ use Rattle.state.specs.State.{stateSize, savedOf, editorIn, historyIn, g
 use Rattle.state.specs.Calls.{freshSaved, turnIn}
 
 -- the sizes
-pub size-is : stateSize ≡ 263
+pub size-is : stateSize ≡ 265
 unfolding stateSize editorSize historySize
 size-is = refl
 
@@ -83,27 +86,28 @@ tests-held : (s slots : List ℕ) → goodSaved s slots ≡ true → (isEditor (
 unfolding goodSaved
 tests-held s slots g = holds (isEditor (take editorSize s)) _ g
 
--- bytes with a state's length and an editor's form; they are as good as the editor and the history that they hold
+-- bytes with the form of an editor and then of a history; they are as good as the editor and the history that they hold
 pub record IsState (state : List ℕ) : Type 0 where
-  pub size : length state ≡ stateSize
   pub form : hasForm (take editorSize state) ≡ true
-
-history-size : (s : List ℕ) → length s ≡ stateSize → length (drop editorSize s) ≡ historySize
-unfolding stateSize
-history-size s n = let d = length-drop editorSize s in omega arith
+  pub rest : HasForm (drop editorSize state)
 
 pub good-as : (s slots : List ℕ) → IsState s → goodSaved s slots ≡ goodState (editorIn s) (historyIn s) slots
 unfolding goodSaved goodState editorIn historyIn
 good-as s slots k =
     ap (λ (t : Bool). cond t (isHistory (drop editorSize s) slots) false) (right-form (take editorSize s) (k .form))
-    ∙ ap (λ (t : Bool). cond (goodEditor (editorSavedIn (take editorSize s))) t false) (right-length (drop editorSize s) slots (history-size s (k .size)))
+    ∙ ap (λ (t : Bool). cond (goodEditor (editorSavedIn (take editorSize s))) t false) (right-form-history (drop editorSize s) slots (k .rest))
 
--- a good one is such
-is-state : (s : List ℕ) → length (take editorSize s) ≡ editorSize → length (drop editorSize s) ≡ historySize → length s ≡ stateSize
+-- they have a state's length
+state-size : (s : List ℕ) → IsState s → length s ≡ stateSize
 unfolding stateSize
-is-state s a b =
-    let w = ap length (take-append-drop editorSize s) in let l = length-append (take editorSize s) (drop editorSize s) in omega arith
+state-size s k =
+    let a = form-size (take editorSize s) (k .form) in
+    let b = history-size (drop editorSize s) (k .rest) in
+    let w = ap length (take-append-drop editorSize s) in
+    let l = length-append (take editorSize s) (drop editorSize s) in
+    omega arith
 
+-- a good one is such, and so are that many bytes with an editor's form
 pub good-saved-parts : (s slots : List ℕ) → goodSaved s slots ≡ true → IsState s × (goodState (editorIn s) (historyIn s) slots ≡ true)
 good-saved-parts s slots g = (shape, sym (good-as s slots shape) ∙ g)
   where
@@ -112,23 +116,36 @@ good-saved-parts s slots g = (shape, sym (good-as s slots shape) ∙ g)
 
     shape : IsState s
     shape =
-        let form = editor-has (take editorSize s) (parts .0) .form in
-        record { size = is-state s (form-size (take editorSize s) form) (history-has (drop editorSize s) slots (parts .1) .size); form = form }
+        record { form = editor-has (take editorSize s) (parts .0) .form; rest = history-has (drop editorSize s) slots (parts .1) .form }
+
+pub bytes-state : (s : List ℕ) → length s ≡ stateSize → Bytes s → hasForm (take editorSize s) ≡ true → IsState s
+unfolding stateSize
+bytes-state s n b f =
+    let d = length-drop editorSize s in
+    record { form = f; rest = bytes-form (drop editorSize s) (omega arith) (bytes-drop editorSize s b) }
 
 -- what restores is the saving of what was restored
 pub saved-restored : (s : List ℕ) → IsState s → savedOf (editorIn s) (historyIn s) ≡ s
 unfolding savedOf editorIn historyIn
 saved-restored s k =
     ap (λ (x : List ℕ). x ++ historySaved (historySavedIn (drop editorSize s))) (saved-back (take editorSize s) (k .form))
-    ∙ ap (λ (x : List ℕ). take editorSize s ++ x) (history-bytes (drop editorSize s) (history-size s (k .size)))
+    ∙ ap (λ (x : List ℕ). take editorSize s ++ x) (k .rest)
     ∙ take-append-drop editorSize s
 
+-- the total lies in the last two bytes
+pub saved-total : (s : List ℕ) → IsState s → getD s 263 0 * 256 + getD s 264 0 ≡ historyIn s .total
+unfolding historyIn historySavedIn editorSize
+saved-total s k =
+    let n = state-size s k ∙ size-is in
+    let d = length-drop 263 s in
+    sym (value-two s 263 (omega arith)) ∙ ap numberOf (take-all 2 (drop 263 s) (omega arith) ∙ sym (drop-drop 2 261 s))
+
 -- a fresh session is all zeros but for its profile's number
-fresh-zeros : (p : Profile) → savedOf (freshEditor p) (recordOf noEntries) ≡ zeros 258 ++ (profileNumber p ∷ zeros 4)
-unfolding savedOf editorSaved historySaved recordOf padded limit zeros
+fresh-zeros : (p : Profile) → savedOf (freshEditor p) (recordOf noEntries) ≡ zeros 258 ++ (profileNumber p ∷ zeros 6)
+unfolding savedOf editorSaved historySaved numberBytes recordOf total padded limit zeros
 fresh-zeros p = refl
 
-pub fresh-saved : (p : Profile) → freshSaved (profileNumber p) ≡ zeros 258 ++ (profileNumber p ∷ zeros 4)
+pub fresh-saved : (p : Profile) → freshSaved (profileNumber p) ≡ zeros 258 ++ (profileNumber p ∷ zeros 6)
 unfolding freshSaved
 fresh-saved p = ap (λ (x : Profile). savedOf (freshEditor x) (recordOf noEntries)) (profile-back p) ∙ fresh-zeros p
 
@@ -168,7 +185,7 @@ save-written e h state mid left p r n l a b =
     ∙ append-nil all
 
 -- the sizes and parts, as the code has them
-pub as-size : (n : ℕ) → n ≡ 263 → n ≡ stateSize
+pub as-size : (n : ℕ) → n ≡ 265 → n ≡ stateSize
 as-size n h = h ∙ sym size-is
 
 pub part-editor : (s part : List ℕ) → part ≡ take 261 (drop 0 s) → part ≡ take editorSize s
@@ -224,7 +241,7 @@ read-good e h s slots b = same (b .editor) (b .history) ∙ good-saved-parts s s
     same p q = cc
 
 pub read-size : (e : Editor) (h : History) (s slots : List ℕ) → Read e h s slots → length s ≡ stateSize
-read-size e h s slots b = good-saved-parts s slots (b .is) .0 .size
+read-size e h s slots b = state-size s (good-saved-parts s slots (b .is) .0)
 
 -- what was saved of a good state is restored
 pub restored-saved : (e : Editor) (h : History) (slots : List ℕ) → length (e .line) ≡ 255 → goodState e h slots ≡ true

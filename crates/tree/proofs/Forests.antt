@@ -4,7 +4,7 @@ use mathlib.Core.Path.{_≡_, ap, _∙_}
 use mathlib.Core.Bool.{true}
 use mathlib.Core.List.{List, []}
 use lib.ListN.{length}
-use Rattle.frame.specs.Text.{Bytes}
+use Rattle.buffer.specs.Numbers.{Bytes}
 use Rattle.tree.specs.Images.{framesOf, flat}
 use Rattle.tree.specs.Rules.{checkTree}
 use Rattle.tree.specs.Forest.{Forest, flatten, nodesIn, orderly}

@@ -11,7 +11,7 @@ use borrow.Author.Tests.{le-leb, lt-ltb, le-ltb, leb-true, leb-false, ltb-false,
 use Rattle.buffer.specs.Write.{over, overAt}
 use Rattle.buffer.proofs.Choices.{true-is-not-false}
 use Rattle.buffer.proofs.Lending.{length-overAt}
-use Rattle.frame.specs.Text.{Bytes}
+use Rattle.buffer.specs.Numbers.{Bytes}
 use Rattle.image.specs.Frames.{Frame, encodeFrame}
 use Rattle.image.specs.Limits.{both, fair}
 use Rattle.image.specs.Reading.{Read, read, broken, ended, readFirst}

@@ -4,7 +4,8 @@ use mathlib.Core.Path.{_≡_, refl}
 use mathlib.Core.Bool.{true, false}
 use mathlib.Core.List.{List, [], _∷_, _++_}
 use Rattle.buffer.specs.Compare.{order}
-use Rattle.frame.specs.Text.{numberBytes, textOf}
+use Rattle.buffer.specs.Numbers.{numberBytes}
+use Rattle.frame.specs.Text.{textOf}
 use Rattle.image.specs.Frames.{node, flag, absent, text, perhaps, encodeFrame}
 use Rattle.image.specs.Limits.{allShown, isName, isNote, isShort, definable, fair}
 use Rattle.image.specs.Reading.{span, perhapsIn, nodeLengths, definitionLengths, nodeFirst, flagFirst, headFirst, nodeIn, flagIn, readFirst}

@@ -12,12 +12,13 @@ use lib.Seq.{append-snoc, drop-drop, getD-drop, getD-take, take-add, take-append
 use Rattle.buffer.specs.Compare.{sameBytes}
 use Rattle.buffer.proofs.Ordering.{same-is, same-self}
 use Rattle.buffer.proofs.Choices.{then-is, else-is, true-is-not-false}
-use Rattle.frame.specs.Text.{Bytes, numberBytes, textOf}
+use Rattle.buffer.specs.Numbers.{Bytes, numberBytes}
+use Rattle.frame.specs.Text.{textOf}
 use Rattle.frame.specs.Framed.{frameFirst}
 use Rattle.frame.specs.Series.{textsIn}
 use Rattle.frame.specs.declared.framed.Framed.{Framed as Frames}
 use Rattle.frame.specs.declared.framed.Framed.the-variants.{Frame as Framed, Broken, End as Ended}
-use Rattle.frame.proofs.Texts.{bytes-drop}
+use Rattle.buffer.proofs.Numbers.{bytes-drop}
 use Rattle.frame.proofs.Series.{texts-stop, word-within, word-length, words-more, texts-none, whole-none, path-more, path-whole}
 use Rattle.image.specs.Frames.{Perhaps, text, perhaps, Frame, node, option, flag, encodeFrame}
 use Rattle.image.specs.Limits.{both, isName, fair}

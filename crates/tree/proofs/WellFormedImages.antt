@@ -8,8 +8,8 @@ use lib.Dec.{ltb}
 use lib.ListN.{length, take, drop, length-append}
 use lib.Seq.{drop-append-seam}
 use borrow.Author.Tests.{le-ltb, ltb-false}
-use Rattle.frame.specs.Text.{Bytes}
-use Rattle.frame.proofs.Texts.{bytes-drop}
+use Rattle.buffer.specs.Numbers.{Bytes}
+use Rattle.buffer.proofs.Numbers.{bytes-drop}
 use Rattle.image.specs.Frames.{Frame, encodeFrame}
 use Rattle.image.specs.Limits.{both, fair}
 use Rattle.image.specs.Reading.{Read, read, broken, ended, readFirst}

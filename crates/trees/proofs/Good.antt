@@ -1,7 +1,8 @@
 -- Both trees are well-formed.
 use mathlib.Core.Path.{_≡_, refl}
 use Rattle.buffer.specs.Compare.{order}
-use Rattle.frame.specs.Text.{numberBytes, textOf}
+use Rattle.buffer.specs.Numbers.{numberBytes}
+use Rattle.frame.specs.Text.{textOf}
 use Rattle.image.specs.Frames.{text, perhaps, encodeFrame}
 use Rattle.image.specs.Limits.{allShown, isName, isNote, isShort, definable, fair}
 use Rattle.image.specs.Reading.{span, perhapsIn, nodeLengths, definitionLengths, nodeFirst, optionFirst, flagFirst, headFirst, nodeIn, optionIn, flagIn, readFirst}

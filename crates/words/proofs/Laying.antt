@@ -11,9 +11,10 @@ use Rattle.buffer.proofs.Lending.{length-over, overAt-front, overAt-both, overA
 use Rattle.text.specs.Unicode.{encodeAll}
 use Rattle.text.specs.Apart.{unlessEmpty}
 use Rattle.text.proofs.Prefix.{encode-append}
-use Rattle.frame.specs.Text.{numberBytes, textOf}
+use Rattle.buffer.specs.Numbers.{numberBytes}
+use Rattle.frame.specs.Text.{textOf}
 use Rattle.frame.specs.Framed.{frameOf}
-use Rattle.frame.proofs.Texts.{length-number}
+use Rattle.buffer.proofs.Numbers.{length-number}
 use Rattle.words.specs.declared.role.Role.{Role}
 use Rattle.words.specs.declared.role.Role.the-variants.{Take, Escape, Toggle, Gap}
 use Rattle.words.specs.declared.counting.Scan.{Scan}

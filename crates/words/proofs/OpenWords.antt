@@ -5,7 +5,7 @@ use mathlib.Core.List.{List, _∷_}
 use native.Mathlib.Omega.{arith}
 use lib.ListN.{length}
 use Rattle.buffer.specs.Write.{overAt}
-use Rattle.frame.specs.Text.{numberBytes}
+use Rattle.buffer.specs.Numbers.{numberBytes}
 use Rattle.words.specs.declared.role.Role.{Role}
 use Rattle.words.specs.declared.role.Role.the-variants.{Take, Escape, Toggle, Gap}
 use Rattle.words.specs.declared.counting.Scan.{Scan}

@@ -5,7 +5,7 @@ use mathlib.Core.Bool.{Bool, true, false, cond, not}
 use mathlib.Core.List.{List, [], _∷_, _++_}
 use lib.ListN.{length, take, drop}
 use Rattle.buffer.specs.Write.{overAt}
-use Rattle.frame.specs.Text.{numberBytes}
+use Rattle.buffer.specs.Numbers.{numberBytes}
 use Rattle.text.specs.Decoding.{codesIn, wellFormedLength, isIllFormed}
 use Rattle.words.specs.Answer.{written}
 use Rattle.words.specs.declared.role.Role.{Role}

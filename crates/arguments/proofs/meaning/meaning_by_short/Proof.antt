@@ -2,7 +2,7 @@
 use Prim.Native.Nat.{_+_, _<_}
 use mathlib.Core.Path.{sym, _∙_}
 use native.Mathlib.Omega.{arith}
-use Rattle.frame.specs.Text.{Bytes}
+use Rattle.buffer.specs.Numbers.{Bytes}
 use Rattle.lookup.specs.Definitions.{hasShort}
 use Rattle.arguments.proofs.Meanings.{flag-meant, option-meant, nothing-meant, flag-sure, option-sure, flag-name, option-name, flag-small, option-small}
 use borrow.Author.Needs.{needs}

@@ -1,5 +1,6 @@
 -- `frame::long_text` meets its contract: the two bytes at the place are the number in front of the text.
-use Rattle.frame.proofs.Texts.{read-end, read-at, value-two}
+use Rattle.buffer.proofs.Numbers.{value-two}
+use Rattle.frame.proofs.Texts.{read-end, read-at}
 use borrow.Author.Needs.{needs}
 use native.Mathlib.Omega.{arith}
 use Prim.Native.Nat.{_+_, _<_}

@@ -1,7 +1,7 @@
 -- `help::call::reply` meets its contract: by where the words lead.
 use Rattle.help.proofs.Answers.{replied-none, part-most, tree-short, reply-none, reply-found, reply-lost}
 use Rattle.help.proofs.SpacedWords.{next-told, next-nothing}
-use Rattle.frame.specs.Text.{Bytes}
+use Rattle.buffer.specs.Numbers.{Bytes}
 use borrow.Author.Needs.{needs}
 use native.Mathlib.Omega.{arith}
 use mathlib.Core.Path.{sym, _∙_}

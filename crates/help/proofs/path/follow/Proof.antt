@@ -1,6 +1,6 @@
 -- `help::path::follow` meets its contract: the words left lead from the part reached to where all of them lead.
 use Rattle.help.proofs.Following.{OnPath, sets-out, arrives, stops, told, in-rest, loses, goes-on}
-use Rattle.frame.specs.Text.{Bytes}
+use Rattle.buffer.specs.Numbers.{Bytes}
 use borrow.Author.Needs.{needs}
 use native.Mathlib.Omega.{arith}
 use Prim.Native.Nat.{_-_}

@@ -2,7 +2,7 @@
 use Rattle.help.proofs.NodeHelp.{help-node, help-none, depth-told, drop-most}
 use Rattle.buffer.proofs.Inking.{inked-nothing, inked-both, inked-as}
 use Rattle.image.proofs.HeadBytes.{view, node-small}
-use Rattle.frame.specs.Text.{Bytes}
+use Rattle.buffer.specs.Numbers.{Bytes}
 use borrow.Author.Needs.{needs}
 use native.Mathlib.Omega.{arith}
 use mathlib.Core.Path.{sym, _∙_}

@@ -4,6 +4,7 @@ use Rattle.history.proofs.States.{bad-size, bad-count, bad-place}
 use Rattle.history.proofs.Judging.{good-is}
 use mathlib.Core.Path.{sym, _∙_}
 use native.Mathlib.Omega.{arith}
+use Rattle.buffer.specs.Numbers.{Bytes}
 use Rattle.history.proofs.testing.is_good.Statement.{statement}
 use Rattle.history.proofs.testing.is_good.Tie as tie
 
@@ -23,6 +24,7 @@ are-good-requires : tie.Need-are-good-requires
 are-good-requires c κs = search needs
 
 returns-4 : tie.Need-returns-4
+unfolding Bytes
 returns-4 c =
     let args = c .before .before .before .before .before .before .args in
     let shared-slice-known = c .before .before .before .before .before .shared-slice-known in

@@ -3,7 +3,7 @@ use Rattle.lookup.proofs.Matches.{matched-option, matched-flag, matched
 use Rattle.lookup.specs.Definitions.{hasKey}
 use Rattle.image.proofs.HeadBytes.{view, definition-small}
 use Rattle.image.specs.Reading.{optionIn, flagIn}
-use Rattle.frame.specs.Text.{Bytes}
+use Rattle.buffer.specs.Numbers.{Bytes}
 use borrow.Author.Needs.{needs}
 use native.Mathlib.Omega.{arith}
 use mathlib.Core.Path.{sym, _∙_}

@@ -1,7 +1,7 @@
 -- `lookup::look::look_first` meets its contract: the head tells the frame at the front.
 use Rattle.lookup.proofs.Looks.{looked, looked-none, flag-passed-in}
 use Rattle.image.proofs.HeadBytes.{view, definition-small}
-use Rattle.frame.specs.Text.{Bytes}
+use Rattle.buffer.specs.Numbers.{Bytes}
 use borrow.Author.Needs.{needs}
 use mathlib.Core.Path.{refl, sym, _∙_}
 use Rattle.lookup.proofs.look.look_first.Statement.{statement}

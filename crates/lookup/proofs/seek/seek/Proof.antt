@@ -2,7 +2,7 @@
 use Rattle.lookup.proofs.Seeks.{spot-end, spot-hit, spot-stop, spot-pass, rest-looked}
 use Rattle.lookup.specs.Searches.{wanted, endedBy}
 use Rattle.lookup.specs.Spots.{spot}
-use Rattle.frame.specs.Text.{Bytes}
+use Rattle.buffer.specs.Numbers.{Bytes}
 use borrow.Author.Needs.{needs}
 use native.Mathlib.Omega.{arith}
 use Prim.Native.Nat.{_≤_, _-_}

@@ -1,7 +1,7 @@
 -- `parse::judging::judge` meets its contract: what is judged at the place that the words lead to is what the image says of them.
 use mathlib.Core.Path.{refl, sym, _∙_}
 use native.Mathlib.Omega.{arith}
-use Rattle.frame.specs.Text.{Bytes}
+use Rattle.buffer.specs.Numbers.{Bytes}
 use Rattle.frame.proofs.Series.{texts-stop}
 use Rattle.tree.proofs.CommandNodes.{reached-first}
 use Rattle.parse.proofs.Judgements.{good-short, words-parted, first-unknown, first-judged, leads-as, judged-as, judged-without, no-words}

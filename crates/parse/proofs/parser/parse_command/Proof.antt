@@ -1,6 +1,6 @@
 -- `parse::parser::parse_command` meets its contract: what is told is what was judged.
 use native.Mathlib.Omega.{arith}
-use Rattle.frame.specs.Text.{Bytes}
+use Rattle.buffer.specs.Numbers.{Bytes}
 use Rattle.parse.proofs.Judgements.{good-short}
 use Rattle.parse.proofs.Lines.{told-same}
 use borrow.Author.Needs.{needs}

@@ -1,4 +1,5 @@
 -- `taking::turn` meets its contract: the step leaves a stream that the steps lead to.
+use mathlib.Core.Path.{sym, _∙_}
 use native.Mathlib.Omega.{arith}
 use Rattle.replay_session.proofs.Turns.{within}
 use borrow.Author.Needs.{needs}
@@ -26,16 +27,27 @@ put-all-requires : tie.Need-put-all-requires
 put-all-requires c κs = search needs
 
 same-length : tie.Need-same-length
-same-length c = search needs
+same-length c =
+    let pre = c .before .before .before .before .before .before .before .before .before .before .before .before .before .before .before .before .before .before .before .before .before .before .before .before .before .before .before .before .before .before .pre in
+    let step = c .before .before .before .before .before .before .before .before .before .before .before .before .before .before .before .before .before .step in
+    step .ensures .sound .ready .whole ∙ sym (pre .0 .ready .whole)
 
 same-length-2 : tie.Need-same-length-2
-same-length-2 c = search needs
+same-length-2 c =
+    let pre = c .before .before .before .before .before .before .before .before .before .before .before .before .before .before .before .before .before .before .before .before .before .before .before .before .before .before .before .before .before .before .pre in
+    let step = c .before .before .before .before .before .before .before .before .before .before .before .before .before .before .before .before .before .step in
+    step .ensures .sound .ready .room ∙ sym (pre .0 .ready .room)
 
 same-length-3 : tie.Need-same-length-3
-same-length-3 c = search needs
+same-length-3 c =
+    let pre = c .before .before .before .before .before .before .before .before .before .before .before .before .before .before .before .before .before .before .before .before .before .before .before .before .before .before .before .before .before .before .pre in
+    let step = c .before .before .before .before .before .before .before .before .before .before .before .before .before .before .before .before .before .step in
+    step .ensures .sound .ready .slot ∙ sym (pre .0 .ready .slot)
 
 same-length-4 : tie.Need-same-length-4
-same-length-4 c = search needs
+same-length-4 c =
+    let step = c .before .before .before .before .before .before .before .before .before .before .before .before .before .before .before .before .before .step in
+    step .ensures .outs
 
 same-length-5 : tie.Need-same-length-5
 same-length-5 c = search needs

@@ -1,6 +1,6 @@
 -- `rows::list::put_rows` meets its contract: whoever writes the rows that are left has written them all.
 use Rattle.rows.proofs.Lists.{OnWay, sets-out, arrives, stops, row-counts, goes-on}
-use Rattle.frame.specs.Text.{Bytes}
+use Rattle.buffer.specs.Numbers.{Bytes}
 use borrow.Author.Needs.{needs}
 use native.Mathlib.Omega.{arith}
 use Prim.Native.Nat.{_-_}

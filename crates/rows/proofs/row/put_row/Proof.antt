@@ -3,7 +3,7 @@ use Rattle.rows.proofs.OneRow.{row-read, row-none, row-handler, option-
 use Rattle.buffer.proofs.Inking.{counts-as, inked-as, inked-nothing}
 use Rattle.image.proofs.HeadBytes.{view, node-small}
 use Rattle.image.specs.Reading.{nodeIn}
-use Rattle.frame.specs.Text.{Bytes}
+use Rattle.buffer.specs.Numbers.{Bytes}
 use borrow.Author.Needs.{needs}
 use mathlib.Core.Path.{refl, sym, _∙_}
 use Rattle.rows.proofs.row.put_row.Statement.{statement}

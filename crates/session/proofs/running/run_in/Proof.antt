@@ -1,5 +1,5 @@
 -- `session::running::run_in` meets its contract: what the line says stands after the place of its kind.
-use Rattle.frame.specs.Text.{Bytes}
+use Rattle.buffer.specs.Numbers.{Bytes}
 use Rattle.session.proofs.Runs.{run-back, run-ready, run-says}
 use native.Mathlib.Omega.{arith}
 use lib.ListN.{length-set}

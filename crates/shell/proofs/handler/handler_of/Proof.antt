@@ -1,7 +1,7 @@
 -- `shell::handler::handler_of` meets its contract: by the head of the first frame.
 use mathlib.Core.Path.{sym, _∙_}
 use native.Mathlib.Omega.{arith}
-use Rattle.frame.specs.Text.{Bytes}
+use Rattle.buffer.specs.Numbers.{Bytes}
 use Rattle.image.proofs.HeadBytes.{node-bytes}
 use Rattle.shell.proofs.Handlers.{handler-there, handler-lacking, handler-none}
 use borrow.Author.Needs.{needs}

@@ -2,7 +2,7 @@
 use mathlib.Core.Path.{refl, sym, ap, _∙_}
 use mathlib.Core.List.{List}
 use native.Mathlib.Omega.{arith}
-use Rattle.frame.specs.Text.{Bytes}
+use Rattle.buffer.specs.Numbers.{Bytes}
 use Rattle.parse.proofs.Judgements.{good-short}
 use Rattle.image.specs.Frames.{Frame}
 use Rattle.shell.specs.Lines.{handlerOf}

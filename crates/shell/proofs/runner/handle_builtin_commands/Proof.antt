@@ -1,5 +1,5 @@
 -- `shell::runner::handle_builtin_commands` meets its contract: one law for each builtin.
-use Rattle.frame.specs.Text.{Bytes}
+use Rattle.buffer.specs.Numbers.{Bytes}
 use Rattle.tree.specs.Images.{framesOf}
 use Rattle.help.proofs.Answers.{tree-short}
 use Rattle.shell.proofs.WrittenAnswers.{said-same}

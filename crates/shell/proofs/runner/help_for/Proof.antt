@@ -2,7 +2,7 @@
 use mathlib.Core.Path.{sym, _∙_}
 use native.Mathlib.Omega.{arith}
 use borrow.Author.Needs.{needs}
-use Rattle.frame.specs.Text.{Bytes}
+use Rattle.buffer.specs.Numbers.{Bytes}
 use Rattle.help.proofs.Answers.{part-most, tree-short}
 use Rattle.shell.proofs.Lines.{help-none, help-found, help-lost}
 use Rattle.shell.proofs.runner.help_for.Statement.{statement}

@@ -1,6 +1,6 @@
 -- `words::tokenizer::end_word` meets its contract.
 use Rattle.words.proofs.OpenWords.{closed-some, headed-none, headed-some}
-use Rattle.frame.proofs.Texts.{number-two}
+use Rattle.buffer.proofs.Numbers.{number-two}
 use Rattle.buffer.proofs.Writing.{pushed-both}
 use borrow.Author.Needs.{needs}
 use native.Mathlib.Omega.{arith}

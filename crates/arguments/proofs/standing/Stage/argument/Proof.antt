@@ -5,7 +5,7 @@ use mathlib.Core.List.{List}
 use native.Mathlib.Omega.{arith}
 use lib.ListN.{length, take, drop}
 use Rattle.text.specs.Decoding.{codesIn}
-use Rattle.frame.specs.Text.{Bytes}
+use Rattle.buffer.specs.Numbers.{Bytes}
 use Rattle.frame.proofs.Series.{word-within, word-length, frame-is}
 use Rattle.table.specs.Inner.{partOf}
 use Rattle.arguments.specs.Inner.{definitionsAt, stored, foundOf, held}

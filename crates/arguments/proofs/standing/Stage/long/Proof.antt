@@ -3,7 +3,7 @@ use Prim.Native.Nat.{_+_, _-_, _≤_}
 use mathlib.Core.Path.{refl, sym, _∙_}
 use lib.ListN.{length, take, drop}
 use lib.Seq.{length-take-le}
-use Rattle.frame.specs.Text.{Bytes}
+use Rattle.buffer.specs.Numbers.{Bytes}
 use Rattle.lookup.specs.Definitions.{hasKey}
 use Rattle.arguments.specs.Inner.{definitionsAt, held}
 use Rattle.arguments.proofs.Meanings.{flag-meant, option-meant, nothing-meant, is-option, no-option}

@@ -1,7 +1,7 @@
 -- `editor::line::Editor::act` meets its contract.
 use Rattle.editor.proofs.States.{good-parts}
 use Rattle.editor.proofs.Turns.{quiet, go-end}
-use Rattle.editor.proofs.Keeping.{quiet-keeps, erase-keeps, insert-keeps, up-keeps, down-keeps, right-keeps, left-keeps, go-keeps, delete-keeps, acted, entered}
+use Rattle.editor.proofs.Keeping.{quiet-leaves, erase-leaves, insert-leaves, up-keeps, down-keeps, right-leaves, left-leaves, go-leaves, delete-leaves, acted, acted-alone, entered}
 use Rattle.editor.specs.Answer.{stateOf}
 use borrow.Author.Needs.{needs}
 use Rattle.editor.proofs.line.Editor.act.Statement.{statement}
@@ -95,7 +95,8 @@ returns : tie.Need-returns
 returns c =
     let args = c .before .before .before .before .before .before .args in
     let pre = c .before .before .before .before .before .before .pre in
-    acted (args .self) (args .history) (args .slots .now) (args .prompt .now) (args .line .now) (args .screen .now) _ _ (c .enum-told .given .1) _ _ (good-parts (args .self) (args .history) (args .slots .now) (pre .0) .1) (quiet-keeps (args .prompt .now) (stateOf (args .self) (args .history) (args .slots .now))) (quiet (args .self) (args .history) (args .slots .now) (args .screen .now) (good-parts (args .self) (args .history) (args .slots .now) (pre .0) .0))
+    let good = good-parts (args .self) (args .history) (args .slots .now) (pre .0) in
+    acted-alone (args .self) (args .history) (args .slots .now) (args .prompt .now) (args .line .now) (args .screen .now) _ _ (c .enum-told .given .1) _ _ (good .1) (quiet-leaves (args .prompt .now) (stateOf (args .self) (args .history) (args .slots .now))) (quiet (args .self) (args .history) (args .slots .now) (args .screen .now) (good .0))
 
 same-length : tie.Need-same-length
 same-length c = search needs
@@ -121,7 +122,8 @@ returns-3 c =
     let args = c .before .before .before .before .before .before .before .before .before .before .args in
     let pre = c .before .before .before .before .before .before .before .before .before .before .pre in
     let enum-told3 = c .before .before .before .before .enum-told3 in
-    acted (args .self) (args .history) (args .slots .now) (args .prompt .now) (args .line .now) (args .screen .now) _ _ (enum-told3 .given .1) _ _ (good-parts (args .self) (args .history) (args .slots .now) (pre .0) .1) (erase-keeps (args .prompt .now) (stateOf (args .self) (args .history) (args .slots .now))) (c .before .before .erase-key .ensures (args .slots .now))
+    let is = good-parts (args .self) (args .history) (args .slots .now) (pre .0) .1 in
+    acted-alone (args .self) (args .history) (args .slots .now) (args .prompt .now) (args .line .now) (args .screen .now) _ _ (enum-told3 .given .1) _ _ is (erase-leaves (args .prompt .now) (stateOf (args .self) (args .history) (args .slots .now))) (c .before .before .erase-key .ensures (args .slots .now))
 
 same-length-5 : tie.Need-same-length-5
 same-length-5 c = search needs
@@ -131,7 +133,8 @@ returns-4 c =
     let args = c .before .before .before .before .before .before .before .before .before .before .before .args in
     let pre = c .before .before .before .before .before .before .before .before .before .before .before .pre in
     let action = c .before .before .before .before .before .action in
-    acted (args .self) (args .history) (args .slots .now) (args .prompt .now) (args .line .now) (args .screen .now) _ _ (action .given .1) _ _ (good-parts (args .self) (args .history) (args .slots .now) (pre .0) .1) (insert-keeps (args .prompt .now) (stateOf (args .self) (args .history) (args .slots .now)) _) (c .before .before .insert-key .ensures (args .slots .now))
+    let is = good-parts (args .self) (args .history) (args .slots .now) (pre .0) .1 in
+    acted-alone (args .self) (args .history) (args .slots .now) (args .prompt .now) (args .line .now) (args .screen .now) _ _ (action .given .1) _ _ is (insert-leaves (args .prompt .now) (stateOf (args .self) (args .history) (args .slots .now)) _) (c .before .before .insert-key .ensures (args .slots .now))
 
 same-length-6 : tie.Need-same-length-6
 same-length-6 c = search needs
@@ -144,7 +147,8 @@ returns-5 c =
     let args = c .before .before .before .before .before .before .before .before .before .before .before .args in
     let pre = c .before .before .before .before .before .before .before .before .before .before .before .pre in
     let enum-told4 = c .before .before .before .before .before .enum-told4 in
-    acted (args .self) (args .history) (args .slots .now) (args .prompt .now) (args .line .now) (args .screen .now) _ _ (enum-told4 .given .1) _ _ (good-parts (args .self) (args .history) (args .slots .now) (pre .0) .1) (up-keeps (args .prompt .now) (stateOf (args .self) (args .history) (args .slots .now))) (c .before .before .up .ensures)
+    let is = good-parts (args .self) (args .history) (args .slots .now) (pre .0) .1 in
+    acted (args .self) (args .history) (args .slots .now) (args .prompt .now) (args .line .now) (args .screen .now) _ _ (enum-told4 .given .1) _ _ is (up-keeps (args .prompt .now) (stateOf (args .self) (args .history) (args .slots .now))) (c .before .before .up .ensures)
 
 same-length-8 : tie.Need-same-length-8
 same-length-8 c = search needs
@@ -157,7 +161,8 @@ returns-6 c =
     let args = c .before .before .before .before .before .before .before .before .before .before .before .args in
     let pre = c .before .before .before .before .before .before .before .before .before .before .before .pre in
     let enum-told5 = c .before .before .before .before .before .enum-told5 in
-    acted (args .self) (args .history) (args .slots .now) (args .prompt .now) (args .line .now) (args .screen .now) _ _ (enum-told5 .given .1) _ _ (good-parts (args .self) (args .history) (args .slots .now) (pre .0) .1) (down-keeps (args .prompt .now) (stateOf (args .self) (args .history) (args .slots .now))) (c .before .before .down .ensures)
+    let is = good-parts (args .self) (args .history) (args .slots .now) (pre .0) .1 in
+    acted (args .self) (args .history) (args .slots .now) (args .prompt .now) (args .line .now) (args .screen .now) _ _ (enum-told5 .given .1) _ _ is (down-keeps (args .prompt .now) (stateOf (args .self) (args .history) (args .slots .now))) (c .before .before .down .ensures)
 
 same-length-10 : tie.Need-same-length-10
 same-length-10 c = search needs
@@ -167,7 +172,8 @@ returns-7 c =
     let args = c .before .before .before .before .before .before .before .before .before .before .args in
     let pre = c .before .before .before .before .before .before .before .before .before .before .pre in
     let enum-told6 = c .before .before .before .before .enum-told6 in
-    acted (args .self) (args .history) (args .slots .now) (args .prompt .now) (args .line .now) (args .screen .now) _ _ (enum-told6 .given .1) _ _ (good-parts (args .self) (args .history) (args .slots .now) (pre .0) .1) (right-keeps (args .prompt .now) (stateOf (args .self) (args .history) (args .slots .now))) (c .before .before .right .ensures (args .slots .now))
+    let is = good-parts (args .self) (args .history) (args .slots .now) (pre .0) .1 in
+    acted-alone (args .self) (args .history) (args .slots .now) (args .prompt .now) (args .line .now) (args .screen .now) _ _ (enum-told6 .given .1) _ _ is (right-leaves (args .prompt .now) (stateOf (args .self) (args .history) (args .slots .now))) (c .before .before .right .ensures (args .slots .now))
 
 same-length-11 : tie.Need-same-length-11
 same-length-11 c = search needs
@@ -177,7 +183,8 @@ returns-8 c =
     let args = c .before .before .before .before .before .before .before .before .before .before .args in
     let pre = c .before .before .before .before .before .before .before .before .before .before .pre in
     let enum-told7 = c .before .before .before .before .enum-told7 in
-    acted (args .self) (args .history) (args .slots .now) (args .prompt .now) (args .line .now) (args .screen .now) _ _ (enum-told7 .given .1) _ _ (good-parts (args .self) (args .history) (args .slots .now) (pre .0) .1) (left-keeps (args .prompt .now) (stateOf (args .self) (args .history) (args .slots .now))) (c .before .before .left .ensures (args .slots .now))
+    let is = good-parts (args .self) (args .history) (args .slots .now) (pre .0) .1 in
+    acted-alone (args .self) (args .history) (args .slots .now) (args .prompt .now) (args .line .now) (args .screen .now) _ _ (enum-told7 .given .1) _ _ is (left-leaves (args .prompt .now) (stateOf (args .self) (args .history) (args .slots .now))) (c .before .before .left .ensures (args .slots .now))
 
 same-length-12 : tie.Need-same-length-12
 same-length-12 c = search needs
@@ -187,7 +194,8 @@ returns-9 c =
     let args = c .before .before .before .before .before .before .before .before .before .before .args in
     let pre = c .before .before .before .before .before .before .before .before .before .before .pre in
     let enum-told8 = c .before .before .before .before .enum-told8 in
-    acted (args .self) (args .history) (args .slots .now) (args .prompt .now) (args .line .now) (args .screen .now) _ _ (enum-told8 .given .1) _ _ (good-parts (args .self) (args .history) (args .slots .now) (pre .0) .1) (go-keeps (args .prompt .now) (stateOf (args .self) (args .history) (args .slots .now)) 0) (c .before .before .go-to .ensures (args .slots .now))
+    let is = good-parts (args .self) (args .history) (args .slots .now) (pre .0) .1 in
+    acted-alone (args .self) (args .history) (args .slots .now) (args .prompt .now) (args .line .now) (args .screen .now) _ _ (enum-told8 .given .1) _ _ is (go-leaves (args .prompt .now) (stateOf (args .self) (args .history) (args .slots .now)) 0) (c .before .before .go-to .ensures (args .slots .now))
 
 same-length-13 : tie.Need-same-length-13
 same-length-13 c = search needs
@@ -197,7 +205,8 @@ returns-10 c =
     let args = c .before .before .before .before .before .before .before .before .before .before .args in
     let pre = c .before .before .before .before .before .before .before .before .before .before .pre in
     let enum-told9 = c .before .before .before .before .enum-told9 in
-    acted (args .self) (args .history) (args .slots .now) (args .prompt .now) (args .line .now) (args .screen .now) _ _ (enum-told9 .given .1) _ _ (good-parts (args .self) (args .history) (args .slots .now) (pre .0) .1) (go-keeps (args .prompt .now) (stateOf (args .self) (args .history) (args .slots .now)) _) (go-end (args .self) (args .history) (args .slots .now) (args .screen .now) (good-parts (args .self) (args .history) (args .slots .now) (pre .0) .0) (args .prompt .now) _ _ (c .before .before .go-to2 .ensures (args .slots .now)))
+    let good = good-parts (args .self) (args .history) (args .slots .now) (pre .0) in
+    acted-alone (args .self) (args .history) (args .slots .now) (args .prompt .now) (args .line .now) (args .screen .now) _ _ (enum-told9 .given .1) _ _ (good .1) (go-leaves (args .prompt .now) (stateOf (args .self) (args .history) (args .slots .now)) _) (go-end (args .self) (args .history) (args .slots .now) (args .screen .now) (good .0) (args .prompt .now) _ _ (c .before .before .go-to2 .ensures (args .slots .now)))
 
 same-length-14 : tie.Need-same-length-14
 same-length-14 c = search needs
@@ -207,7 +216,8 @@ returns-11 c =
     let args = c .before .before .before .before .before .before .before .before .before .before .args in
     let pre = c .before .before .before .before .before .before .before .before .before .before .pre in
     let enum-told10 = c .before .before .before .before .enum-told10 in
-    acted (args .self) (args .history) (args .slots .now) (args .prompt .now) (args .line .now) (args .screen .now) _ _ (enum-told10 .given .1) _ _ (good-parts (args .self) (args .history) (args .slots .now) (pre .0) .1) (delete-keeps (args .prompt .now) (stateOf (args .self) (args .history) (args .slots .now))) (c .before .before .delete-key .ensures (args .slots .now))
+    let is = good-parts (args .self) (args .history) (args .slots .now) (pre .0) .1 in
+    acted-alone (args .self) (args .history) (args .slots .now) (args .prompt .now) (args .line .now) (args .screen .now) _ _ (enum-told10 .given .1) _ _ is (delete-leaves (args .prompt .now) (stateOf (args .self) (args .history) (args .slots .now))) (c .before .before .delete-key .ensures (args .slots .now))
 
 pub act-spec : {M : Type 1} → statement M
 act-spec =

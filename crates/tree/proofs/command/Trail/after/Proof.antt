@@ -1,7 +1,7 @@
 -- `tree::command::Trail::after` meets its contract: a node below a child changes nothing, one that is not below ends the part.
 use mathlib.Core.Path.{sym, _∙_}
 use native.Mathlib.Omega.{arith}
-use Rattle.frame.specs.Text.{Bytes}
+use Rattle.buffer.specs.Numbers.{Bytes}
 use Rattle.tree.proofs.Trails.{after-plain, after-beyond, after-deep, after-above}
 use borrow.Author.Needs.{needs}
 use Rattle.tree.proofs.command.Trail.after.Statement.{statement}

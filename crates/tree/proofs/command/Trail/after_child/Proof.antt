@@ -1,5 +1,5 @@
 -- `tree::command::Trail::after_child` meets its contract: where no word is next, no child is followed.
-use Rattle.frame.specs.Text.{Bytes}
+use Rattle.buffer.specs.Numbers.{Bytes}
 use Rattle.tree.proofs.Trails.{after-no-word}
 use borrow.Author.Needs.{needs}
 use Rattle.tree.proofs.command.Trail.after_child.Statement.{statement}

@@ -2,7 +2,7 @@
 use mathlib.Core.Path.{sym, _∙_}
 use native.Mathlib.Omega.{arith}
 use borrow.Author.Tests.{not-true, not-false}
-use Rattle.frame.specs.Text.{Bytes}
+use Rattle.buffer.specs.Numbers.{Bytes}
 use Rattle.frame.proofs.Series.{word-within}
 use Rattle.tree.proofs.Trails.{next-framed, after-longer, after-last, after-other, after-named}
 use borrow.Author.Needs.{needs}
