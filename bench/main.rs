@@ -1,5 +1,5 @@
-// Times the proved library against the original shell, both from this one driver, and prints eight tables, or six where
-// the program `console` runs under an emulator.
+// Times the proved library against the original shell, both from this one driver, and prints eleven tables, or nine
+// where the program `console` runs under an emulator.
 mod help;
 mod keys;
 mod lines;
@@ -15,6 +15,12 @@ fn main() {
     words::rows();
     table::key_heading();
     keys::rows();
+    table::greek_heading();
+    keys::greek_rows();
+    table::begun_heading();
+    keys::begun_rows();
+    table::add_heading();
+    keys::add_rows();
     table::profile_heading();
     keys::profile_rows();
     table::tree_heading();

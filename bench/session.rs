@@ -1,5 +1,5 @@
 // The program `console`: a key in a session against the bare call, and what tree lines take by their bytes.
-use crate::keys::{Ours, PAIR, entries};
+use crate::keys::{Ours, PAIR, WORDS, entries};
 use crate::table::{session_row, tree_lines_row};
 use crate::timing::{Task, medians};
 use crate::tree::even;
@@ -8,7 +8,6 @@ use std::fs::{File, write};
 use std::process::{Command, Stdio};
 
 const LINES: [usize; 2] = [20, 200];
-const TEXT: &str = "vm start ";
 /// Histories: a name, and the length of each entry, 0 for an empty history.
 const HISTORIES: [(&str, usize); 3] = [("empty", 0), ("full, 20 bytes each", 20), ("full, 255 bytes each", 255)];
 
@@ -24,8 +23,8 @@ pub fn key_rows() {
     for length in LINES {
         for (history, bytes) in HISTORIES {
             let line = vec![b'a'; length];
-            let mut ours = Ours::new(&line, TEXT, bytes);
-            let typed: String = entries(TEXT, bytes).map(|entry| entry + "\r").collect();
+            let mut ours = Ours::new(&line, WORDS, bytes);
+            let typed: String = entries(WORDS, bytes).map(|entry| entry + "\r").collect();
             let before = key_lines(&[typed.as_bytes(), &line].concat());
             let pairs = key_lines(&PAIR.repeat(KEY_LINES * KEYS / PAIR.len()));
             let [before, with] = [Input::new("before", &before), Input::new("with", &(before.clone() + &pairs))];

@@ -15,16 +15,52 @@ pub fn row(call: &str, input: &str, bytes: usize, rust: Task, ours: Task) {
 
 pub fn key_heading() {
     println!();
-    println!("| line | history              | from_utf8 ns | Rust ns | ours ns | ours / from_utf8 | ours / Rust |");
-    println!("|-----:|----------------------|-------------:|--------:|--------:|-----------------:|------------:|");
+    println!("| line | history                 | from_utf8 ns | Rust ns | ours ns | ours / from_utf8 | ours / Rust |");
+    println!("|-----:|-------------------------|-------------:|--------:|--------:|-----------------:|------------:|");
 }
 
 /// Prints the row of one key.
 pub fn key_row(line: usize, history: &str, pass: f64, rust: f64, ours: f64) {
     let (by_pass, by_rust) = (ours / pass, ours / rust);
     println!(
-        "| {line:>4} | {history:<20} | {pass:>12.0} | {rust:>7.0} | {ours:>7.0} | {by_pass:>16.2} | {by_rust:>11.2} |"
+        "| {line:>4} | {history:<23} | {pass:>12.0} | {rust:>7.0} | {ours:>7.0} | {by_pass:>16.2} | {by_rust:>11.2} |"
     );
+}
+
+pub fn greek_heading() {
+    println!();
+    println!("| history              | bytes of entries | from_utf8 of them ns | ours ns | ours / from_utf8 of them |");
+    println!("|----------------------|-----------------:|---------------------:|--------:|-------------------------:|");
+}
+
+/// Prints the row of one key with Greek lines in the history.
+pub fn greek_row(history: &str, bytes: usize, pass: f64, ours: f64) {
+    let by_pass = ours / pass;
+    println!("| {history:<20} | {bytes:>16} | {pass:>20.0} | {ours:>7.0} | {by_pass:>24.2} |");
+}
+
+pub fn begun_heading() {
+    println!();
+    println!("| history              | first slot | from_utf8 ns | ours ns | ours / from_utf8 | ours / at slot 0 |");
+    println!("|----------------------|-----------:|-------------:|--------:|-----------------:|-----------------:|");
+}
+
+/// Prints the row of one key with a history that begins at this slot.
+pub fn begun_row(history: &str, first: usize, pass: f64, ours: f64, at_0: f64) {
+    let (by_pass, by_0) = (ours / pass, ours / at_0);
+    println!("| {history:<20} | {first:>10} | {pass:>12.0} | {ours:>7.0} | {by_pass:>16.2} | {by_0:>16.2} |");
+}
+
+pub fn add_heading() {
+    println!();
+    println!("| history              | call     | a key ns | call ns | call / key | call less key ns |");
+    println!("|----------------------|----------|---------:|--------:|-----------:|-----------------:|");
+}
+
+/// Prints the row of a call that adds to a full history, beside a key with the same history.
+pub fn add_row(history: &str, call: &str, key: f64, time: f64) {
+    let (by_key, less) = (time / key, time - key);
+    println!("| {history:<20} | {call:<8} | {key:>8.0} | {time:>7.0} | {by_key:>10.2} | {less:>16.0} |");
 }
 
 pub fn profile_heading() {

@@ -10,9 +10,9 @@ const MIXED: usize = 3_000;
 const FULL: usize = 400;
 const SEED: u64 = 0x6869_7374_0000_0001;
 const SEED_FULL: u64 = 0x6869_7374_0000_0002;
-const PROMPT: &[u8] = b"axvisor:$ ";
-/// The least and the greatest length of the texts of a full history.
-const LENGTHS: [(usize, usize); 5] = [(1, 3), (1, 20), (1, LINE), (LINE - 2, LINE), (LINE, LINE)];
+pub const PROMPT: &[u8] = b"axvisor:$ ";
+/// The least and the greatest length of the texts of a history.
+pub const LENGTHS: [(usize, usize); 5] = [(1, 3), (1, 20), (1, LINE), (LINE - 2, LINE), (LINE, LINE)];
 
 /// Adds texts to a fresh history of both.
 fn check(part: &mut Part, lent: &mut Lent, texts: &[Vec<u8>]) {
@@ -114,7 +114,7 @@ pub fn full_ones(part: &mut Part) {
 }
 
 /// Enters a text: it is the line that was typed, with the cursor at its end.
-fn enter(lent: &mut Lent, part: &mut Part, model: &mut Model, text: &[u8]) -> bool {
+pub fn enter(lent: &mut Lent, part: &mut Part, model: &mut Model, text: &[u8]) -> bool {
     (model.line, model.cursor) = (text.to_vec(), text.len());
     lent.hold(&model.state(), &model.slots());
     lent.press(part, model, PROMPT, b'\r').is_some()

@@ -1,6 +1,6 @@
 // Keys: the library against the original's own loop, key by key, and against the model in all that it answers and leaves.
 use crate::lent::Lent;
-use crate::model::{LINE, Mode, Model, Profile, saved};
+use crate::model::{Effect, LINE, Mode, Model, Profile, saved};
 use crate::named::named;
 use crate::part::{Part, hex};
 use crate::shell::{PLAIN, Shell, WITH_FS, walk};
@@ -15,7 +15,7 @@ const SHORT_ALIKE: usize = 3;
 const MIXED_ALIKE: usize = 30_000;
 const SEED_ALIKE: u64 = 0x6B65_7973_6563_0001;
 /// Buffers that are too short are tried at every key of so many, and at the last of a stream.
-const TRIED: usize = 32;
+pub const TRIED: usize = 32;
 
 /// Types a stream to both from the fresh state.
 fn check(part: &mut Part, lent: &mut Lent, shell: &Shell, stream: &[u8]) {
@@ -41,12 +41,7 @@ fn both(part: &mut Part, lent: &mut Lent, mut model: Model, shell: &Shell, strea
         let short = number % TRIED == TRIED - 1 || number + 1 == stream.len();
         let press = if short { Lent::press_short } else { Lent::press };
         let Some(effect) = press(lent, part, &mut model, shell.prompt, key) else { return };
-        let behind = effect.entered.map(|line| shell.behind_enter(&line)).unwrap_or_default();
-        let ours = [effect.screen, behind].concat();
-        let difference = (ours != *screen).then(|| {
-            format!("key:      number {number}, {key:02x}\nRust:     {}\nours:     {}", hex(screen), hex(&ours))
-        });
-        if !part.note(difference) {
+        if !part.note(apart(shell, number, key, effect, screen)) {
             return;
         }
     }
@@ -54,6 +49,14 @@ fn both(part: &mut Part, lent: &mut Lent, mut model: Model, shell: &Shell, strea
     if screens.len() == keys.len() {
         part.same(&shell.recalled(&screens[stream.len()..]), &lent.entries());
     }
+}
+
+/// What the original wrote after a key, if it is not what ours showed and, at Enter, what the original writes for the line.
+pub fn apart(shell: &Shell, number: usize, key: u8, effect: Effect, screen: &[u8]) -> Option<String> {
+    let behind = effect.entered.map(|line| shell.behind_enter(&line)).unwrap_or_default();
+    let ours = [effect.screen, behind].concat();
+    (ours != *screen)
+        .then(|| format!("key:      number {number}, {key:02x}\nRust:     {}\nours:     {}", hex(screen), hex(&ours)))
 }
 
 pub fn short_streams(part: &mut Part) {

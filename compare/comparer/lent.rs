@@ -15,6 +15,11 @@ pub struct Room {
     pub screen: usize,
 }
 
+/// How many slots a key or a text may change, and how many `fresh` may, which writes all there are. A refused call may change
+/// none.
+const ONE: usize = 1;
+const ALL: usize = usize::MAX;
+
 /// What calls are lent that show nothing.
 pub const NONE: Room = Room { line: 0, screen: 0 };
 
@@ -23,6 +28,8 @@ pub struct Lent {
     slots: Watched,
     line: Watched,
     screen: Watched,
+    /// What the slots held before the call.
+    before: Vec<u8>,
     /// Whether the next key gets buffers that are longer than needed, or exactly long enough.
     more: bool,
 }
@@ -30,7 +37,8 @@ pub struct Lent {
 impl Lent {
     pub fn new() -> Self {
         let [state, slots] = [saved::STATE, saved::SLOTS].map(|length| Watched::new(length + MORE));
-        Lent { state, slots, line: Watched::new(LINE + MORE), screen: Watched::new(SCREEN), more: false }
+        let (line, screen) = (Watched::new(LINE + MORE), Watched::new(SCREEN));
+        Lent { state, slots, line, screen, before: Vec::new(), more: false }
     }
 
     /// Makes buffers of these lengths fresh. A refusal leaves them as they were.
@@ -38,7 +46,7 @@ impl Lent {
         let answer = answers::fresh(state, slots);
         self.begin(state, slots, (answer == 0).then(Model::fresh));
         let given = calls::fresh(self.state.lent(), self.slots.lent());
-        self.judge(part, answer, given, || "fresh".to_string())
+        self.judge(part, ALL, answer, given, || "fresh".to_string())
     }
 
     /// The same with the profile of this number, which may be none.
@@ -47,13 +55,14 @@ impl Lent {
         let model = saved::numbered(profile).filter(|_| answer == 0).map(Model::fresh_with);
         self.begin(state, slots, model);
         let given = calls::fresh_with(profile, self.state.lent(), self.slots.lent());
-        self.judge(part, answer, given, || format!("fresh with profile {profile}"))
+        self.judge(part, ALL, answer, given, || format!("fresh with profile {profile}"))
     }
 
     /// Puts a saved state there.
     pub fn hold(&mut self, state: &[u8], slots: &[u8]) {
         self.state.hold(state);
         self.slots.hold(slots);
+        self.keep();
         self.room(NONE);
     }
 
@@ -104,13 +113,20 @@ impl Lent {
     /// A text that must be refused with this answer.
     pub fn adding(&mut self, part: &mut Part, text: &[u8], answer: u64) -> bool {
         let given = calls::history_add(self.state.lent(), self.slots.lent(), text);
-        self.judge(part, answer, given, || format!("add {}", hex(text)))
+        self.judge(part, ONE, answer, given, || format!("add {}", hex(text)))
     }
 
     /// The entries of the history, as the library left them.
     pub fn entries(&self) -> Vec<&[u8]> {
-        let slots = self.slots.found().chunks_exact(saved::SLOT);
-        slots.take(usize::from(self.state.found()[saved::EDITOR])).map(|slot| &slot[1..][..usize::from(slot[0])]).collect()
+        let (state, slots) = (self.state.found(), self.slots.found());
+        let [count, first] = [saved::EDITOR, saved::FIRST].map(|place| usize::from(state[place]));
+        let slot = |number| &slots[saved::place_of(first, number)..][..saved::SLOT];
+        (0..count).map(slot).map(|slot| &slot[1..][..usize::from(slot[0])]).collect()
+    }
+
+    /// The bytes of the state, as the library left them.
+    pub fn state(&self) -> &[u8] {
+        self.state.found()
     }
 
     // A line buffer that is too short is refused before a screen that is.
@@ -127,8 +143,27 @@ impl Lent {
     fn begin(&mut self, state: usize, slots: usize, model: Option<Model>) {
         self.state.clear(state);
         self.slots.clear(slots);
+        self.keep();
         self.room(NONE);
         model.iter().for_each(|model| self.leave(model, true));
+    }
+
+    // The slots as they are now are those before the next call.
+    fn keep(&mut self) {
+        self.before.clear();
+        self.before.extend(self.slots.found());
+    }
+
+    // The numbers of the slots that the call changed.
+    fn changed(&mut self) -> Vec<usize> {
+        let found = self.slots.found();
+        if found == self.before {
+            return Vec::new();
+        }
+        let both = found.chunks(saved::SLOT).zip(self.before.chunks(saved::SLOT)).enumerate();
+        let changed = both.filter(|(_, (found, before))| found != before).map(|(number, _)| number).collect();
+        self.keep();
+        changed
     }
 
     fn room(&mut self, room: Room) {
@@ -147,21 +182,29 @@ impl Lent {
     fn key(&mut self, part: &mut Part, prompt: &[u8], key: u8, answer: u64) -> bool {
         let Lent { state, slots, line, screen, .. } = self;
         let given = calls::key(state.lent(), slots.lent(), prompt, key, line.lent(), screen.lent());
-        self.judge(part, answer, given, || format!("key {key:02x}, prompt {}", hex(prompt)))
+        self.judge(part, ONE, answer, given, || format!("key {key:02x}, prompt {}", hex(prompt)))
     }
 
-    fn judge(&self, part: &mut Part, answer: u64, given: u64, call: impl Fn() -> String) -> bool {
+    // All must be as expected, and no more slots changed than the call may change.
+    fn judge(&mut self, part: &mut Part, most: usize, answer: u64, given: u64, call: impl Fn() -> String) -> bool {
+        let changed = self.changed();
+        let most = if refused(given) { 0 } else { most };
         let buffers = [("state", &self.state), ("slots", &self.slots), ("line", &self.line), ("screen", &self.screen)];
         let wrong = buffers.iter().find_map(|(name, buffer)| Some((name, buffer, buffer.wrong()?)));
         let say_wrong = |(name, buffer, place): (&&str, &&Watched, i64)| {
             format!("\nwrong:    byte {place} of the {name}, which is {}", hex(buffer.found()))
         };
-        let difference = (given != answer || wrong.is_some()).then(|| {
+        let difference = (given != answer || wrong.is_some() || changed.len() > most).then(|| {
             let lengths = buffers.map(|(name, buffer)| format!("{name} {}", buffer.found().len())).join(", ");
             let (call, expected, found) = (call(), say(answer), say(given));
             let wrong = wrong.map(say_wrong).unwrap_or_default();
-            format!("call:     {call}\nlengths:  {lengths}\nexpected: {expected}\nfound:    {found}{wrong}")
+            let slots = if changed.len() > most { format!("\nchanged:  slots {changed:?}") } else { String::new() };
+            format!("call:     {call}\nlengths:  {lengths}\nexpected: {expected}\nfound:    {found}{slots}{wrong}")
         });
-        part.called(answer >> 32 & 0xFF != 0, difference)
+        part.called(refused(answer), difference)
     }
+}
+
+fn refused(answer: u64) -> bool {
+    answer >> 32 & 0xFF != 0
 }

@@ -1,7 +1,9 @@
 // Compares the proved library with the original shell and with the rules of the standard, part by part.
+mod begun;
 mod buffers;
 mod console;
 mod damage;
+mod firsts;
 mod frames;
 mod help;
 mod history;
@@ -35,7 +37,7 @@ mod workers;
 use part::Part;
 use std::process::ExitCode;
 
-const PARTS: [(&str, fn(&mut Part)); 77] = [
+const PARTS: [(&str, fn(&mut Part)); 80] = [
     ("session: the original under keys", session::compare),
     ("marked: M1 to M8", marked::compare),
     ("words: every short line", words::short_lines),
@@ -52,6 +54,7 @@ const PARTS: [(&str, fn(&mut Part)); 77] = [
     ("history: texts about the limits", history::long_texts),
     ("history: mixed texts", history::mixed_texts),
     ("history: full ones", history::full_ones),
+    ("history: begun at every slot", begun::histories),
     ("keys: named streams", keys::named_streams),
     ("keys: every short stream", keys::short_streams),
     ("keys: every byte in every mode", keys::every_byte),
@@ -59,6 +62,7 @@ const PARTS: [(&str, fn(&mut Part)); 77] = [
     ("keys: mixed streams", keys::mixed_streams),
     ("keys: mixed streams with fs", keys::mixed_streams_fs),
     ("keys: alike in both profiles", keys::alike),
+    ("keys: begun at every slot", begun::keys),
     ("keys: prompts", prompts::compare),
     ("sequences: every short one", sequences::short_ones),
     ("sequences: each byte in each mode", sequences::every_byte),
@@ -73,6 +77,7 @@ const PARTS: [(&str, fn(&mut Part)); 77] = [
     ("states: entries that are bad", states::entries),
     ("states: every total", totals::every),
     ("states: totals about the right one", totals::about),
+    ("states: first slots", firsts::compare),
     ("states: buffers of other lengths", states::lengths),
     ("tree: the original's own trees", tree::original_trees),
     ("tree: random trees", tree::random_trees),

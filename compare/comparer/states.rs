@@ -2,8 +2,8 @@
 use crate::lent::{Lent, NONE, Room};
 use crate::lines::{Mixer, every_character};
 use crate::model::answers::BAD_STATE;
-use crate::model::saved::{EDITOR, HEAD, PARAMETER, PROFILE, READ, SLOT, SLOTS, STATE, TOTAL};
-use crate::model::{LINE, Mode, Model, Profile};
+use crate::model::saved::{EDITOR, FIRST, HEAD, PARAMETER, PROFILE, READ, SLOT, SLOTS, STATE, TOTAL, place_of};
+use crate::model::{ENTRIES, LINE, Mode, Model, Profile};
 use crate::part::Part;
 
 const SEED: u64 = 0x7374_6174_0000_0001;
@@ -12,11 +12,13 @@ const DAMAGED: usize = 100_000;
 const PROMPT: &[u8] = b"axvisor:$ ";
 /// The keys that come in turn.
 pub const KEYS: [u8; 13] = [b'x', b'\r', 0x1B, b'A', 0x7F, b'B', 0xC3, 0x01, b'~', b'H', b'[', b'1', b'F'];
-/// Lengths that are no state's: five bytes short, without what tells of keys and without the total, and two, without the total.
+/// Lengths that are no state's: without the first slot, the total and what tells of keys, without the first two of these, and
+/// without the first slot alone.
 const WITHOUT_PROFILE: usize = 260;
 const WITHOUT_TOTAL: usize = 263;
+const WITHOUT_FIRST: usize = 265;
 /// What bytes of the slots are changed to, besides their neighbours.
-const BYTES: [u8; 5] = [0, b' ', b'a', 0x85, 0xFF];
+pub const BYTES: [u8; 5] = [0, b' ', b'a', 0x85, 0xFF];
 /// What a bad state is lent: all that it needs, and a prompt, a text and buffers that would be refused as well.
 const LENT: [(&[u8], &[u8], Room); 2] =
     [(PROMPT, b"a", Room { line: LINE, screen: 400 }), (b"\xFF", &[0xFF; 300], NONE)];
@@ -49,6 +51,14 @@ impl Saved<'_> {
         self.calls(state, slots, put);
     }
 
+    /// A state of which it is known whether it is good, with the total of its slots: the model has to know it too.
+    pub fn known(&mut self, good: bool, state: &[u8], slots: &[u8], put: &[u8]) {
+        let state = righted(state, slots).unwrap_or_else(|| state.to_vec());
+        self.one(&state, slots, put);
+        let read = Model::read(&state, slots).is_some();
+        self.part.note((read != good).then(|| format!("the model takes it: {read}, and it has to be taken: {good}")));
+    }
+
     /// A key and a text on a state. Bad ones are refused before the prompt, the buffers and the text are looked at.
     fn calls(&mut self, state: &[u8], slots: &[u8], put: &[u8]) {
         self.part.input(&[state, put].concat());
@@ -66,7 +76,7 @@ impl Saved<'_> {
     }
 
     /// A state with one byte changed.
-    fn changed(&mut self, state: &[u8], slots: &[u8], place: usize, byte: u8) {
+    pub fn changed(&mut self, state: &[u8], slots: &[u8], place: usize, byte: u8) {
         let mut state = state.to_vec();
         state[place] = byte;
         self.check(&state, slots);
@@ -80,7 +90,7 @@ impl Saved<'_> {
     }
 
     /// Slots with some bytes put at a place. The input is the state, and behind it the place, in four bytes, and the bytes.
-    fn put(&mut self, state: &[u8], slots: &mut [u8], place: usize, bytes: &[u8]) {
+    pub fn put(&mut self, state: &[u8], slots: &mut [u8], place: usize, bytes: &[u8]) {
         let before = slots[place..][..bytes.len()].to_vec();
         slots[place..][..bytes.len()].copy_from_slice(bytes);
         self.both(state, slots, &[&(place as u32).to_be_bytes(), bytes].concat());
@@ -92,18 +102,23 @@ pub fn saved(part: &mut Part) -> Saved<'_> {
     Saved { part, lent: Lent::new(), turn: 0 }
 }
 
-/// The state with the total of as many slots as it counts, if it has another and so many are there.
+/// The state with the total of as many slots as it counts, from its first slot on, if it has another and so many are there. A
+/// first slot that is too great is gone on from round the end: all but that is then right.
 fn righted(state: &[u8], slots: &[u8]) -> Option<Vec<u8>> {
-    let used = slots.get(..usize::from(*state.get(EDITOR)?) * SLOT)?;
-    let total: u16 = used.chunks_exact(SLOT).map(|slot| u16::from(slot[0])).sum();
+    let (count, first) = (usize::from(*state.get(EDITOR)?), usize::from(*state.get(FIRST)?));
+    if count > ENTRIES || slots.len() != SLOTS {
+        return None;
+    }
+    let total: u16 = (0..count).map(|number| u16::from(slots[place_of(first, number)])).sum();
     let mut righted = state.to_vec();
-    righted.get_mut(TOTAL..STATE)?.copy_from_slice(&total.to_be_bytes());
+    righted[TOTAL..FIRST].copy_from_slice(&total.to_be_bytes());
     (righted != state).then_some(righted)
 }
 
 /// Good states: fresh; a line of three characters with the cursor inside and three entries; a full line and a full history of
-/// the longest lines; a full history of mixed lines, and an escape begun; with the keys of ECMA-48 a sequence of one byte in the
-/// second of these, and the longest that goes on.
+/// the longest lines; a full history of mixed lines that begins at slot 57, and an escape begun; with the keys of ECMA-48 a
+/// sequence of one byte in the second of these, whose entries then lie in the last two slots and slot 0, and the longest that
+/// goes on, with no entry, at the last slot.
 pub fn good() -> Vec<Model> {
     let entries = |texts: &[&str]| texts.iter().map(|text| text.as_bytes().to_vec()).collect();
     let few = Model {
@@ -121,9 +136,10 @@ pub fn good() -> Vec<Model> {
         let length = 1 + mixer.random.below(LINE);
         mixed.add(&mixer.text(length));
     }
-    mixed.place = 50;
-    let one = sequence(&few, b"3");
-    vec![Model::fresh(), few, full, mixed, one, sequence(&Model::fresh(), b"1;5 ?0123456789")]
+    (mixed.place, mixed.first) = (50, 57);
+    let one = Model { first: 98, ..sequence(&few, b"3") };
+    let none = Model { first: 99, ..sequence(&Model::fresh(), b"1;5 ?0123456789") };
+    vec![Model::fresh(), few, full, mixed, one, none]
 }
 
 /// The same with the keys of ECMA-48, behind ESC `[` and these bytes.
@@ -201,9 +217,10 @@ pub fn mixed(part: &mut Part) {
         put_keys(&mut state, random.pick(&told));
         for _ in 0..1 + random.below(3) {
             let any = random.below(STATE);
-            let place = random.pick(&[0, 1, 2, PROFILE, READ, PARAMETER, EDITOR, EDITOR + 1, TOTAL, TOTAL + 1, any]);
+            let numbers = [0, 1, 2, PROFILE, READ, PARAMETER, EDITOR, EDITOR + 1, TOTAL, TOTAL + 1, FIRST, any];
+            let place = random.pick(&numbers);
             let any = random.below(256) as u8;
-            state[place] = random.pick(&[0, 1, 2, 3, 4, 8, 15, 16, 255, any]);
+            state[place] = random.pick(&[0, 1, 2, 3, 4, 8, 15, 16, 99, 100, 255, any]);
         }
         saved.check(&state, &model.slots());
     }
@@ -237,9 +254,9 @@ pub fn entries(part: &mut Part) {
     for model in good().iter().skip(1) {
         let (state, mut slots) = (model.state(), model.slots());
         for number in 0..model.entries.len() {
-            let at = number * SLOT;
+            let at = place_of(model.first, number);
             for from in [number.saturating_sub(1), number, (number + 1) % model.entries.len()] {
-                let slot = slots[from * SLOT..][..SLOT].to_vec();
+                let slot = slots[place_of(model.first, from)..][..SLOT].to_vec();
                 saved.put(&state, &mut slots, at, &slot);
             }
             for text in &texts {
@@ -251,11 +268,12 @@ pub fn entries(part: &mut Part) {
     }
 }
 
-/// States and slots of other lengths, to keys and texts and to `fresh`, with each profile and without; good states cut off at each
-/// place.
+/// States and slots of other lengths, to keys and texts and to `fresh`, with each profile and without; good states cut off at
+/// each place.
 pub fn lengths(part: &mut Part) {
     let mut saved = saved(part);
-    for state in [0, 1, HEAD, PROFILE, WITHOUT_PROFILE, EDITOR, WITHOUT_TOTAL, STATE - 1, STATE, STATE + 1] {
+    let without = [WITHOUT_PROFILE, EDITOR, WITHOUT_TOTAL, WITHOUT_TOTAL + 1, WITHOUT_FIRST];
+    for state in [0, 1, HEAD, PROFILE].into_iter().chain(without).chain([STATE, STATE + 1]) {
         for slots in [0, 1, SLOT, SLOTS - SLOT, SLOTS - 1, SLOTS, SLOTS + 1] {
             saved.check(&vec![0; state], &vec![0; slots]);
             saved.part.input(&[]);

@@ -1,6 +1,6 @@
 // Totals of saved states: any other than the sum of the entries' lengths is refused by 12, and that one is taken.
 use crate::lines::Mixer;
-use crate::model::saved::TOTAL;
+use crate::model::saved::{FIRST, TOTAL};
 use crate::model::{LINE, Model};
 use crate::part::Part;
 use crate::states::{Saved, good, saved};
@@ -54,7 +54,7 @@ fn slips(model: &Model) -> Vec<u16> {
 fn with(saved: &mut Saved, model: &Model, totals: impl IntoIterator<Item = u16>) {
     let (mut state, slots) = (model.state(), model.slots());
     for total in totals {
-        state[TOTAL..].copy_from_slice(&total.to_be_bytes());
+        state[TOTAL..FIRST].copy_from_slice(&total.to_be_bytes());
         saved.one(&state, &slots, &[]);
     }
 }

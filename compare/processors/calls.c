@@ -27,8 +27,8 @@ static u64 sum = 0xCBF29CE484222325ul;
 
 static u8 line[2048], words[8192], image[4096], out[65536];
 /* A session with the keys of each profile, and buffers in which one is begun that has to be refused now and then. */
-static u8 states[2][265], slots[2][25600], typed[255], screen[4096];
-static u8 spare_state[266], spare_slots[25601];
+static u8 states[2][266], slots[2][25600], typed[255], screen[4096];
+static u8 spare_state[267], spare_slots[25601];
 
 /* The next number of the generator, below n. */
 static usize below(usize n) {
@@ -159,7 +159,7 @@ static void press_sequence(usize profile) {
 /* Begins a session with any profile, most of the two that are there, and with buffers of about the lengths that they have to have. */
 static void begin(void) {
     u8 profile = (u8)(below(4) ? below(2) : below(256));
-    count(rissemat_fresh_with(profile, spare_state, 264 + below(3), spare_slots, 25599 + below(3)));
+    count(rissemat_fresh_with(profile, spare_state, 265 + below(3), spare_slots, 25599 + below(3)));
     count_bytes(spare_state, sizeof spare_state);
 }
 

@@ -25,17 +25,20 @@ uint64_t rissemat_words(const uint8_t *line, size_t line_len, uint8_t *out, size
  * length, 65,535 if more), 9 (out too short: length needed). */
 uint64_t rissemat_quote(const uint8_t *words, size_t words_len, uint8_t *out, size_t out_len);
 
-/* A session between two calls is a state of 265 bytes and slots of 25,600 bytes, both the caller's: no call keeps anything.
+/* A session between two calls is a state of 266 bytes and slots of 25,600 bytes, both the caller's: no call keeps anything.
  * The state: what is saved of the editor, bytes 0 to 260: mode (0 typing, 1 after ESC, 2 after ESC `[` with the Rust's keys, 3 in a control
  * sequence with ECMA-48's), line length, cursor, the 255 bytes of the line, key profile (0 the Rust's, 1 ECMA-48's), how many bytes of the
  * sequence were read after ESC `[` (0 to 15), its parameter (0 for none; the number 1, 3, 4, 7 or 8, not its ASCII byte, if that digit is the
- * one byte read; otherwise 255); then what is saved of the history, bytes 261 to 264: count, place, total, which takes two bytes, high byte
- * first. The slots: the entries of history in slots of 256 bytes, a length byte then the text, oldest first, all unused bytes zero.
+ * one byte read; otherwise 255); then what is saved of the history, bytes 261 to 265: count, place, total, which takes two bytes, high byte
+ * first, and the first slot. The slots: 100 of 256 bytes, slot i from byte 256 * i on, each with an entry of history, a length byte then the
+ * text, or all zeros; all unused bytes are zero. The oldest entry lies in the first slot, state[265], 0 to 99, and the others in the slots
+ * that follow, round the end: entry k (0 is the oldest) in slot (state[265] + k) % 100. An add, or an Enter that adds, writes one slot and
+ * no other byte of the slots: (state[265] + state[261]) % 100, which in a full history is that of the oldest.
  * The total is the history's bytes in use: the sum of the entries' lengths, 0 in a fresh session, at most 25,500. A status page reads it
  * between any two calls as 256 * state[263] + state[264]. A state with any other total is bad (12). */
 
 /* A fresh session with the Rust's keys: no line, no history. Both buffers are then zeros.
- * Refusals, of the first buffer that has another length, the state before the slots: 9 (too short: the length needed, 265 or 25,600),
+ * Refusals, of the first buffer that has another length, the state before the slots: 9 (too short: the length needed, 266 or 25,600),
  * 12 (too long: another length is no state's). */
 uint64_t rissemat_fresh(uint8_t *state, size_t state_len, uint8_t *slots, size_t slots_len);
 
@@ -48,7 +51,7 @@ uint64_t rissemat_fresh_with(uint8_t profile, uint8_t *state, size_t state_len, 
  * the line that is submitted, at the front of line (0 for an empty line: nothing to run, but the prompt is due). Kind 2: the line is full and
  * the byte was dropped; nothing changes. Kind 0 is any other key.
  * Refusals, in this order: 12 (a bad state: another length, mode or profile, a mode of the other profile, or state and slots break a rule of
- * line, control sequence or history, its total among them), 11 (prompt over 128 bytes or ill-formed: its length), 9 (line under 255 bytes:
+ * line, control sequence or history, its total and its first slot among them), 11 (prompt over 128 bytes or ill-formed: its length), 9 (line under 255 bytes:
  * 255; then screen too short: length needed). */
 uint64_t rissemat_key(uint8_t *state, size_t state_len, uint8_t *slots, size_t slots_len, const uint8_t *prompt, size_t prompt_len,
                       uint8_t key, uint8_t *line, size_t line_len, uint8_t *screen, size_t screen_len);

@@ -38,10 +38,12 @@ pub struct Model {
     /// From the oldest to the newest.
     pub entries: Vec<Vec<u8>>,
     pub place: usize,
+    /// The slot of the oldest entry, or where it would be. It is saved and no more: nothing that is shown goes with it.
+    pub first: usize,
 }
 
 /// What a key shows and gives out.
-#[derive(Default)]
+#[derive(Default, PartialEq)]
 pub struct Effect {
     pub screen: Vec<u8>,
     /// The line at Enter, empty if nothing was typed.
@@ -56,7 +58,7 @@ impl Model {
 
     pub fn fresh_with(profile: Profile) -> Self {
         let (sequence, line, entries) = (Vec::new(), Vec::new(), Vec::new());
-        Model { profile, mode: Mode::Typing, sequence, line, cursor: 0, entries, place: 0 }
+        Model { profile, mode: Mode::Typing, sequence, line, cursor: 0, entries, place: 0, first: 0 }
     }
 
     /// Takes one key.
@@ -76,11 +78,14 @@ impl Model {
         }
     }
 
-    /// Offers a text to the history. It sets the place in any case.
+    /// Offers a text to the history. It sets the place in any case. Where the oldest entry goes, the one after it is the
+    /// oldest: the history then begins one slot further on, and the text comes into the slot that became free. No other entry
+    /// changes its slot.
     pub fn add(&mut self, text: &str) {
         if !text.trim().is_empty() && self.entries.last().map(Vec::as_slice) != Some(text.as_bytes()) {
             if self.entries.len() == ENTRIES {
                 self.entries.remove(0);
+                self.first = (self.first + 1) % ENTRIES;
             }
             self.entries.push(text.into());
         }

@@ -2,15 +2,16 @@
 use super::{ENTRIES, LAST, LINE, Mode, Model, PROFILES, Profile};
 
 /// The editor's part: mode, length of the line, cursor, the bytes of the line, then the profile and what is told of a control
-/// sequence: how many bytes of it were read, and its parameter. The history's part after it: count, place, and the total of the
-/// entries' lengths, high byte first.
+/// sequence: how many bytes of it were read, and its parameter. The history's part after it: count, place, the total of the
+/// entries' lengths, high byte first, and the slot of the oldest entry.
 pub const HEAD: usize = 3;
 pub const PROFILE: usize = HEAD + LINE;
 pub const READ: usize = PROFILE + 1;
 pub const PARAMETER: usize = PROFILE + 2;
 pub const EDITOR: usize = PROFILE + 3;
 pub const TOTAL: usize = EDITOR + 2;
-pub const STATE: usize = TOTAL + 2;
+pub const FIRST: usize = TOTAL + 2;
+pub const STATE: usize = FIRST + 1;
 /// A slot has a length byte and room for the longest line.
 pub const SLOT: usize = 1 + LINE;
 pub const SLOTS: usize = ENTRIES * SLOT;
@@ -32,7 +33,8 @@ impl Model {
         state[HEAD..][..self.line.len()].copy_from_slice(&self.line);
         state[PROFILE..EDITOR].copy_from_slice(&keys);
         state[EDITOR..TOTAL].copy_from_slice(&history.map(|number| number as u8));
-        state[TOTAL..].copy_from_slice(&self.total().to_be_bytes());
+        state[TOTAL..FIRST].copy_from_slice(&self.total().to_be_bytes());
+        state[FIRST] = self.first as u8;
         state
     }
 
@@ -43,7 +45,8 @@ impl Model {
 
     pub fn slots(&self) -> Vec<u8> {
         let mut slots = vec![0; SLOTS];
-        for (slot, entry) in slots.chunks_exact_mut(SLOT).zip(&self.entries) {
+        for (number, entry) in self.entries.iter().enumerate() {
+            let slot = &mut slots[place_of(self.first, number)..][..SLOT];
             slot[0] = entry.len() as u8;
             slot[1..=entry.len()].copy_from_slice(entry);
         }
@@ -53,16 +56,16 @@ impl Model {
     /// The values of a saved state, none if it is bad.
     pub fn read(state: &[u8], slots: &[u8]) -> Option<Model> {
         let (&[mode, length, cursor], rest) = state.split_first_chunk()?;
-        let (line, &[profile, read, parameter, count, place, high, low]) = rest.split_last_chunk()?;
-        let [length, cursor, count, place] = [length, cursor, count, place].map(usize::from);
-        if line.len() != LINE || slots.len() != SLOTS {
+        let (line, &[profile, read, parameter, count, place, high, low, first]) = rest.split_last_chunk()?;
+        let [length, cursor, count, place, first] = [length, cursor, count, place, first].map(usize::from);
+        if line.len() != LINE || slots.len() != SLOTS || count > ENTRIES || first >= ENTRIES {
             return None;
         }
         let (line, beyond) = line.split_at(length);
-        let (used, unused) = slots.split_at_checked(count * SLOT)?;
-        let entries = used.chunks_exact(SLOT).map(entry).collect::<Option<Vec<_>>>()?;
+        let slot = |number| &slots[place_of(first, number)..][..SLOT];
+        let entries = (0..count).map(|number| entry(slot(number))).collect::<Option<Vec<_>>>()?;
         let good = zero(beyond)
-            && zero(unused)
+            && (count..ENTRIES).all(|number| zero(slot(number)))
             && cursor <= length
             && place <= count
             && u16::from_be_bytes([high, low]) == total(&entries)
@@ -75,8 +78,14 @@ impl Model {
             }
             _ => return None,
         };
-        good.then(|| Model { profile, mode, sequence, line: line.to_vec(), cursor, entries, place })
+        good.then(|| Model { profile, mode, sequence, line: line.to_vec(), cursor, entries, place, first })
     }
+}
+
+/// Where the slot of the entry with this number begins, counted from the oldest, if that has slot `first`: they lie one after the
+/// other, and behind the last slot comes slot 0.
+pub fn place_of(first: usize, number: usize) -> usize {
+    (first + number) % ENTRIES * SLOT
 }
 
 fn total(entries: &[Vec<u8>]) -> u16 {

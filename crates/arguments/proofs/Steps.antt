@@ -1,5 +1,5 @@
 -- Laws of one step: a character of a word of shorts, a long form, a word.
-use Prim.Native.Nat.{ℕ, zero, suc, _+_, _-_, _<_, _≤_}
+use Prim.Native.Nat.{ℕ, suc, _+_, _-_, _<_, _≤_}
 use mathlib.Core.Path.{_≡_, refl, sym, ap, _∙_}
 use mathlib.Core.Bool.{true, false}
 use mathlib.Core.List.{List, [], _∷_}
@@ -7,7 +7,8 @@ use native.Mathlib.Omega.{arith}
 use types.Run.{OneOf, miss}
 use denote.Enum.Declared.{tagOf}
 use lib.ListN.{length, take, drop, length-take, length-drop}
-use lib.Seq.{drop-drop, take-take, take-nil}
+use lib.Seq.{drop-drop, take-take}
+use Rattle.buffer.proofs.Lists.{drop-take}
 use borrow.Author.Tests.{lt-ltb, le-ltb}
 use Rattle.buffer.proofs.Choices.{then-is, else-is}
 use Rattle.text.specs.Unicode.{encode}
@@ -141,13 +142,6 @@ module _ (words image : List ℕ) (s r : Scan) (defs : List Frame) (w k : List �
   pub long-unknown : length k ≤ e → meaning (hasKey k) defs ≡ nothing → partOf words start e ≡ k
       → ((rest : List ℕ) → f rest ≡ unknownOption (dash ∷ dash ∷ partOf words start e)) → LongTo
   long-unknown h t a g = long-by nothing h t (λ rest. g rest ∙ ap (λ (x : List ℕ). unknownOption (dash ∷ dash ∷ x)) a)
-
--- what is left of the first n
-pub drop-take : (m n : ℕ) (l : List ℕ) → drop m (take n l) ≡ take (n - m) (drop m l)
-drop-take zero n l = let k : n - 0 ≡ n = omega arith in sym (ap (λ (j : ℕ). take j l) k)
-drop-take (suc m) zero l = let k : 0 - suc m ≡ 0 = omega arith in sym (ap (λ (j : ℕ). take j (drop (suc m) l)) k)
-drop-take (suc m) (suc n) [] = sym (take-nil (suc n - suc m))
-drop-take (suc m) (suc n) (a ∷ l) = let k : suc n - suc m ≡ n - m = omega arith in drop-take m n l ∙ sym (ap (λ (j : ℕ). take j (drop m l)) k)
 
 -- parts of a part of the words
 module _ (words : List ℕ) (start end : ℕ) (o : start ≤ end) (l : end ≤ length words) where

@@ -7,6 +7,7 @@ use native.Mathlib.Omega.{arith}
 use lib.Dec.{eqb, ltb}
 use lib.ListN.{length, take, drop, getD, length-take, length-drop}
 use lib.Seq.{drop-drop, getD-drop, getD-take, take-take}
+use Rattle.buffer.proofs.Lists.{drop-take}
 use borrow.Author.Tests.{lt-ltb, le-ltb, eq-eqb, ne-eqb}
 use Rattle.buffer.proofs.Choices.{then-is, else-is}
 use types.Run.{OneOf}
@@ -31,7 +32,7 @@ use Rattle.arguments.specs.Arguments.{noneFound, Stand, go, withPosition
 use Rattle.arguments.specs.Inner.{stored, foundOf, standOf, WellSplit, KeySmall, Apt, Moved, Kept, Stepped, Scanned}
 use Rattle.arguments.specs.declared.standing.Progress.the-variants.{Going}
 use Rattle.arguments.specs.declared.standing.Scan.{Scan}
-use Rattle.arguments.proofs.Steps.{stand-by, drop-take}
+use Rattle.arguments.proofs.Steps.{stand-by}
 
 -- THE CHARACTERS of a word of shorts
 pub record ShortsAt (words image : List ℕ) (defs : List Frame) (letters : List ℕ) (s₀ s : Scan) (at : ℕ) : Type 0 where

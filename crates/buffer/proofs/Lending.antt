@@ -6,7 +6,7 @@ use native.Mathlib.Omega.{arith}
 use native.Mathlib.Numerals.{add-one}
 use native.Mathlib.Nat.{le-of-lt}
 use lib.ListN.{length, take, drop, set, getD, length-append, length-drop, length-take, take-append-drop}
-use lib.Seq.{take-append-le, take-take, set-at, take-suc, append-snoc, length-take-le, take-all, drop-drop, take-at, drop-at, set-split, drop-length}
+use lib.Seq.{take-append-le, drop-append-le, take-append-add, drop-append-add, take-take, set-at, take-suc, append-snoc, length-take-le, take-all, drop-drop, take-at, drop-at, set-split, drop-length}
 use borrow.Rule.Slice.PartMut.{putMid, post-is}
 use Rattle.buffer.specs.Write.{over, overAt}
 use Rattle.buffer.proofs.Lists.{drop-step}
@@ -104,3 +104,20 @@ overAt-before x y d o h =
     ∙ ap (λ (l : List ℕ). take o d ++ (x ++ l)) beyond
     ∙ ap (λ (l : List ℕ). take o d ++ l) (sym (append-assoc x y (drop (length y) (drop p d))))
     ∙ ap (λ (l : List ℕ). take o d ++ ((x ++ y) ++ l)) tail
+
+-- a write within the first of two parts, and one within the second
+pub overAt-first : (x a b : List ℕ) (o : ℕ) → o + length x ≤ length a → overAt x (a ++ b) o ≡ overAt x a o ++ b
+unfolding over overAt
+overAt-first x a b o h =
+    let d = length-drop o a in
+    ap (λ (l : List ℕ). l ++ (x ++ drop (length x) (drop o (a ++ b)))) (take-append-le o a b (omega arith))
+    ∙ ap (λ (l : List ℕ). take o a ++ (x ++ l)) (ap (drop (length x)) (drop-append-le o a b (omega arith)) ∙ drop-append-le (length x) (drop o a) b (omega arith))
+    ∙ ap (λ (l : List ℕ). take o a ++ l) (sym (append-assoc x (drop (length x) (drop o a)) b))
+    ∙ sym (append-assoc (take o a) (x ++ drop (length x) (drop o a)) b)
+
+pub overAt-second : (x a b : List ℕ) (o : ℕ) → overAt x (a ++ b) (length a + o) ≡ a ++ overAt x b o
+unfolding over overAt
+overAt-second x a b o =
+    ap (λ (l : List ℕ). l ++ (x ++ drop (length x) (drop (length a + o) (a ++ b)))) (take-append-add a b o)
+    ∙ ap (λ (l : List ℕ). (a ++ take o b) ++ (x ++ drop (length x) l)) (drop-append-add a b o)
+    ∙ append-assoc a (take o b) (x ++ drop (length x) (drop o b))

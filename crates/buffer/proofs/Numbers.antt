@@ -1,7 +1,7 @@
 -- Laws of numbers in bytes, over their width: a number is that of its bytes, and bytes are those of their number.
 use Prim.Native.Nat.{ℕ, zero, suc, _+_, _*_, _/_, _%_, _^_, _≤_, _<_}
 use mathlib.Core.Path.{_≡_, refl, ap, _∙_}
-use mathlib.Core.List.{List, [], _∷_}
+use mathlib.Core.List.{List, [], _∷_, _++_}
 use native.Mathlib.Omega.{arith}
 use native.Mathlib.Nat.{add-zero, div-one, mod-lt, one-le-pow, div-add-mod', mul-add-div-right, mul-add-mod-self-right, div-eq-of-lt, mod-eq-of-lt, mul-le-mul-right, pow-suc}
 use lib.ListN.{length, take, drop, getD}
@@ -72,6 +72,13 @@ bytes-take (suc n) (b ∷ s) h (suc i) = bytes-take n s (λ j. h (suc j)) i
 pub bytes-drop : (n : ℕ) (s : List ℕ) → Bytes s → Bytes (drop n s)
 unfolding Bytes
 bytes-drop n s b i = rw (getD-drop n s i 0) (b (n + i))
+
+-- and so are two together
+pub bytes-append : (s t : List ℕ) → Bytes s → Bytes t → Bytes (s ++ t)
+unfolding Bytes
+bytes-append [] t h k i = k i
+bytes-append (b ∷ s) t h k zero = h 0
+bytes-append (b ∷ s) t h k (suc i) = bytes-append s t (λ j. h (suc j)) k i
 
 -- the number in front of a place
 pub value-two : (s : List ℕ) (at : ℕ) → at + 1 < length s → numberOf (take 2 (drop at s)) ≡ getD s at 0 * 256 + getD s (at + 1) 0

@@ -10,6 +10,7 @@ pub use lend::byte_at;
 pub use lend::octet_at;
 pub use lend::part;
 pub use lend::rest;
+pub use maximum::greater;
 pub use maximum::greatest_byte;
 pub use measuring::put;
 pub use measuring::put_byte;

@@ -4,7 +4,7 @@ ghost use Prim.Native.Nat.{max};
 ghost use Rattle.buffer.specs.Greatest.{greatest};
 
 // The greater of two bytes.
-fn greater(a: u8, b: u8) -> u8
+pub fn greater(a: u8, b: u8) -> u8
     ensures { λ r. ⌜ r ≡ max a b ⌝ }
 {
     if a < b { b } else { a }

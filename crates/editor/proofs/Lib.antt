@@ -11,5 +11,6 @@ pub mod Always
 pub mod Sequences
 pub mod Fine
 pub mod Called
+pub mod Begun
 pub mod Saved
 pub mod Lasting

@@ -1,10 +1,11 @@
 -- What an action does (STANDARD 2 and 3): the state after it, what it shows and what it submits.
 use Prim.Native.Nat.{ℕ, _+_, _-_}
+use mathlib.Core.Path.{_≡_}
 use mathlib.Core.Bool.{cond}
 use mathlib.Core.List.{List, [], _∷_, _++_}
 use lib.Dec.{ltb, eqb}
 use lib.ListN.{length}
-use Rattle.history.specs.Journal.{Journal, noEntries, count, entryOf, offered, atPlace}
+use Rattle.history.specs.Journal.{Journal, noEntries, count, entryOf, offered, atPlace, Alike}
 use Rattle.screen.specs.Redraw.{redraw}
 use Rattle.keys.specs.declared.standing.Profile.{Profile}
 use Rattle.keys.specs.declared.standing.Mode.{Mode}
@@ -22,6 +23,14 @@ pub record State : Type 0 where
   pub mode : Mode
   pub profile : Profile
   pub history : Journal
+
+-- two states that differ in where their history begins, and in nothing else (3.18)
+pub record SameBut (s t : State) : Type 0 where
+  pub line : t .line ≡ s .line
+  pub cursor : t .cursor ≡ s .cursor
+  pub mode : t .mode ≡ s .mode
+  pub profile : t .profile ≡ s .profile
+  pub history : Alike (s .history) (t .history)
 
 -- what a key does: the state after it, the bytes it shows, the line it submits
 pub data Kind : Type 0 where

@@ -1,5 +1,5 @@
 -- Laws of following words: one word, then the words after it from the subtree that it names.
-use Prim.Native.Nat.{ℕ, zero, suc, _+_, _-_, _≤_}
+use Prim.Native.Nat.{ℕ, suc, _+_, _-_, _≤_}
 use mathlib.Core.Path.{_≡_, refl, sym, ap, _∙_}
 use mathlib.Core.Bool.{Bool, true, false, cond}
 use mathlib.Core.List.{List, [], _∷_}
@@ -7,7 +7,7 @@ use native.Mathlib.Omega.{arith}
 use native.Mathlib.Numerals.{add-one}
 use lib.ListN.{length, take, drop, length-take, length-drop}
 use lib.Seq.{drop-drop, take-take, take-all}
-use Rattle.buffer.proofs.Lists.{drop-end}
+use Rattle.buffer.proofs.Lists.{drop-end, drop-take}
 use Rattle.text.specs.Apart.{wordsBetween, nextWord}
 use Rattle.text.specs.declared.apart.Word.{Word}
 use Rattle.text.specs.declared.apart.Word.the-variants.{At, Nothing}
@@ -78,16 +78,6 @@ unfolding subtree findNode spot
 find-none d name fs fit e = rw (frames-flat fs fit, place-none (wanted (Node d) name) (endedBy (Node d)) fs (rooted-none d _ e))
 
 -- a part of a part is a part of the whole
-drop-take : (k n : ℕ) (l : List ℕ) → drop k (take n l) ≡ take (n - k) (drop k l)
-drop-take zero n l = let e : n - 0 ≡ n = omega arith in rw e
-drop-take (suc k) zero l = let e : 0 - suc k ≡ 0 = omega arith in rw e
-drop-take (suc k) (suc n) [] = by (suc n - suc k)
-  where
-    by : (m : ℕ) → [] ≡ take {A = ℕ} m []
-    by zero = refl
-    by (suc m) = refl
-drop-take (suc k) (suc n) (x ∷ l) = let e : suc n - suc k ≡ n - k = omega arith in rw e (drop-take k n l)
-
 part-of-part : (s : List ℕ) (start end first last : ℕ) → start ≤ end → first ≤ last → last ≤ end - start → between (between s start end) first last ≡ between s (start + first) (start + last)
 part-of-part s start end first last h k m =
     let n : start + last - (start + first) ≡ last - first = omega arith in

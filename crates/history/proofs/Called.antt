@@ -9,12 +9,12 @@ use lib.ListN.{length, getD}
 use borrow.Author.Tests.{ltb-false}
 use Rattle.text.specs.Decoding.{wellFormedLength, wellFormed}
 use Rattle.history.specs.Entries.{mostEntries, isNew, total}
-use Rattle.history.specs.Journal.{count, entryOf, offered, recordOf, journalOf, good}
-use Rattle.history.specs.Answer.{addAnswer, recordBy, Addition}
+use Rattle.history.specs.Journal.{Journal, count, entryOf, offered, recordOf, journalOf, good}
+use Rattle.history.specs.Answer.{addAnswer, recordBy, slotsBy, Addition}
 use Rattle.history.specs.declared.stepping.History.{History}
 use Rattle.history.specs.declared.adding.Added.{Added}
 use Rattle.history.specs.declared.adding.Added.the-variants.{Done, BadState as BadHistory, TooLong, IllFormed}
-use Rattle.history.proofs.Journals.{Fair, good-fair, fair-offered, good-total}
+use Rattle.history.proofs.Journals.{Fair, good-fair, fair-held, fair-offered, good-total}
 use Rattle.history.proofs.Totals.{total-added}
 
 -- a text that is added is short and well-formed, and the state good
@@ -37,6 +37,17 @@ done-has h slots text d = by (good h slots) (ltb 255 (length text)) (wellFormed 
 -- and the history after it keeps the rules
 pub taken-fair : (h : History) (slots text : List ℕ) → Taken h slots text → Fair (offered text (journalOf h slots))
 taken-fair h slots text t = fair-offered text (journalOf h slots) (good-fair h slots (t .is-good)) (t .short) (t .formed)
+
+-- what is held after it
+pub add-after : (h : History) (slots text : List ℕ) (r : History) (left : List ℕ) → Addition h slots text r Done left → journalOf r left ≡ offered text (journalOf h slots)
+add-after h slots text r left a =
+    let d : addAnswer (good h slots) text ≡ Done = sym (a .answer) in
+    let j : Journal = offered text (journalOf h slots) in
+    held (a .state ∙ ap (λ (x : Added). recordBy x h j) d) (a .bytes ∙ ap (λ (x : Added). slotsBy x slots j) d)
+    ∙ fair-held j (taken-fair h slots text (done-has h slots text d))
+  where
+    held : {p q : History} {s t : List ℕ} → p ≡ q → s ≡ t → journalOf p s ≡ journalOf q t
+    held u v = cc
 
 -- the total after it: that before, with what is added and without what is dropped
 pub added-total : (h : History) (slots text : List ℕ) (r : History) (left : List ℕ) → Addition h slots text r Done left

@@ -1,5 +1,5 @@
 -- Laws of a history as one value: who holds one that keeps the rules is good, and holds just what it says, its total among it; offering a text and a step keep the rules.
-use Prim.Native.Nat.{ℕ, zero, suc, _+_, _-_, _≤_}
+use Prim.Native.Nat.{ℕ, zero, suc, _+_, _-_, _<_, _≤_}
 use mathlib.Core.Path.{_≡_, refl, sym, ap, _∙_}
 use mathlib.Core.Bool.{Bool, true, false, cond}
 use mathlib.Core.List.{List, [], _∷_}
@@ -13,15 +13,16 @@ use Rattle.buffer.proofs.Choices.{true-is-not-false}
 use Rattle.text.proofs.Prefix.{prefix-none, codes-none}
 use Rattle.text.specs.Apart.{blank}
 use Rattle.text.specs.Decoding.{wellFormed}
-use Rattle.history.specs.Entries.{usable, sound, total}
-use Rattle.history.specs.Slots.{run, layout, entriesOf}
-use Rattle.history.specs.Journal.{Journal, noEntries, count, entryOf, offered, atPlace, recordOf, slotsOf, journalOf, good}
+use Rattle.history.specs.Entries.{mostEntries, isNew, usable, sound, total}
+use Rattle.history.specs.Slots.{slotAfter, layout, entriesFrom}
+use Rattle.history.specs.Journal.{Journal, noEntries, count, entryOf, firstAfter, offered, atPlace, recordOf, slotsOf, journalOf, good}
 use Rattle.history.specs.Steps.{placedAt, back, recalledAt, onward}
 use Rattle.history.specs.Saved.{Fits}
 use Rattle.history.specs.declared.stepping.History.{History}
 use Rattle.history.specs.declared.stepping.Recalled.the-variants.{Entry, Nothing}
 use Rattle.history.specs.declared.stepping.Step.{Step}
-use Rattle.history.proofs.Layouts.{none, length-layout, length-entries, entries-layout}
+use Rattle.history.proofs.Turned.{after-below, length-entries}
+use Rattle.history.proofs.Layouts.{none, length-layout, entries-layout, no-entries}
 use Rattle.history.proofs.Steps.{same-numbers}
 use Rattle.history.proofs.Totals.{total-most}
 use Rattle.history.proofs.States.{holds, Good, good-has, good-short, short-at}
@@ -31,11 +32,12 @@ use Rattle.history.proofs.Kept.{good-of, Entries, added-entries}
 pub record Fair (j : Journal) : Type 0 where
   pub entries : Entries (j .entries)
   pub placed : j .place ≤ count j
+  pub begins : j .first < 100
 
 -- what a record and slots hold
 pub count-held : (h : History) (slots : List ℕ) → count (journalOf h slots) ≡ h .count
 unfolding journalOf
-count-held h slots = length-entries (h .count) slots
+count-held h slots = length-entries (h .first) (h .count) slots
 
 pub place-held : (h : History) (slots : List ℕ) → journalOf h slots .place ≡ h .place
 unfolding journalOf
@@ -46,14 +48,14 @@ pub good-fair : (h : History) (slots : List ℕ) → good h slots ≡ true → F
 unfolding journalOf
 good-fair h slots g =
     let k = good-has h slots g in
-    let n = length-entries (h .count) slots in
+    let n = length-entries (h .first) (h .count) slots in
     let a = k .counted in
     let b = k .placed in
-    record { entries = record { short = good-short h slots k; few = omega arith; is-sound = k .is-sound }; placed = omega arith }
+    record { entries = record { short = good-short h slots k; few = omega arith; is-sound = k .is-sound }; placed = omega arith; begins = k .begins }
 
 pub record-held : (h : History) (slots : List ℕ) → good h slots ≡ true → recordOf (journalOf h slots) ≡ h
 unfolding recordOf journalOf
-record-held h slots g = same-numbers (length-entries (h .count) slots) refl (sym (good-has h slots g .tallies))
+record-held h slots g = same-numbers (length-entries (h .first) (h .count) slots) refl (sym (good-has h slots g .tallies)) refl
 
 pub slots-held : (h : History) (slots : List ℕ) → good h slots ≡ true → slotsOf (journalOf h slots) ≡ slots
 unfolding slotsOf journalOf
@@ -62,38 +64,50 @@ slots-held h slots g = good-has h slots g .laid
 -- and back: what holds a history within the rules is good, and holds that history
 pub fair-held : (j : Journal) → Fair j → journalOf (recordOf j) (slotsOf j) ≡ j
 unfolding journalOf recordOf slotsOf
-fair-held j f = ap (λ (es : List (List ℕ)). record { entries = es; place = j .place }) (entries-layout (j .entries) (f .entries .short))
+fair-held j f =
+    ap (λ (es : List (List ℕ)). record { entries = es; place = j .place; first = j .first }) (entries-layout (j .first) (j .entries) (f .begins) (f .entries .short) (f .entries .few))
 
 pub fair-good : (j : Journal) → Fair j → good (recordOf j) (slotsOf j) ≡ true
 unfolding recordOf slotsOf
 fair-good j f =
     let es : List (List ℕ) = j .entries in
-    let back : entriesOf (length es) (layout es) ≡ es = entries-layout es (f .entries .short) in
-    good-of (record { count = length es; place = j .place; total = total es }) (layout es)
+    let back : entriesFrom (j .first) (length es) (layout (j .first) es) ≡ es = entries-layout (j .first) es (f .begins) (f .entries .short) (f .entries .few) in
+    good-of (record { count = length es; place = j .place; total = total es; first = j .first }) (layout (j .first) es)
     (record {
-      size = length-layout es (f .entries .short) (f .entries .few);
+      size = length-layout (j .first) es (f .entries .short) (f .entries .few);
+      begins = f .begins;
       counted = f .entries .few;
       placed = f .placed;
       is-sound = ap (sound []) back ∙ f .entries .is-sound;
-      laid = ap layout back;
+      laid = ap (layout (j .first)) back;
       tallies = sym (ap total back);
     })
 
 -- no entry: slots that are all zeros
 pub none-zeros : slotsOf noEntries ≡ zeros 25600
-unfolding slotsOf layout run
-none-zeros = refl
+unfolding slotsOf
+none-zeros = no-entries
 
 -- no entry, a text offered, another place
 pub fair-none : Fair noEntries
 unfolding sound
-fair-none = record { entries = record { short = none; few = omega arith; is-sound = refl }; placed = omega arith }
+fair-none = record { entries = record { short = none; few = omega arith; is-sound = refl }; placed = omega arith; begins = omega arith }
+
+first-below : (text : List ℕ) (es : List (List ℕ)) (f : ℕ) → f < 100 → firstAfter text es f < 100
+unfolding firstAfter
+first-below text es f h = by (isNew text es) (ltb (length es) mostEntries)
+  where
+    by : (n r : Bool) → cond n (cond r f (slotAfter f 1)) f < 100
+    by false r = h
+    by true true = h
+    by true false = after-below f 1
 
 pub fair-offered : (text : List ℕ) (j : Journal) → Fair j → length text ≤ 255 → wellFormed text ≡ true → Fair (offered text j)
-fair-offered text j f l w = record { entries = added-entries (j .entries) text (f .entries) l w; placed = omega arith }
+fair-offered text j f l w =
+    record { entries = added-entries (j .entries) text (f .entries) l w; placed = omega arith; begins = first-below text (j .entries) (j .first) (f .begins) }
 
 pub fair-placed : (j : Journal) (place : ℕ) → Fair j → place ≤ count j → Fair (atPlace j place)
-fair-placed j place f h = record { entries = f .entries; placed = h }
+fair-placed j place f h = record { entries = f .entries; placed = h; begins = f .begins }
 
 -- an entry of one is short and well-formed
 pub fair-short : (j : Journal) (n : ℕ) → Fair j → length (entryOf j n) ≤ 255
@@ -126,8 +140,8 @@ unfolding journalOf
 good-total h slots g =
     let k = good-has h slots g in
     let a = k .tallies in
-    let b = total-most (entriesOf (h .count) slots) (good-short h slots k) in
-    let n = length-entries (h .count) slots in
+    let b = total-most (entriesFrom (h .first) (h .count) slots) (good-short h slots k) in
+    let n = length-entries (h .first) (h .count) slots in
     let c = k .counted in
     (a, omega arith)
 
@@ -139,14 +153,14 @@ wrong-total h slots n = by (good h slots) refl
     by true g = absurd (n (good-total h slots g .0))
     by false g = refl
 
-pub one-total : (h : History) (slots : List ℕ) (n : ℕ) → good h slots ≡ true → good (record { count = h .count; place = h .place; total = n }) slots ≡ eqb n (h .total)
-one-total h slots n g = by (eqb n (h .total)) refl (good (record { count = h .count; place = h .place; total = n }) slots) refl
+pub one-total : (h : History) (slots : List ℕ) (n : ℕ) → good h slots ≡ true → good (record { count = h .count; place = h .place; total = n; first = h .first }) slots ≡ eqb n (h .total)
+one-total h slots n g = by (eqb n (h .total)) refl (good (record { count = h .count; place = h .place; total = n; first = h .first }) slots) refl
   where
     k : Good h slots
     k = good-has h slots g
 
-    by : (t : Bool) → eqb n (h .total) ≡ t → (u : Bool) → good (record { count = h .count; place = h .place; total = n }) slots ≡ u → u ≡ t
-    by true e u q = sym q ∙ ap (λ (m : ℕ). good (record { count = h .count; place = h .place; total = m }) slots) (eqb-true n (h .total) e) ∙ g
+    by : (t : Bool) → eqb n (h .total) ≡ t → (u : Bool) → good (record { count = h .count; place = h .place; total = n; first = h .first }) slots ≡ u → u ≡ t
+    by true e u q = sym q ∙ ap (λ (m : ℕ). good (record { count = h .count; place = h .place; total = m; first = h .first }) slots) (eqb-true n (h .total) e) ∙ g
     by false e false q = refl
     by false e true q = absurd (eqb-false n (h .total) e (good-has _ slots q .tallies ∙ sym (k .tallies)))
 
@@ -157,7 +171,8 @@ good-fits h slots g =
     let a = k .counted in
     let b = k .placed in
     let d = good-total h slots g .1 in
-    record { count = omega arith; place = omega arith; total = omega arith }
+    let e = k .begins in
+    record { count = omega arith; place = omega arith; total = omega arith; first = omega arith }
 
 -- a step moves the place only, and keeps it within the count
 pub record-placed : (j : Journal) (place : ℕ) → recordOf (atPlace j place) ≡ placedAt (recordOf j) place
@@ -171,7 +186,7 @@ slots-placed j place = refl
 pub placed-good : (h : History) (slots : List ℕ) (place : ℕ) → good h slots ≡ true → place ≤ h .count → good (placedAt h place) slots ≡ true
 placed-good h slots place g p =
     let k = good-has h slots g in
-    good-of (placedAt h place) slots (record { size = k .size; counted = k .counted; placed = p; is-sound = k .is-sound; laid = k .laid; tallies = k .tallies })
+    good-of (placedAt h place) slots (record { size = k .size; begins = k .begins; counted = k .counted; placed = p; is-sound = k .is-sound; laid = k .laid; tallies = k .tallies })
 
 pub back-good : (h : History) (slots : List ℕ) → good h slots ≡ true → good (back h .history) slots ≡ true
 unfolding back

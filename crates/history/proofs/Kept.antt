@@ -6,7 +6,7 @@ use mathlib.Core.List.{List, [], _∷_, _++_}
 use native.Mathlib.Omega.{arith}
 use lib.Dec.{ltb}
 use lib.ListN.{length, drop, length-append}
-use borrow.Author.Tests.{eq-eqb, le-leb, ltb-true, ltb-false}
+use borrow.Author.Tests.{eq-eqb, le-leb, lt-ltb, ltb-true, ltb-false}
 use Rattle.buffer.proofs.Choices.{then-is, else-is, true-is-not-false}
 use Rattle.buffer.proofs.Ordering.{is-same}
 use Rattle.buffer.specs.Compare.{sameBytes}
@@ -24,6 +24,7 @@ pub good-of : (h : History) (slots : List ℕ) → Good h slots → good h slots
 unfolding good mostEntries slotsOf journalOf
 good-of h slots g =
     then-is _ _ _ (eq-eqb _ _ (g .size))
+    ∙ then-is _ _ _ (lt-ltb _ _ (g .begins))
     ∙ then-is _ _ _ (le-leb _ _ (g .counted))
     ∙ then-is _ _ _ (le-leb _ _ (g .placed))
     ∙ then-is _ _ _ (g .is-sound)

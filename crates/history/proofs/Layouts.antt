@@ -1,22 +1,27 @@
 -- Laws of the layout: entries and the slots that hold them are each other's inverse.
-use Prim.Native.Nat.{ℕ, zero, suc, _+_, _-_, _*_, _<_, _≤_}
+use Prim.Native.Nat.{ℕ, zero, suc, _+_, _-_, _*_, _%_, _<_, _≤_}
 use mathlib.Core.Path.{_≡_, refl, sym, ap, _∙_}
 use mathlib.Core.List.{List, [], _∷_, _++_, append-assoc, append-nil}
 use native.Mathlib.Omega.{arith}
-use lib.ListN.{length, take, drop, set, getD, replicate, length-append, length-replicate, replicate-append-replicate, length-drop}
-use lib.Seq.{take-at, drop-at, take-append-seam, length-take-le, getD-append-add, getD-drop}
+use lib.ListN.{length, take, drop, set, getD, replicate, length-append, replicate-append-replicate}
+use lib.Seq.{take-at, drop-at, drop-drop, take-append-seam, getD-take, getD-drop}
 use Rattle.buffer.proofs.Lists.{drop-end}
 use Rattle.buffer.proofs.Zeros.{length-zeros, drop-zeros}
-use Rattle.buffer.proofs.Lending.{copy-step, copy-end, length-overAt, overAt-front, overAt-nothing, overAt-byte, overAt-both}
+use Rattle.buffer.proofs.Lending.{length-overAt, overAt-front, overAt-nothing, overAt-byte, overAt-both}
 use Rattle.buffer.proofs.Writing.{pushed-both}
 use Rattle.buffer.specs.Write.{over, overAt, Pushed}
 use Rattle.buffer.specs.Lend.{zeros}
 use Rattle.history.specs.Entries.{mostEntries}
-use Rattle.history.specs.Slots.{slotSize, slotsSize, slot, run, layout, entry, entriesOf}
+use Rattle.history.specs.Slots.{slotSize, slotCount, slotsSize, slotAfter, slot, run, inOrder, turned, layout, slotAt, entry, entriesFrom}
+use Rattle.history.specs.Inner.{entriesOf}
+use Rattle.history.proofs.Turned.{length-turned, turned-parts, turned-back, turned-on, turned-next, slot-turned, write-turned, after-below, entries-turned}
 
--- the buffer is a slot for each entry that a history may have
-pub slots-size : slotsSize ≡ mostEntries * slotSize
+-- there is a slot for each entry that a history may have, and the buffer is these
+pub slots-count : slotCount ≡ mostEntries
 unfolding mostEntries
+slots-count = refl
+
+pub slots-size : slotsSize ≡ slotCount * slotSize
 slots-size = refl
 
 -- a slot has 256 bytes, if its text has at most 255
@@ -80,65 +85,59 @@ unfolding entry slot
 entry-slot e rest =
     ap (take (length e)) (append-assoc e (zeros (255 - length e)) rest) ∙ take-append-seam e (zeros (255 - length e) ++ rest)
 
-pub length-entries : (n : ℕ) (bytes : List ℕ) → length (entriesOf n bytes) ≡ n
-unfolding entriesOf
-length-entries zero bytes = refl
-length-entries (suc n) bytes = ap suc (length-entries n (drop 256 bytes))
+pub entry-alone : (e : List ℕ) → entry (slot e) ≡ e
+entry-alone e = ap entry (sym (append-nil (slot e))) ∙ entry-slot e []
 
-pub entries-run : (es : List (List ℕ)) (rest : List ℕ) → Short es → entriesOf (length es) (run es ++ rest) ≡ es
+entries-run : (es : List (List ℕ)) (rest : List ℕ) → Short es → entriesOf (length es) (run es ++ rest) ≡ es
 unfolding entriesOf run
 entries-run [] rest none = refl
 entries-run (e ∷ es) rest (more h hs) =
     let split : (slot e ++ run es) ++ rest ≡ slot e ++ (run es ++ rest) = append-assoc (slot e) (run es) rest in
-    ap (λ (l : List ℕ). entry l ∷ entriesOf (length es) (drop 256 l)) split
-    ∙ ap (λ (x : List ℕ). x ∷ entriesOf (length es) (drop 256 (slot e ++ (run es ++ rest)))) (entry-slot e (run es ++ rest))
+    ap (λ (l : List ℕ). entry (take 256 l) ∷ entriesOf (length es) (drop 256 l)) split
+    ∙ ap (λ (l : List ℕ). entry l ∷ entriesOf (length es) (drop 256 (slot e ++ (run es ++ rest)))) (take-at (slot e) (run es ++ rest) 256 (length-slot e h))
+    ∙ ap (λ (x : List ℕ). x ∷ entriesOf (length es) (drop 256 (slot e ++ (run es ++ rest)))) (entry-alone e)
     ∙ ap (λ (l : List ℕ). e ∷ entriesOf (length es) l) (drop-at (slot e) (run es ++ rest) 256 (length-slot e h))
     ∙ ap (λ (l : List (List ℕ)). e ∷ l) (entries-run es rest hs)
 
-pub entries-layout : (es : List (List ℕ)) → Short es → entriesOf (length es) (layout es) ≡ es
-unfolding layout
-entries-layout es h = entries-run es (zeros (25600 - 256 * length es)) h
+-- slots in the order of the entries
+entries-in-order : (es : List (List ℕ)) → Short es → entriesOf (length es) (inOrder es) ≡ es
+unfolding inOrder
+entries-in-order es h = entries-run es (zeros (25600 - 256 * length es)) h
 
-pub length-layout : (es : List (List ℕ)) → Short es → length es ≤ 100 → length (layout es) ≡ 25600
-unfolding layout
-length-layout es h k =
+pub length-in-order : (es : List (List ℕ)) → Short es → length es ≤ 100 → length (inOrder es) ≡ 25600
+unfolding inOrder
+length-in-order es h k =
     let l = length-append (run es) (zeros (25600 - 256 * length es)) in
     let r = length-run es h in
     let z = length-zeros (25600 - 256 * length es) in
     omega arith
 
-pub layout-short : (es : List (List ℕ)) → length es ≤ 100 → length (layout es) ≡ 25600 → Short es
-unfolding layout
-layout-short es k e =
+in-order-short : (es : List (List ℕ)) → length es ≤ 100 → length (inOrder es) ≡ 25600 → Short es
+unfolding inOrder
+in-order-short es k e =
     let l = length-append (run es) (zeros (25600 - 256 * length es)) in
     let z = length-zeros (25600 - 256 * length es) in
     run-short es (omega arith)
 
--- a layout of 100 entries has no unused slot
-no-room : (es : List (List ℕ)) → length es ≡ 100 → layout es ≡ run es
-unfolding layout zeros
-no-room es e = ap (λ (n : ℕ). run es ++ replicate (25600 - 256 * n) 0) e ∙ append-nil (run es)
+zeros-both : (a c : ℕ) → zeros a ++ zeros c ≡ zeros (a + c)
+unfolding zeros
+zeros-both a c = replicate-append-replicate {A = ℕ} a c 0
 
-after-first : (e : List ℕ) (es : List (List ℕ)) → length e ≤ 255 → length es ≡ 99 → drop 256 (layout (e ∷ es)) ≡ run es
-unfolding run
-after-first e es h k = ap (drop 256) (no-room (e ∷ es) (omega arith)) ∙ drop-at (slot e) (run es) 256 (length-slot e h)
+-- 100 entries leave no slot unused
+in-order-full : (es : List (List ℕ)) → length es ≡ 100 → inOrder es ≡ run es
+unfolding inOrder zeros
+in-order-full es e = ap (λ (n : ℕ). run es ++ replicate (25600 - 256 * n) 0) e ∙ append-nil (run es)
 
--- a write right after a write at the front, up to the buffer's end, is all that is left
-overAt-after : (y x d : List ℕ) (o : ℕ) → length x ≡ o → length d ≡ o + length y → overAt y (over x d) o ≡ x ++ y
-unfolding overAt over
-overAt-after y x d o e f =
-    let rest : List ℕ = drop (length x) d in
-    let none : drop (length y) rest ≡ [] = drop-end rest (length y) (let l = length-drop (length x) d in omega arith) in
-    ap (λ (l : List ℕ). l ++ (y ++ drop (length y) (drop o (x ++ rest)))) (take-at x rest o e)
-    ∙ ap (λ (l : List ℕ). x ++ (y ++ drop (length y) l)) (drop-at x rest o e)
-    ∙ ap (λ (l : List ℕ). x ++ (y ++ l)) none
-    ∙ ap (λ (l : List ℕ). x ++ l) (append-nil y)
+-- what lies after the entries
+in-order-rest : (es : List (List ℕ)) → Short es → drop (256 * length es) (inOrder es) ≡ zeros (25600 - 256 * length es)
+unfolding inOrder
+in-order-rest es h = drop-at (run es) (zeros (25600 - 256 * length es)) (256 * length es) (length-run es h)
 
 -- one entry more, in the first unused slot
-pub layout-more : (es : List (List ℕ)) (t : List ℕ) → Short es → length es < 100 → length t ≤ 255
-    → overAt (slot t) (layout es) (256 * length es) ≡ layout (es ++ (t ∷ []))
-unfolding overAt over layout
-layout-more es t h k l =
+in-order-more : (es : List (List ℕ)) (t : List ℕ) → Short es → length es < 100 → length t ≤ 255
+    → overAt (slot t) (inOrder es) (256 * length es) ≡ inOrder (es ++ (t ∷ []))
+unfolding overAt over inOrder
+in-order-more es t h k l =
     let n : ℕ = 256 * length es in
     let room : ℕ = 25600 - n in
     let size : length (run es) ≡ n = length-run es h in
@@ -151,15 +150,124 @@ layout-more es t h k l =
     ∙ sym (append-assoc (run es) (slot t) (zeros (25600 - 256 * length (es ++ (t ∷ [])))))
     ∙ ap (λ (x : List ℕ). x ++ zeros (25600 - 256 * length (es ++ (t ∷ [])))) (sym (run-append es (t ∷ []) ∙ ap (λ (x : List ℕ). run es ++ x) (run-one t)))
 
--- one entry more where all slots are in use: the others have moved down by a slot
-pub layout-full : (e : List ℕ) (es : List (List ℕ)) (t : List ℕ) → Short (e ∷ es) → length es ≡ 99 → length t ≤ 255
-    → overAt (slot t) (over (drop 256 (layout (e ∷ es))) (layout (e ∷ es))) 25344 ≡ layout (es ++ (t ∷ []))
-layout-full e es t (more h hs) k l =
-    ap (λ (x : List ℕ). overAt (slot t) (over x (layout (e ∷ es))) 25344) (after-first e es h k)
-    ∙ overAt-after (slot t) (run es) (layout (e ∷ es)) 25344 (let r = length-run es hs in omega arith) (rw (length-layout (e ∷ es) (more h hs) (omega arith), length-slot t l) refl)
-    ∙ ap (λ (x : List ℕ). run es ++ x) (sym (run-one t))
+-- each slot of them: that of an entry, and one without
+pub in-order-slot : (es : List (List ℕ)) (k : ℕ) → Short es → k < length es → take 256 (drop (256 * k) (inOrder es)) ≡ slot (getD es k [])
+unfolding inOrder run
+in-order-slot es k h b = by es k (zeros (25600 - 256 * length es)) h b
+  where
+    by : (es : List (List ℕ)) (k : ℕ) (rest : List ℕ) → Short es → k < length es → take 256 (drop (256 * k) (run es ++ rest)) ≡ slot (getD es k [])
+    by [] k rest h b = absurd (omega arith)
+    by (e ∷ es) zero rest (more h hs) b = ap (take 256) (append-assoc (slot e) (run es) rest) ∙ take-at (slot e) (run es ++ rest) 256 (length-slot e h)
+    by (e ∷ es) (suc k) rest (more h hs) b =
+        let on : 256 * suc k ≡ 256 + 256 * k = omega arith in
+        ap (λ (i : ℕ). take 256 (drop i ((slot e ++ run es) ++ rest))) on
+        ∙ ap (take 256) (sym (drop-drop (256 * k) 256 ((slot e ++ run es) ++ rest)))
+        ∙ ap (λ (s : List ℕ). take 256 (drop (256 * k) (drop 256 s))) (append-assoc (slot e) (run es) rest)
+        ∙ ap (λ (s : List ℕ). take 256 (drop (256 * k) s)) (drop-at (slot e) (run es ++ rest) 256 (length-slot e h))
+        ∙ by es k rest hs (omega arith)
+
+pub in-order-unused : (es : List (List ℕ)) (k : ℕ) → Short es → length es ≤ k → k < 100 → take 256 (drop (256 * k) (inOrder es)) ≡ zeros 256
+in-order-unused es k h l b =
+    let n : ℕ = 256 * length es in
+    let on : 256 * k ≡ n + (256 * k - n) = omega arith in
+    let left : 25600 - n - (256 * k - n) ≡ 256 + (25344 - 256 * k) = omega arith in
+    ap (λ (i : ℕ). take 256 (drop i (inOrder es))) on
+    ∙ ap (take 256) (sym (drop-drop (256 * k - n) n (inOrder es)) ∙ ap (drop (256 * k - n)) (in-order-rest es h) ∙ drop-zeros (256 * k - n) (25600 - n) ∙ ap zeros left)
+    ∙ front 256 (25344 - 256 * k)
+  where
+    front : (a c : ℕ) → take a (zeros (a + c)) ≡ zeros a
+    front a c = ap (take a) (sym (zeros-both a c)) ∙ take-at (zeros a) (zeros c) a (length-zeros a)
+
+-- the buffer, the oldest entry in its first slot
+pub length-layout : (f : ℕ) (es : List (List ℕ)) → Short es → length es ≤ 100 → length (layout f es) ≡ 25600
+unfolding layout
+length-layout f es h k = length-turned (100 - f) (inOrder es) ∙ length-in-order es h k
+
+pub layout-short : (f : ℕ) (es : List (List ℕ)) → length es ≤ 100 → length (layout f es) ≡ 25600 → Short es
+unfolding layout
+layout-short f es k e = in-order-short es k (sym (length-turned (100 - f) (inOrder es)) ∙ e)
+
+pub layout-turned : (f : ℕ) (es : List (List ℕ)) → f < 100 → Short es → length es ≤ 100 → turned f (layout f es) ≡ inOrder es
+unfolding layout
+layout-turned f es l h k = turned-on f (inOrder es) (omega arith) (length-in-order es h k)
+
+-- entries and the slots that hold them are each other's inverse
+pub entries-layout : (f : ℕ) (es : List (List ℕ)) → f < 100 → Short es → length es ≤ 100 → entriesFrom f (length es) (layout f es) ≡ es
+entries-layout f es l h k =
+    entries-turned f (length es) (layout f es) l k (length-layout f es h k)
+    ∙ ap (entriesOf (length es)) (layout-turned f es l h k)
+    ∙ entries-in-order es h
+
+-- a slot written where it lies is a slot written in the order of the entries
+written : (f k : ℕ) (x : List ℕ) (es : List (List ℕ)) → f < 100 → k < 100 → length x ≡ 256 → Short es → length es ≤ 100
+    → overAt x (layout f es) (256 * slotAfter f k) ≡ turned (100 - f) (overAt x (inOrder es) (256 * k))
+written f k x es l b n h m =
+    let size : length (layout f es) ≡ 25600 = length-layout f es h m in
+    let place = after-below f k in
+    let whole : length (overAt x (layout f es) (256 * slotAfter f k)) ≡ 25600 =
+    length-overAt x (layout f es) (256 * slotAfter f k) (omega arith) ∙ size
+    in
+    sym (turned-back f (overAt x (layout f es) (256 * slotAfter f k)) (omega arith) whole)
+    ∙ ap (turned (100 - f)) (write-turned f k (layout f es) l b size x n ∙ ap (λ (s : List ℕ). overAt x s (256 * k)) (layout-turned f es l h m))
+
+-- one entry more, in the slot after the newest
+pub layout-more : (f : ℕ) (es : List (List ℕ)) (t : List ℕ) → f < 100 → Short es → length es < 100 → length t ≤ 255
+    → overAt (slot t) (layout f es) (256 * slotAfter f (length es)) ≡ layout f (es ++ (t ∷ []))
+unfolding layout
+layout-more f es t l h k n =
+    written f (length es) (slot t) es l k (length-slot t n) h (omega arith) ∙ ap (turned (100 - f)) (in-order-more es t h k n)
+
+-- one entry more where all slots are in use: in that of the oldest, and the next is the first
+pub layout-full : (f : ℕ) (e : List ℕ) (es : List (List ℕ)) (t : List ℕ) → f < 100 → Short (e ∷ es) → length es ≡ 99 → length t ≤ 255
+    → overAt (slot t) (layout f (e ∷ es)) (256 * slotAfter f 100) ≡ layout (slotAfter f 1) (es ++ (t ∷ []))
+unfolding layout slotAfter run over
+layout-full f e es t l (more h hs) k n =
+    let here : (f + 100) % 100 ≡ (f + 0) % 100 = omega arith in
+    let size = length-slot t n in
+    let rest : drop (length (slot t)) (slot e ++ run es) ≡ run es = drop-at (slot e) (run es) (length (slot t)) (length-slot e h ∙ sym size) in
+    ap (λ (i : ℕ). overAt (slot t) (turned (100 - f) (inOrder (e ∷ es))) (256 * i)) here
+    ∙ written f 0 (slot t) (e ∷ es) l (omega arith) size (more h hs) (omega arith)
+    ∙ ap (λ (s : List ℕ). turned (100 - f) (overAt (slot t) s 0)) (in-order-full (e ∷ es) (omega arith))
+    ∙ ap (turned (100 - f)) (overAt-front (slot t) (slot e ++ run es) ∙ ap (λ (s : List ℕ). slot t ++ s) rest)
+    ∙ turned-next f (slot t) (run es) l size (let r = length-run es hs in omega arith)
+    ∙ ap (turned (100 - slotAfter f 1))
+    (ap (λ (s : List ℕ). run es ++ s) (sym (run-one t))
     ∙ sym (run-append es (t ∷ []))
-    ∙ sym (no-room (es ++ (t ∷ [])) (let b = length-append es (t ∷ []) in omega arith))
+    ∙ sym (in-order-full (es ++ (t ∷ [])) (let b = length-append es (t ∷ []) in omega arith)))
+
+-- the length byte of the slot after the newest: 0 where it is unused, that of the oldest where all are in use
+first-of : (f k : ℕ) (es : List (List ℕ)) → f < 100 → k < 100 → Short es → length es ≤ 100 → getD (layout f es) (256 * slotAfter f k) 0 ≡ getD (inOrder es) (256 * k) 0
+unfolding slotAt
+first-of f k es l b h m =
+    let here : 256 * slotAfter f k + 0 ≡ 256 * slotAfter f k = omega arith in
+    let there : 256 * k + 0 ≡ 256 * k = omega arith in
+    let same = slot-turned f k (layout f es) l b (length-layout f es h m) in
+    ap (λ (i : ℕ). getD (layout f es) i 0) (sym here)
+    ∙ sym (getD-drop (256 * slotAfter f k) (layout f es) 0 0)
+    ∙ sym (getD-take 256 (drop (256 * slotAfter f k) (layout f es)) 0 0 (omega arith))
+    ∙ ap (λ (s : List ℕ). getD s 0 0) (sym same)
+    ∙ getD-take 256 (drop (256 * k) (turned f (layout f es))) 0 0 (omega arith)
+    ∙ ap (λ (s : List ℕ). getD (drop (256 * k) s) 0 0) (layout-turned f es l h m)
+    ∙ getD-drop (256 * k) (inOrder es) 0 0
+    ∙ ap (λ (i : ℕ). getD (inOrder es) i 0) there
+
+pub unused-length : (f : ℕ) (es : List (List ℕ)) → f < 100 → Short es → length es < 100 → getD (layout f es) (256 * slotAfter f (length es)) 0 ≡ 0
+unfolding zeros
+unused-length f es l h k =
+    let there : 256 * length es + 0 ≡ 256 * length es = omega arith in
+    let some : 25600 - 256 * length es ≡ suc (25599 - 256 * length es) = omega arith in
+    first-of f (length es) es l k h (omega arith)
+    ∙ ap (λ (i : ℕ). getD (inOrder es) i 0) (sym there)
+    ∙ sym (getD-drop (256 * length es) (inOrder es) 0 0)
+    ∙ ap (λ (s : List ℕ). getD s 0 0) (in-order-rest es h)
+    ∙ ap (λ (n : ℕ). getD (replicate n 0) 0 0) some
+
+pub oldest-length : (f : ℕ) (es : List (List ℕ)) → f < 100 → Short es → length es ≡ 100 → getD (layout f es) (256 * slotAfter f 100) 0 ≡ length (getD es 0 [])
+unfolding slotAfter inOrder run slot
+oldest-length f [] l h k = absurd (omega arith)
+oldest-length f (e ∷ es) l h k =
+    let here : (f + 100) % 100 ≡ (f + 0) % 100 = omega arith in
+    ap (λ (i : ℕ). getD (layout f (e ∷ es)) (256 * i) 0) here ∙ first-of f 0 (e ∷ es) l (omega arith) h (omega arith)
 
 -- clearing in progress, from a place up to i
 pub clear-begin : (d : List ℕ) (at : ℕ) → d ≡ overAt (zeros (at - at)) d at
@@ -168,7 +276,7 @@ clear-begin d at = let e : at - at ≡ 0 = omega arith in sym (ap (λ (k : ℕ).
 
 zeros-more : (n : ℕ) → zeros n ++ (0 ∷ []) ≡ zeros (n + 1)
 unfolding zeros
-zeros-more n = replicate-append-replicate {A = ℕ} n 1 0
+zeros-more n = zeros-both n 1
 
 pub clear-turn : (d t : List ℕ) (at i : ℕ) → at ≤ i → i < length d → t ≡ overAt (zeros (i - at)) d at → set t i 0 ≡ overAt (zeros (i + 1 - at)) d at
 clear-turn d t at i h k e =
@@ -183,11 +291,11 @@ clear-turn d t at i h k e =
     ∙ ap (λ (l : List ℕ). overAt l d at) (zeros-more (i - at) ∙ ap zeros more)
 
 -- slots that are all zeros hold no entry
-pub no-entries : layout [] ≡ zeros 25600
-unfolding layout run
-no-entries = refl
+pub no-entries : layout 0 [] ≡ zeros 25600
+unfolding layout inOrder run
+no-entries = let e = turned-parts 100 (zeros 25600) [] (length-zeros 25600) in ap (turned 100) (sym (append-nil (zeros 25600))) ∙ e
 
-pub all-cleared : (slots : List ℕ) → length slots ≡ 25600 → overAt (zeros (25600 - 0)) slots 0 ≡ layout []
+pub all-cleared : (slots : List ℕ) → length slots ≡ 25600 → overAt (zeros (25600 - 0)) slots 0 ≡ layout 0 []
 unfolding over
 all-cleared slots k =
     overAt-front (zeros 25600) slots
@@ -207,27 +315,3 @@ slot-stored t d d₁ d₂ at a b h k p q =
     ∙ ap (λ (l : List ℕ). overAt (zeros (255 - length t)) l b) (both .bytes)
     ∙ ap (overAt (zeros (255 - length t)) (overAt ((length t ∷ []) ++ t) d at)) place
     ∙ overAt-both ((length t ∷ []) ++ t) (zeros (255 - length t)) d at (omega arith)
-
--- a move down by a slot in progress: the byte that is read has not been moved yet
-not-moved : (s : List ℕ) (i : ℕ) → i ≤ length (drop 256 s) → getD (take i (drop 256 s) ++ drop i s) (i + 256) 0 ≡ getD (drop 256 s) i 0
-not-moved s i h =
-    let size : length (take i (drop 256 s)) ≡ i = length-take-le i (drop 256 s) h in
-    let place : i + 256 ≡ 256 + i = omega arith in
-    ap (λ (k : ℕ). getD (take i (drop 256 s) ++ drop i s) (k + 256) 0) (sym size)
-    ∙ getD-append-add (take i (drop 256 s)) (drop i s) 256 0
-    ∙ getD-drop i s 256 0
-    ∙ ap (λ (k : ℕ). getD s k 0) place
-    ∙ sym (getD-drop 256 s i 0)
-
-pub move-turn : (s t : List ℕ) (i : ℕ) → i + 256 < length s → t ≡ take i (drop 256 s) ++ drop i s
-    → set t i (getD t (i + 256) 0) ≡ take (i + 1) (drop 256 s) ++ drop (i + 1) s
-move-turn s t i h e =
-    let n = length-drop 256 s in
-    ap (λ (l : List ℕ). set l i (getD l (i + 256) 0)) e
-    ∙ ap (set (take i (drop 256 s) ++ drop i s) i) (not-moved s i (omega arith))
-    ∙ copy-step (drop 256 s) s i (omega arith) (omega arith)
-
-pub move-end : (s t : List ℕ) (i : ℕ) → 256 ≤ length s → i ≡ length s - 256 → t ≡ take i (drop 256 s) ++ drop i s → t ≡ over (drop 256 s) s
-move-end s t i h k e =
-    let n = length-drop 256 s in
-    e ∙ copy-end (drop 256 s) s i (omega arith) (omega arith)

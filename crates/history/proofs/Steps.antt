@@ -1,6 +1,6 @@
 -- Laws of a history's record and of the steps that change it.
 use Prim.Native.Nat.{ℕ, _+_, _-_, _<_, _≤_}
-use mathlib.Core.Path.{_≡_, refl, ap, _∙_}
+use mathlib.Core.Path.{_≡_, refl, sym, ap, _∙_}
 use mathlib.Core.Bool.{Bool, true, false, cond}
 use native.Mathlib.Omega.{arith}
 use lib.Dec.{ltb, eqb}
@@ -13,8 +13,9 @@ use Rattle.history.specs.declared.stepping.Recalled.the-variants.{Entry,
 use Rattle.history.specs.declared.stepping.Step.{Step}
 
 -- records with the same numbers
-pub same-numbers : {n m p q t u : ℕ} → n ≡ m → p ≡ q → t ≡ u → _≡_ {A = History} (record { count = n; place = p; total = t }) (record { count = m; place = q; total = u })
-same-numbers a b c = cc
+pub same-numbers : {n m p q t u f g : ℕ} → n ≡ m → p ≡ q → t ≡ u → f ≡ g
+    → _≡_ {A = History} (record { count = n; place = p; total = t; first = f }) (record { count = m; place = q; total = u; first = g })
+same-numbers a b c d = cc
 
 -- a step on, with what it recalls
 abbrev stepped : History → Recalled → Step
@@ -32,19 +33,65 @@ pub onward-entry : (h : History) → h .place + 1 < h .count → onward h ≡ st
 unfolding recalledAt
 onward-entry h l = onward-below h (omega arith) ∙ ap (stepped h) (then-is _ _ _ (lt-ltb (h .place + 1) (h .count) l))
 
--- a step keeps the total
-pub back-total : (h : History) → back h .history .total ≡ h .total
+-- a step changes the place alone
+pub back-placed : (h : History) → back h .history ≡ placedAt h (back h .history .place)
 unfolding back
-back-total h = by (eqb (h .place) 0)
+back-placed h = by (eqb (h .place) 0)
   where
-    by : (t : Bool) → let r : Step = cond t (record { history = h; recalled = Nothing }) (record { history = placedAt h (h .place - 1); recalled = Entry (h .place - 1) }) in r .history .total ≡ h .total
+    by : (t : Bool) → let r : Step = cond t (record { history = h; recalled = Nothing }) (record { history = placedAt h (h .place - 1); recalled = Entry (h .place - 1) }) in
+        r .history ≡ placedAt h (r .history .place)
     by true = refl
     by false = refl
 
-pub onward-total : (h : History) → onward h .history .total ≡ h .total
+pub onward-placed : (h : History) → onward h .history ≡ placedAt h (onward h .history .place)
 unfolding onward
-onward-total h = by (ltb (h .place) (h .count))
+onward-placed h = by (ltb (h .place) (h .count))
   where
-    by : (t : Bool) → let r : Step = cond t (stepped h (recalledAt (h .count) (h .place + 1))) (record { history = h; recalled = Nothing }) in r .history .total ≡ h .total
+    by : (t : Bool) → let r : Step = cond t (stepped h (recalledAt (h .count) (h .place + 1))) (record { history = h; recalled = Nothing }) in
+        r .history ≡ placedAt h (r .history .place)
     by true = refl
     by false = refl
+
+-- so it keeps the total
+pub back-total : (h : History) → back h .history .total ≡ h .total
+back-total h = ap (λ (x : History). x .total) (back-placed h)
+
+pub onward-total : (h : History) → onward h .history .total ≡ h .total
+onward-total h = ap (λ (x : History). x .total) (onward-placed h)
+
+-- and where it leads and what it recalls goes by place and count alone
+pub back-by : (h : History) → (back h .recalled ≡ cond (eqb (h .place) 0) Nothing (Entry (h .place - 1))) × (back h .history .place ≡ cond (eqb (h .place) 0) (h .place) (h .place - 1))
+unfolding back
+back-by h = by (eqb (h .place) 0)
+  where
+    by : (t : Bool) → let r : Step = cond t (record { history = h; recalled = Nothing }) (record { history = placedAt h (h .place - 1); recalled = Entry (h .place - 1) }) in
+        (r .recalled ≡ cond t Nothing (Entry (h .place - 1))) × (r .history .place ≡ cond t (h .place) (h .place - 1))
+    by true = (refl, refl)
+    by false = (refl, refl)
+
+pub onward-by : (h : History)
+    → (onward h .recalled ≡ cond (ltb (h .place) (h .count)) (recalledAt (h .count) (h .place + 1)) Nothing)
+    × (onward h .history .place ≡ cond (ltb (h .place) (h .count)) (h .place + 1) (h .place))
+unfolding onward
+onward-by h = by (ltb (h .place) (h .count))
+  where
+    by : (t : Bool) → let r : Step = cond t (stepped h (recalledAt (h .count) (h .place + 1))) (record { history = h; recalled = Nothing }) in
+        (r .recalled ≡ cond t (recalledAt (h .count) (h .place + 1)) Nothing) × (r .history .place ≡ cond t (h .place + 1) (h .place))
+    by true = (refl, refl)
+    by false = (refl, refl)
+
+pub same-steps : (h k : History) → k .count ≡ h .count → k .place ≡ h .place
+    → (back k .recalled ≡ back h .recalled) × (back k .history .place ≡ back h .history .place)
+    × (onward k .recalled ≡ onward h .recalled) × (onward k .history .place ≡ onward h .history .place)
+same-steps h k c p = (
+  back-by k .0 ∙ ap (λ (n : ℕ). cond (eqb n 0) Nothing (Entry (n - 1))) p ∙ sym (back-by h .0),
+  back-by k .1 ∙ ap (λ (n : ℕ). cond (eqb n 0) n (n - 1)) p ∙ sym (back-by h .1),
+  onward-by k .0 ∙ recalls p c ∙ sym (onward-by h .0),
+  onward-by k .1 ∙ leads p c ∙ sym (onward-by h .1),
+)
+  where
+    recalls : {a b m n : ℕ} → a ≡ b → m ≡ n → cond (ltb a m) (recalledAt m (a + 1)) Nothing ≡ cond (ltb b n) (recalledAt n (b + 1)) Nothing
+    recalls u v = cc
+
+    leads : {a b m n : ℕ} → a ≡ b → m ≡ n → cond (ltb a m) (a + 1) a ≡ cond (ltb b n) (b + 1) b
+    leads u v = cc

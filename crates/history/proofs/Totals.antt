@@ -5,12 +5,13 @@ use mathlib.Core.Bool.{Bool, true, false, cond}
 use mathlib.Core.List.{List, [], _∷_, _++_}
 use native.Mathlib.Omega.{arith}
 use lib.Dec.{ltb}
-use lib.ListN.{length, drop, getD, length-drop}
-use lib.Seq.{drop-drop}
+use lib.ListN.{length, take, drop, getD}
+use lib.Seq.{length-take-le}
 use Rattle.history.specs.Entries.{mostEntries, isNew, withRoom, added, total}
-use Rattle.history.specs.Slots.{slot, run, layout, entry, entriesOf}
+use Rattle.history.specs.Slots.{entry}
+use Rattle.history.specs.Inner.{entriesOf}
 use Rattle.history.proofs.Layouts.{Short, none, more}
-use Rattle.history.proofs.Judging.{length-entry, head-at}
+use Rattle.history.proofs.Judging.{length-entry}
 
 -- a text more, and the oldest less
 pub total-more : (es : List (List ℕ)) (t : List ℕ) → total (es ++ (t ∷ [])) ≡ total es + length t
@@ -40,28 +41,14 @@ unfolding total
 total-most [] none = omega arith
 total-most (e ∷ es) (more h hs) = let k = total-most es hs in omega arith
 
--- the first byte of a layout is the length of the oldest
-pub oldest-length : (es : List (List ℕ)) → 0 < length es → getD (layout es) 0 0 ≡ length (getD es 0 [])
-unfolding layout run slot
-oldest-length [] h = absurd (omega arith)
-oldest-length (e ∷ es) h = refl
-
 -- in slots, one after the other: the length byte of each
-pub total-turn : (s : List ℕ) (at n : ℕ) → 0 < n → at + 256 ≤ length s → getD s at 0 ≤ 255
-    → total (entriesOf n (drop at s)) ≡ getD s at 0 + total (entriesOf (n - 1) (drop (at + 256) s))
+pub total-turn : (s : List ℕ) (n byte : ℕ) → 0 < n → 256 ≤ length s → byte ≡ getD (take 256 s) 0 0 → byte ≤ 255
+    → total (entriesOf n s) ≡ byte + total (entriesOf (n - 1) (drop 256 s))
 unfolding total entriesOf
-total-turn s at zero h fits byte = absurd (omega arith)
-total-turn s at (suc n) h fits byte =
-    let left = length-drop at s in
-    let size : length (entry (drop at s)) ≡ getD s at 0 = length-entry (drop at s) (omega arith) (rw (head-at s at) byte) ∙ head-at s at in
+total-turn s zero byte h fits e small = absurd (omega arith)
+total-turn s (suc n) byte h fits e small =
+    let whole : length (take 256 s) ≡ 256 = length-take-le 256 s fits in
+    let size : length (entry (take 256 s)) ≡ byte = length-entry (take 256 s) whole (omega arith) ∙ sym e in
     let less : suc n - 1 ≡ n = omega arith in
-    ap (λ (k : ℕ). k + total (entriesOf n (drop 256 (drop at s)))) size
-    ∙ ap (λ (l : List ℕ). getD s at 0 + total (entriesOf n l)) (drop-drop 256 at s)
-    ∙ ap (λ (k : ℕ). getD s at 0 + total (entriesOf k (drop (at + 256) s))) (sym less)
-
-pub total-begin : (s : List ℕ) (n : ℕ) → 0 + total (entriesOf (n - 0) s) ≡ total (entriesOf n s)
-total-begin s n = let e : n - 0 ≡ n = omega arith in let t = ap (λ (k : ℕ). total (entriesOf k s)) e in omega arith
-
-pub total-end : (s : List ℕ) (n : ℕ) → n ≡ 0 → total (entriesOf n s) ≡ 0
-unfolding total entriesOf
-total-end s n e = ap (λ (k : ℕ). total (entriesOf k s)) e
+    ap (λ (k : ℕ). k + total (entriesOf n (drop 256 s))) size
+    ∙ ap (λ (k : ℕ). byte + total (entriesOf k (drop 256 s))) (sym less)

@@ -1,15 +1,15 @@
--- What only contracts of inner functions cite: the test of a state slot by slot.
+-- What only contracts of inner functions cite: the test of a state slot by slot, over the slots in the order of the entries (Slots: `turned`).
 use Prim.Native.Nat.{ℕ, zero, suc, _+_, _-_}
 use mathlib.Core.Bool.{Bool, false, cond}
-use mathlib.Core.List.{List, []}
+use mathlib.Core.List.{List, [], _∷_}
 use lib.Dec.{ltb, eqb}
 use lib.ListN.{take, drop, getD}
 use Rattle.buffer.specs.Compare.{sameBytes}
 use Rattle.buffer.specs.Greatest.{greatest}
 use Rattle.history.specs.Entries.{usable, total}
-use Rattle.history.specs.Slots.{entry, entriesOf}
+use Rattle.history.specs.Slots.{slotSize, slotsSize, entry}
 
--- what lies after the entry in the slot that bytes begin with
+-- what lies after the entry in a slot
 unfoldable pub unused : List ℕ → List ℕ
 unused bytes = take (255 - getD bytes 0 0) (drop (1 + getD bytes 0 0) bytes)
 
@@ -17,15 +17,26 @@ unused bytes = take (255 - getD bytes 0 0) (drop (1 + getD bytes 0 0) bytes)
 unfoldable pub goodSlot : List ℕ → Bool
 goodSlot bytes = cond (usable (entry bytes)) (eqb (greatest (unused bytes)) 0) false
 
--- the slot before a place; before the first there is none
+-- the slot before entry k, with which bytes begin; before the oldest there is none
 unfoldable pub slotBefore : ℕ → List ℕ → List ℕ
-slotBefore at slots = cond (ltb at 256) [] (take 256 (drop (at - 256) slots))
+slotBefore k bytes = cond (eqb k 0) [] (take slotSize bytes)
+
+-- the place after that of a slot, round the end
+unfoldable pub nextPlace : ℕ → ℕ
+nextPlace at = cond (ltb (at + slotSize) slotsSize) (at + slotSize) 0
+
+-- the entries of the first n slots of bytes
+unfoldable pub entriesOf : ℕ → List ℕ → List (List ℕ)
+entriesOf zero bytes = []
+entriesOf (suc n) bytes = entry (take slotSize bytes) ∷ entriesOf n (drop slotSize bytes)
 
 -- n good slots, each of which differs from the slot before it, and zeros after them
 unfoldable pub judged : List ℕ → ℕ → List ℕ → Bool
 judged before zero bytes = eqb (greatest bytes) 0
 judged before (suc n) bytes =
-    cond (goodSlot bytes) (cond (sameBytes before (take 256 bytes)) false (judged (take 256 bytes) n (drop 256 bytes))) false
+    cond (goodSlot (take slotSize bytes))
+    (cond (sameBytes before (take slotSize bytes)) false (judged (take slotSize bytes) n (drop slotSize bytes)))
+    false
 
 -- the same of n slots, and that their entries have this total
 unfoldable pub tallied : ℕ → ℕ → List ℕ → Bool

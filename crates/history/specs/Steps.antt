@@ -7,9 +7,9 @@ use Rattle.history.specs.declared.stepping.Recalled.{Recalled}
 use Rattle.history.specs.declared.stepping.Recalled.the-variants.{Entry, Nothing}
 use Rattle.history.specs.declared.stepping.Step.{Step}
 
--- the same history at another place (3.8, 3.9, 3.15)
+-- the same history at another place (3.8, 3.9, 3.15, 3.16)
 abbrev pub placedAt : History → ℕ → History
-placedAt h place = record { count = h .count; place = place; total = h .total }
+placedAt h place = record { count = h .count; place = place; total = h .total; first = h .first }
 
 -- Up: at place 0 nothing; otherwise the place steps back, and the entry there is recalled (3.8)
 unfoldable pub back : History → Step

@@ -7,7 +7,8 @@ ghost use Rattle.text.specs.Decoding.{wellFormed};
 ghost use Rattle.history.specs.Entries.{isNew};
 ghost use Rattle.history.specs.Journal.{journalOf, good};
 ghost use Rattle.history.specs.Answer.{Offered, Addition};
-use super::slots::drop_oldest;
+use super::slots::place_of;
+use super::slots::slot_after;
 use super::slots::store;
 use super::stepping::History;
 use super::testing::is_good;
@@ -54,30 +55,34 @@ pub fn offer(history: History, slots: &mut [u8], text: &[u8]) -> History
     ensures { λ r. ⌜ Offered history (now (slots .entry)) (now (text .entry)) r (now (slots .exit)) ⌝ }
 {
     let count = history.count;
+    let first = history.first;
     let grown = history.total + text.len();
     if !is_new(history, slots, text) {
         return History {
             count,
             place: count,
             total: history.total,
+            first,
         };
     }
+    // The slot after the newest entry: an unused one, of length 0, or in a full history that of the oldest.
+    let at = place_of(first, count);
+    let total = grown - byte_at(slots, at);
+    store(text, slots, at);
     if count < History::MOST {
-        store(text, slots, History::SLOT * count);
         let more = count + 1;
         return History {
             count: more,
             place: more,
-            total: grown,
+            total,
+            first,
         };
     }
-    let total = grown - byte_at(slots, 0);
-    drop_oldest(slots);
-    store(text, slots, History::LAST);
     History {
         count,
         place: count,
         total,
+        first: slot_after(first, 1),
     }
 }
 

@@ -19,7 +19,7 @@ pub enum Restored {
 
 impl History {
     // How many bytes are saved.
-    pub const SAVED: usize = 4;
+    pub const SAVED: usize = 5;
 
     // Writes the record at a place and returns the place after it.
     pub fn save(self, out: &mut [u8], at: usize) -> usize
@@ -31,6 +31,7 @@ impl History {
             self.place as u8,
             (self.total / 256) as u8,
             (self.total % 256) as u8,
+            self.first as u8,
         ];
         push(&bytes, out, at)
     }
@@ -46,6 +47,7 @@ impl History {
             count: byte_at(bytes, 0),
             place: byte_at(bytes, 1),
             total: byte_at(bytes, 2) * 256 + byte_at(bytes, 3),
+            first: byte_at(bytes, 4),
         };
         if !is_good(history, slots) {
             return Restored::Bad;

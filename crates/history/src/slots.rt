@@ -1,10 +1,10 @@
-// The slots: storing an entry in one, clearing, and moving all down by one.
-ghost use Prim.Native.Nat.{_+_, _-_, _≤_};
+// The slots: storing an entry in one, clearing, and where each lies, round the end.
+ghost use Prim.Native.Nat.{_+_, _-_, _*_, _≤_, _<_};
 ghost use mathlib.Core.Path.{_≡_};
-ghost use lib.ListN.{length, drop};
-ghost use Rattle.buffer.specs.Write.{over, overAt};
+ghost use lib.ListN.{length};
+ghost use Rattle.buffer.specs.Write.{overAt};
 ghost use Rattle.buffer.specs.Lend.{zeros};
-ghost use Rattle.history.specs.Slots.{slotSize, slot};
+ghost use Rattle.history.specs.Slots.{slotSize, slotAfter, slot};
 use super::stepping::History;
 use buffer::push;
 use buffer::push_byte;
@@ -31,15 +31,16 @@ pub fn store(text: &[u8], slots: &mut [u8], at: usize)
     clear(slots, end, at + History::SLOT);
 }
 
-// Moves every byte from the second slot on down by one slot. The last slot keeps what it held.
-pub fn drop_oldest(slots: &mut [u8])
-    requires { ⌜ slotSize ≤ length (now slots) ⌝ }
-    ensures { λ _. ⌜ now (slots .exit) ≡ over (drop slotSize (now (slots .entry))) (now (slots .entry)) ⌝ }
+// Where the slot begins that lies so many after another, round the end.
+pub fn place_of(slot: usize, after: usize) -> usize
+    ensures { λ r. ⌜ r ≡ slotSize * slotAfter slot after ⌝ }
 {
-    let last = slots.len() - History::SLOT;
-    let mut i = 0;
-    while i < last {
-        slots[i] = slots[i + History::SLOT];
-        i += 1;
-    }
+    History::SLOT * slot_after(slot, after)
+}
+
+// The slot that lies so many after another, round the end.
+pub fn slot_after(slot: usize, after: usize) -> usize
+    ensures { λ r. ⌜ r ≡ slotAfter slot after ⌝ }
+{
+    (slot % History::MOST + after % History::MOST) % History::MOST
 }

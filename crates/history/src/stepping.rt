@@ -1,4 +1,4 @@
-// A history by value: how many entries it has, the place among them and the total of their lengths, the steps that the arrow keys take, and the entry of a number.
+// A history by value: how many entries it has, the place among them, the total of their lengths and the slot of the oldest; the steps that the arrow keys take, and the entry of a number.
 ghost use lib.ListN.{length};
 ghost use mathlib.Core.Path.{_≡_};
 ghost use Rattle.history.specs.Slots.{slotsSize};
@@ -6,6 +6,7 @@ ghost use Rattle.history.specs.Steps.{back, onward};
 ghost use Rattle.history.specs.Journal.{noEntries, entryOf, recordOf, journalOf};
 ghost use Rattle.history.specs.Answer.{Emptied};
 use super::slots::clear;
+use super::slots::place_of;
 use buffer::byte_at;
 use buffer::part;
 
@@ -14,6 +15,8 @@ pub struct History {
     pub place: usize,
     // The bytes in use: the lengths of all entries together.
     pub total: usize,
+    // The slot of the oldest entry. The others lie in the slots that follow it, round the end.
+    pub first: usize,
 }
 
 // What a step through a history recalls.
@@ -39,9 +42,6 @@ impl History {
     // How many bytes all slots have.
     pub const SLOTS: usize = History::MOST * History::SLOT;
 
-    // Where the last slot begins.
-    pub(crate) const LAST: usize = History::SLOTS - History::SLOT;
-
     // No entry.
     pub fn fresh() -> History
         ensures { λ r. ⌜ r ≡ recordOf noEntries ⌝ }
@@ -50,6 +50,7 @@ impl History {
             count: 0,
             place: 0,
             total: 0,
+            first: 0,
         }
     }
 
@@ -111,10 +112,7 @@ impl History {
         if self.count <= number {
             return part(slots, 0, 0);
         }
-        if slots.len() / History::SLOT < number {
-            return part(slots, 0, 0);
-        }
-        let at = History::SLOT * number;
+        let at = place_of(self.first, number);
         part(slots, at + 1, byte_at(slots, at))
     }
 }

@@ -15,6 +15,7 @@ use Rattle.history.specs.declared.adding.Added.the-variants.{Done}
 use Rattle.history.specs.Steps.{back, onward}
 use Rattle.history.proofs.Steps.{back-total, onward-total}
 use Rattle.history.proofs.Journals.{good-total, wrong-total, one-total}
+use Rattle.history.proofs.Judging.{neither}
 use Rattle.history.proofs.Called.{added-total}
 use Rattle.keys.specs.declared.standing.Profile.{Profile}
 use Rattle.keys.specs.Modes.{profileNumber}
@@ -32,8 +33,8 @@ use Rattle.state.proofs.Lasting.{Reached}
 use Rattle.state.proofs.Savings.{good-saved-parts, saved-total, fresh-saved}
 use Rattle.rust.specs.Same.{original}
 use Rattle.session.specs.declared.standing.Session.{Session}
-use Rattle.promises.proofs.Tables.{told, first}
-use Rattle.promises.proofs.KeyAnswers.{keyed, Lent, pressTable, press-tells, savedAddTable, saved-add-tells}
+use Rattle.promises.proofs.Tables.{told}
+use Rattle.promises.proofs.KeyAnswers.{keyed, Lent, press-bad, saved-add-bad}
 use Rattle.promises.proofs.Lasting.{never-bad, never-bad-by-value, ReachedInSession, never-bad-in-session}
 
 -- a record's total is the sum of the lengths of the entries that it holds with its slots, which is at most 25,500
@@ -87,14 +88,10 @@ by-add = added-total
 pub wrong : (e : Editor) (h : History) (slots : List ℕ) → (h .total ≡ total (journalOf h slots .entries) → ⊥) → (good h slots ≡ false) × (goodState e h slots ≡ false)
 unfolding goodState
 wrong e h slots n = let bad = wrong-total h slots n in (bad, ap (λ (t : Bool). cond (goodEditor e) t false) bad ∙ neither (goodEditor e))
-  where
-    neither : (t : Bool) → cond t false false ≡ false
-    neither true = refl
-    neither false = refl
 
 -- beside a good state's count, place and slots no total but its own is good
 abbrev pub withTotal : History → ℕ → History
-withTotal h n = record { count = h .count; place = h .place; total = n }
+withTotal h n = record { count = h .count; place = h .place; total = n; first = h .first }
 
 pub no-other : (h : History) (slots : List ℕ) (n : ℕ) → good h slots ≡ true → good (withTotal h n) slots ≡ eqb n (h .total)
 no-other = one-total
@@ -110,15 +107,13 @@ other-bad state slots n = by (goodSaved state slots) refl
 pub key-refused : (state slots prompt : List ℕ) (byte : ℕ) (line screen : List ℕ) (r : Pressed) (state′ slots′ line′ screen′ : List ℕ)
     → SavedKey state slots prompt byte line screen r state′ slots′ line′ screen′ → (inUse state ≡ total (journalOf (historyIn state) slots .entries) → ⊥)
     → told (pressedNumber r) (pressedValue r) (keyed {L = Lent} (pressedKind r) (pressedBeside r) (state′, slots′, line′, screen′)) ≡ told 12 0 (keyed {L = Lent} 0 0 (state, slots, line, screen))
-unfolding pressTable first
 key-refused state slots prompt byte line screen r state′ slots′ line′ screen′ p n =
-    press-tells state slots prompt byte line screen r state′ slots′ line′ screen′ p ∙ rw (other-bad state slots n)
+    press-bad state slots prompt byte line screen r state′ slots′ line′ screen′ p (other-bad state slots n)
 
 pub add-refused : (state slots text : List ℕ) (r : Added) (state′ slots′ : List ℕ) → SavedAdd state slots text r state′ slots′
     → (inUse state ≡ total (journalOf (historyIn state) slots .entries) → ⊥)
     → told {L = List ℕ × List ℕ} (addedNumber r) (addedValue r) (state′, slots′) ≡ told 12 0 (state, slots)
-unfolding savedAddTable first
-add-refused state slots text r state′ slots′ p n = saved-add-tells state slots text r state′ slots′ p ∙ rw (other-bad state slots n)
+add-refused state slots text r state′ slots′ p n = saved-add-bad state slots text r state′ slots′ p (other-bad state slots n)
 
 -- NOTHING ELSE depends on it: the history that record and slots hold is the same whatever the total, the Rust's beside it, and what a key does
 pub same-history : (h : History) (slots : List ℕ) (n : ℕ) → journalOf (withTotal h n) slots ≡ journalOf h slots

@@ -12,6 +12,7 @@ use Rattle.words.specs.Tokens.{wordsOf, wordFrames}
 use Rattle.words.specs.declared.tokenizer.Tokens.{Tokens}
 use Rattle.words.specs.Answer.{number as wordsNumber, value as wordsValue}
 use Rattle.history.specs.Entries.{total}
+use Rattle.history.specs.Slots.{slotAfter, ChangesOnly}
 use Rattle.history.specs.Journal.{offered, journalOf}
 use Rattle.history.specs.Answer.{recordBy, Addition, number as addNumber, value as addValue}
 use Rattle.history.specs.declared.stepping.History.{History}
@@ -25,6 +26,7 @@ use Rattle.editor.specs.declared.drawing.Pressed.{Pressed}
 use Rattle.editor.specs.declared.drawing.Pressed.the-variants.{Shown, Entered, Dropped, BadState, BadPrompt, NoRoom}
 use Rattle.editor.specs.declared.line.Editor.{Editor}
 use Rattle.editor.specs.Line.{limit, goodLine}
+use Rattle.editor.specs.Turns.{SameBut}
 use Rattle.editor.specs.Answer.{stateOf, goodPrompt, refused, number as keyNumber, value as keyValue, kind as keyKind, beside as keyBeside}
 use Rattle.editor.proofs.Lines.{good-line, length-of}
 use Rattle.editor.proofs.States.{good-parts, editor-parts, state-parts}
@@ -34,6 +36,7 @@ use Rattle.state.specs.Calls.{Beginning, turnIn, number as begunNumber, value a
 use Rattle.state.specs.declared.calls.Begun.{Begun}
 use Rattle.state.specs.declared.calls.Begun.the-variants.{Ready, NoRoom as NoSpace, BadState as NoState}
 use Rattle.state.proofs.Savings.{held-saved, history-saved, good-saved-parts}
+use Rattle.state.proofs.Begun.{heldIn}
 use Rattle.state.proofs.ByValue.{keyFor, key-by-value, key-saved, add-by-value, add-saved}
 use Rattle.state.proofs.Lasting.{Reached, begun, by-key as key-reached, by-add as add-reached}
 use Rattle.tree.specs.Rules.{checkTree}
@@ -65,6 +68,7 @@ use Rattle.promises.proofs.Answers.{tooLong, illFormed, tokenizeTable, 
 use Rattle.promises.proofs.KeyAnswers.{Keyed, keyed, pressTable, press-tells, savedAddTable, saved-add-tells, beginTable, begin-tells}
 use Rattle.promises.proofs.Lasting.{never-bad, full-line-saved}
 use Rattle.promises.proofs.BytesInUse.{inUse, in-bytes}
+use Rattle.promises.proofs.FirstSlot.{firstByte, in-bytes as first-in-bytes, saved-key-changes-one, saved-add-changes-one, same-saved-key, same-saved-add}
 use Rattle.promises.proofs.SameAsRust.{words, key, add-command}
 use Rattle.promises.proofs.OtherCommands.{named, Agree, parse-alone, help-alone, run-alone}
 
@@ -182,6 +186,42 @@ never-bad-by-calls state slots r = never-bad state slots (reached r)
 -- and the two bytes that a status page reads tell the sum of the entries' lengths
 pub in-use-by-calls : (state slots : List ℕ) → ReachedByCalls state slots → (inUse state ≡ total (journalOf (historyIn state) slots .entries)) × (inUse state ≤ 25500)
 in-use-by-calls state slots r = in-bytes state slots (reached r)
+
+-- and the last byte the slot of the oldest entry, one of the hundred
+pub first-by-calls : (state slots : List ℕ) → ReachedByCalls state slots → (firstByte state ≡ historyIn state .first) × (firstByte state < 100)
+first-by-calls state slots r = first-in-bytes state slots (reached r)
+
+-- a call changes the bytes of one slot at most, whatever it answers
+pub key-changes-by-calls : (state slots prompt : List ℕ) (byte : ℕ) (line screen : List ℕ) (p : ℕ) (state′ slots′ line′ screen′ : List ℕ)
+    → KeyCall state slots prompt byte line screen p state′ slots′ line′ screen′ → ChangesOnly (slotAfter (historyIn state .first) (historyIn state .count)) slots slots′
+key-changes-by-calls state slots prompt byte line screen p state′ slots′ line′ screen′ c =
+    let b = key-packs state slots prompt byte line screen p state′ slots′ line′ screen′ c in
+    saved-key-changes-one state slots prompt byte line screen (b .0) state′ slots′ line′ screen′ (b .1)
+
+pub add-changes-by-calls : (state slots text : List ℕ) (p : ℕ) (state′ slots′ : List ℕ) → AddCall state slots text p state′ slots′
+    → ChangesOnly (slotAfter (historyIn state .first) (historyIn state .count)) slots slots′
+add-changes-by-calls state slots text p state′ slots′ c =
+    let b = add-packs state slots text p state′ slots′ c in saved-add-changes-one state slots text (b .0) state′ slots′ (b .1)
+
+-- and answers the same 64 bits in two good states that differ in where their history begins and in nothing else, with the same bytes in both buffers, and leaves two such states
+module _ (state slots state₂ slots₂ : List ℕ) (g : goodSaved state slots ≡ true) (g₂ : goodSaved state₂ slots₂ ≡ true) (a : SameBut (heldIn state slots) (heldIn state₂ slots₂)) where
+  pub same-key-by-calls : (prompt : List ℕ) (byte : ℕ) (line screen : List ℕ) (p q : ℕ) (state′ slots′ line′ screen′ state₂′ slots₂′ line₂′ screen₂′ : List ℕ)
+      → KeyCall state slots prompt byte line screen p state′ slots′ line′ screen′ → KeyCall state₂ slots₂ prompt byte line screen q state₂′ slots₂′ line₂′ screen₂′
+      → (q ≡ p) × (line₂′ ≡ line′) × (screen₂′ ≡ screen′) × SameBut (heldIn state′ slots′) (heldIn state₂′ slots₂′)
+      × (goodSaved state′ slots′ ≡ true) × (goodSaved state₂′ slots₂′ ≡ true)
+  same-key-by-calls prompt byte line screen p q state′ slots′ line′ screen′ state₂′ slots₂′ line₂′ screen₂′ c d =
+      let x = key-packs state slots prompt byte line screen p state′ slots′ line′ screen′ c in
+      let y = key-packs state₂ slots₂ prompt byte line screen q state₂′ slots₂′ line₂′ screen₂′ d in
+      let s = same-saved-key state slots state₂ slots₂ g g₂ a prompt byte line screen (x .0) (y .0) state′ slots′ line′ screen′ state₂′ slots₂′ line₂′ screen₂′ (x .1) (y .1) in
+      (y .2 ∙ ap keyTold (s .0) ∙ sym (x .2), s .1, s .2, s .3, s .4, s .5)
+
+  pub same-add-by-calls : (text : List ℕ) (p q : ℕ) (state′ slots′ state₂′ slots₂′ : List ℕ) → AddCall state slots text p state′ slots′ → AddCall state₂ slots₂ text q state₂′ slots₂′
+      → (q ≡ p) × SameBut (heldIn state′ slots′) (heldIn state₂′ slots₂′) × (goodSaved state′ slots′ ≡ true) × (goodSaved state₂′ slots₂′ ≡ true)
+  same-add-by-calls text p q state′ slots′ state₂′ slots₂′ c d =
+      let x = add-packs state slots text p state′ slots′ c in
+      let y = add-packs state₂ slots₂ text q state₂′ slots₂′ d in
+      let s = same-saved-add state slots state₂ slots₂ g g₂ a text (x .0) (y .0) state′ slots′ state₂′ slots₂′ (x .1) (y .1) in
+      (y .2 ∙ ap (λ (r : Added). plain (addNumber r) (addValue r)) (s .0) ∙ sym (x .2), s .1, s .2, s .3)
 
 pub full-line : (state slots prompt : List ℕ) (byte : ℕ) (line screen : List ℕ) (p : ℕ) (state′ slots′ line′ screen′ : List ℕ)
     → KeyCall state slots prompt byte line screen p state′ slots′ line′ screen′ → goodSaved state slots ≡ true → goodPrompt prompt ≡ true → limit ≤ length line

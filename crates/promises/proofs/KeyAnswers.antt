@@ -226,13 +226,25 @@ saved-add-tells state slots text r state′ slots′ p =
     by true false false = refl
     by false l w = refl
 
+-- A BAD SAVED STATE, whatever it is that is bad, is refused with 12 by both, and every byte stays
+pub press-bad : (state slots prompt : List ℕ) (byte : ℕ) (line screen : List ℕ) (r : Pressed) (state′ slots′ line′ screen′ : List ℕ)
+    → SavedKey state slots prompt byte line screen r state′ slots′ line′ screen′ → goodSaved state slots ≡ false
+    → told (pressedNumber r) (pressedValue r) (keyed {L = Lent} (pressedKind r) (pressedBeside r) (state′, slots′, line′, screen′)) ≡ told 12 0 (keyed {L = Lent} 0 0 (state, slots, line, screen))
+unfolding pressTable first
+press-bad state slots prompt byte line screen r state′ slots′ line′ screen′ p n = press-tells state slots prompt byte line screen r state′ slots′ line′ screen′ p ∙ rw n
+
+pub saved-add-bad : (state slots text : List ℕ) (r : Added) (state′ slots′ : List ℕ) → SavedAdd state slots text r state′ slots′ → goodSaved state slots ≡ false
+    → told {L = List ℕ × List ℕ} (addedNumber r) (addedValue r) (state′, slots′) ≡ told 12 0 (state, slots)
+unfolding savedAddTable first
+saved-add-bad state slots text r state′ slots′ p n = saved-add-tells state slots text r state′ slots′ p ∙ rw n
+
 -- BEGIN: 12 for a number that is no profile's; then buffer by buffer, the state's first, 9 for one that is too short and 12 for one that is too long, since another length is no state's
 unfoldable pub beginTable : ℕ → List ℕ → List ℕ → Answered (List ℕ × List ℕ)
 beginTable profile state slots =
     first
     (row 12 (not (isProfile profile)) 0 (state, slots)
-    ∷ row 9 (ltb (length state) 265) 265 (state, slots)
-    ∷ row 12 (ltb 265 (length state)) 0 (state, slots)
+    ∷ row 9 (ltb (length state) 266) 266 (state, slots)
+    ∷ row 12 (ltb 266 (length state)) 0 (state, slots)
     ∷ row 9 (ltb (length slots) 25600) 25600 (state, slots)
     ∷ row 12 (ltb 25600 (length slots)) 0 (state, slots)
     ∷ [])
@@ -245,8 +257,8 @@ begin-tells profile state slots r state′ slots′ p =
     ap (told (begunNumber r) (begunValue r)) (pair (p .kept) (p .held))
     ∙ ap tells (p .answer)
     ∙ known (isProfile profile) _ _
-    (either tells (ltb (length state) 265) _ _ _ _ refl
-    (either tells (ltb 265 (length state)) _ _ _ _ refl (either tells (ltb (length slots) 25600) _ _ _ _ refl (either tells (ltb 25600 (length slots)) _ _ _ _ refl refl))))
+    (either tells (ltb (length state) 266) _ _ _ _ refl
+    (either tells (ltb 266 (length state)) _ _ _ _ refl (either tells (ltb (length slots) 25600) _ _ _ _ refl (either tells (ltb 25600 (length slots)) _ _ _ _ refl refl))))
   where
     tells : Begun → Answered (List ℕ × List ℕ)
     tells x = told (begunNumber x) (begunValue x) (cond (isReady x) (freshSaved profile) state, cond (isReady x) (journalSlots noEntries) slots)

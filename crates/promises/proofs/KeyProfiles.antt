@@ -32,7 +32,7 @@ use Rattle.state.proofs.Savings.{fresh-saved}
 use Rattle.state.proofs.ByValue.{kept-saved, add-kept}
 
 -- CHOSEN: a fresh session's state has the number of its profile in byte 258, and zeros elsewhere
-pub chosen : (p : Profile) → freshSaved (profileNumber p) ≡ zeros 258 ++ (profileNumber p ∷ zeros 6)
+pub chosen : (p : Profile) → freshSaved (profileNumber p) ≡ zeros 258 ++ (profileNumber p ∷ zeros 7)
 chosen = fresh-saved
 
 -- KEPT: a key hands back the profile that it was given, whatever it is, does and answers; and leaves it in a saved state, as does a text that is added

@@ -45,7 +45,7 @@ pub extern "C" fn rissemat_quote(words: &[u8], out: &mut [u8]) -> u64
     packed(of_quote(quote(words, out)))
 }
 
-// A fresh session in a state of 265 bytes and slots of 25,600, its keys read as the original reads them.
+// A fresh session in a state of 266 bytes and slots of 25,600, its keys read as the original reads them.
 #[no_mangle]
 pub extern "C" fn rissemat_fresh(state: &mut [u8], slots: &mut [u8]) -> u64
     ensures { λ r. ⌜ FreshCall (now (state .entry)) (now (slots .entry)) r (now (state .exit)) (now (slots .exit)) ⌝ }

@@ -13,16 +13,15 @@ use Rattle.text.specs.Decoding.{Piece, piecesOf, bytesAll}
 use Rattle.text.specs.Apart.{white, afterRun, trimEnd, beforeEnd, trimmed, allWhite, blank}
 use Rattle.text.proofs.WhiteRuns.{some-bytes}
 use Rattle.history.specs.Entries.{mostEntries, newestIs, isNew, withRoom, added}
-use Rattle.history.specs.Journal.{Journal, noEntries, count, entryOf, offered, atPlace, recordOf, slotsOf, journalOf, good}
-use Rattle.history.specs.Answer.{addAnswer, recordBy, slotsBy, Addition}
+use Rattle.history.specs.Journal.{Journal, noEntries, count, entryOf, offered, atPlace, journalOf, good}
+use Rattle.history.specs.Answer.{Addition}
 use Rattle.history.specs.Steps.{placedAt, back, recalledAt, onward}
 use Rattle.history.specs.declared.stepping.History.{History}
 use Rattle.history.specs.declared.stepping.Recalled.the-variants.{Entry, Nothing}
 use Rattle.history.specs.declared.stepping.Step.{Step}
-use Rattle.history.specs.declared.adding.Added.{Added}
 use Rattle.history.specs.declared.adding.Added.the-variants.{Done}
-use Rattle.history.proofs.Journals.{good-fair, fair-held, count-held, place-held}
-use Rattle.history.proofs.Called.{done-has, taken-fair}
+use Rattle.history.proofs.Journals.{good-fair, count-held, place-held}
+use Rattle.history.proofs.Called.{add-after}
 use Rattle.rust.specs.Std.{isEmpty}
 use Rattle.rust.specs.History.{new, last, isSome, pushed, kept, addCommand, Stepped, previous, next}
 use Rattle.rust.specs.Same.{original, stepIn}
@@ -84,7 +83,7 @@ fresh-is = refl
 
 pub add-is : (j : Journal) (t : List ℕ) → addCommand (original j) t ≡ original (offered t j)
 unfolding addCommand
-add-is j t = ap (λ (l : List (List ℕ)). original (record { entries = l; place = length l })) (kept-is (j .entries) t)
+add-is j t = ap (λ (l : List (List ℕ)). record { history = l; index = length l; size = 100 }) (kept-is (j .entries) t)
 
 -- an entry that is there
 found : (es : List (List ℕ)) (n : ℕ) → n < length es → getElem? es n ≡ some (getD es n [])
@@ -127,18 +126,9 @@ module _ (j : Journal) (h : j .place ≤ count j) where
 
 -- THE CALLS
 -- the Rust's add_command on the history that record and slots hold
-holds : {r q : History} {s t : List ℕ} → r ≡ q → s ≡ t → journalOf r s ≡ journalOf q t
-holds p q = cc
-
 pub add-as-rust : (h : History) (slots text : List ℕ) (r : History) (left : List ℕ) → Addition h slots text r Done left
     → addCommand (original (journalOf h slots)) text ≡ original (journalOf r left)
-add-as-rust h slots text r left a =
-    let j : Journal = offered text (journalOf h slots) in
-    let done : addAnswer (good h slots) text ≡ Done = sym (a .answer) in
-    let fair = taken-fair h slots text (done-has h slots text done) in
-    let state : r ≡ recordOf j = a .state ∙ ap (λ (x : Added). recordBy x h j) done in
-    let bytes : left ≡ slotsOf j = a .bytes ∙ ap (λ (x : Added). slotsBy x slots j) done in
-    add-is (journalOf h slots) text ∙ ap original (sym (holds state bytes ∙ fair-held j fair))
+add-as-rust h slots text r left a = add-is (journalOf h slots) text ∙ ap original (sym (add-after h slots text r left a))
 
 -- its previous and next: the place that a step leads to, and the entry of the number that it recalls
 module _ (h : History) (slots : List ℕ) (is : good h slots ≡ true) where

@@ -40,32 +40,32 @@ module _ (profile : ℕ) (state slots : List ℕ) where
   no-profile n = record { answer = sym (else-is _ _ _ n); kept = refl; held = refl }
 
   module _ (p : isProfile profile ≡ true) where
-    pub short-state : length state < 265 → Beginning profile state slots (NoRoom 265) state slots
+    pub short-state : length state < 266 → Beginning profile state slots (NoRoom 266) state slots
     unfolding beginAnswer
     short-state a =
         record {
-          answer = sym (then-is _ _ _ p ∙ then-is _ _ _ (ap (ltb (length state)) size-is ∙ lt-ltb _ 265 a) ∙ ap NoRoom size-is);
+          answer = sym (then-is _ _ _ p ∙ then-is _ _ _ (ap (ltb (length state)) size-is ∙ lt-ltb _ 266 a) ∙ ap NoRoom size-is);
           kept = refl;
           held = refl;
         }
 
-    module _ (a : 265 ≤ length state) where
+    module _ (a : 266 ≤ length state) where
       room : ltb (length state) stateSize ≡ false
-      room = ap (ltb (length state)) size-is ∙ le-ltb _ 265 a
+      room = ap (ltb (length state)) size-is ∙ le-ltb _ 266 a
 
-      pub long-state : 265 < length state → Beginning profile state slots NoState state slots
+      pub long-state : 266 < length state → Beginning profile state slots NoState state slots
       unfolding beginAnswer
       long-state m =
           record {
-            answer = sym (then-is _ _ _ p ∙ else-is _ _ _ room ∙ then-is _ _ _ (ap (λ (n : ℕ). ltb n (length state)) size-is ∙ lt-ltb 265 _ m));
+            answer = sym (then-is _ _ _ p ∙ else-is _ _ _ room ∙ then-is _ _ _ (ap (λ (n : ℕ). ltb n (length state)) size-is ∙ lt-ltb 266 _ m));
             kept = refl;
             held = refl;
           }
 
-      module _ (m : length state ≤ 265) where
+      module _ (m : length state ≤ 266) where
         exact : beginAnswer profile (length state) (length slots) ≡ cond (ltb (length slots) 25600) (NoRoom 25600) (cond (ltb 25600 (length slots)) NoState Ready)
         unfolding beginAnswer
-        exact = then-is _ _ _ p ∙ else-is _ _ _ room ∙ else-is _ _ _ (ap (λ (n : ℕ). ltb n (length state)) size-is ∙ le-ltb 265 _ m)
+        exact = then-is _ _ _ p ∙ else-is _ _ _ room ∙ else-is _ _ _ (ap (λ (n : ℕ). ltb n (length state)) size-is ∙ le-ltb 266 _ m)
 
         pub short-slots : length slots < 25600 → Beginning profile state slots (NoRoom 25600) state slots
         short-slots b = record { answer = sym (exact ∙ then-is _ _ _ (lt-ltb _ 25600 b)); kept = refl; held = refl }
@@ -86,7 +86,7 @@ module _ (profile : ℕ) (state slots : List ℕ) where
 
 fresh-small : (p : Profile) → Fits (freshEditor p) (recordOf noEntries)
 unfolding recordOf total
-fresh-small p = (record { size = omega arith; cursor = omega arith }, record { count = omega arith; place = omega arith; total = omega arith })
+fresh-small p = (record { size = omega arith; cursor = omega arith }, record { count = omega arith; place = omega arith; total = omega arith; first = omega arith })
 
 pub fresh-bytes : (p : Profile) (e : Editor) (h : History) → e ≡ freshEditor p → h ≡ recordOf noEntries → Fits e h
 fresh-bytes p e h a b = rw (a, b) (fresh-small p)

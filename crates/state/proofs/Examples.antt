@@ -18,42 +18,43 @@ use Rattle.state.specs.State.{stateSize, savedOf, editorIn, goodSaved}
 use Rattle.state.specs.Calls.{beginAnswer}
 use Rattle.state.specs.declared.calls.Begun.the-variants.{Ready, NoRoom, BadState}
 
--- `ab` with the cursor at 1, after ESC `[` in the profile of the original, and the second of three entries recalled, which have 258 bytes together
+-- `ab` with the cursor at 1, after ESC `[` in the profile of the original, and the second of three entries recalled, which have 258 bytes together and
+-- begin in slot 98
 abbrev three : History
-three = record { count = 3; place = 1; total = 258 }
+three = record { count = 3; place = 1; total = 258; first = 98 }
 
 front : take 6 (savedOf (holding (0x61 ∷ 0x62 ∷ []) 1 Sequence Rust) three) ≡ 2 ∷ 2 ∷ 1 ∷ 0x61 ∷ 0x62 ∷ 0 ∷ []
 unfolding savedOf editorSaved historySaved numberBytes holding padded limit zeros
 front = refl
 
-end : drop 257 (savedOf (holding (0x61 ∷ 0x62 ∷ []) 1 Sequence Rust) three) ≡ 0 ∷ 0 ∷ 0 ∷ 0 ∷ 3 ∷ 1 ∷ 1 ∷ 2 ∷ []
+end : drop 257 (savedOf (holding (0x61 ∷ 0x62 ∷ []) 1 Sequence Rust) three) ≡ 0 ∷ 0 ∷ 0 ∷ 0 ∷ 3 ∷ 1 ∷ 1 ∷ 2 ∷ 98 ∷ []
 unfolding savedOf editorSaved historySaved numberBytes holding padded limit zeros
 end = refl
 
 -- the same after ESC `[3` in the profile of ECMA-48: one byte is read, and the parameter is 3
 control-end :
-    drop 257 (savedOf (holding (0x61 ∷ 0x62 ∷ []) 1 (Control (record { read = 1; parameter = 3 })) Ecma48) three) ≡ 0 ∷ 1 ∷ 1 ∷ 3 ∷ 3 ∷ 1 ∷ 1 ∷ 2 ∷ []
+    drop 257 (savedOf (holding (0x61 ∷ 0x62 ∷ []) 1 (Control (record { read = 1; parameter = 3 })) Ecma48) three) ≡ 0 ∷ 1 ∷ 1 ∷ 3 ∷ 3 ∷ 1 ∷ 1 ∷ 2 ∷ 98 ∷ []
 unfolding savedOf editorSaved historySaved numberBytes holding padded limit zeros
 control-end = refl
 
-read-back : lineOf (editorIn (1 ∷ 2 ∷ 0 ∷ 0x61 ∷ 0x62 ∷ zeros 260)) ≡ 0x61 ∷ 0x62 ∷ []
+read-back : lineOf (editorIn (1 ∷ 2 ∷ 0 ∷ 0x61 ∷ 0x62 ∷ zeros 261)) ≡ 0x61 ∷ 0x62 ∷ []
 unfolding lineOf editorIn editorSize editorSavedIn zeros
 read-back = refl
 
 -- the length, the mode and the cursor of bytes that are no good state, whatever the slots
-short : (slots : List ℕ) → goodSaved (zeros 264) slots ≡ false
+short : (slots : List ℕ) → goodSaved (zeros 265) slots ≡ false
 unfolding goodSaved isHistory historySaved historySavedIn numberBytes numberOf isEditor hasForm hasKeys isProfile isMode profileOf modeOf editorSavedIn editorSize historySize goodEditor goodLine lineOf padded limit sameBytes zeros
 short slots = refl
 
-long : (slots : List ℕ) → goodSaved (zeros 266) slots ≡ false
+long : (slots : List ℕ) → goodSaved (zeros 267) slots ≡ false
 unfolding goodSaved isHistory historySaved historySavedIn numberBytes numberOf isEditor hasForm hasKeys isProfile isMode profileOf modeOf editorSavedIn editorSize historySize goodEditor goodLine lineOf padded limit sameBytes zeros
 long slots = refl
 
-mode-four : (slots : List ℕ) → goodSaved (4 ∷ zeros 264) slots ≡ false
+mode-four : (slots : List ℕ) → goodSaved (4 ∷ zeros 265) slots ≡ false
 unfolding goodSaved isEditor hasForm hasKeys isProfile isMode editorSize zeros
 mode-four slots = refl
 
-cursor-past-line : (slots : List ℕ) → goodSaved (0 ∷ 0 ∷ 1 ∷ zeros 262) slots ≡ false
+cursor-past-line : (slots : List ℕ) → goodSaved (0 ∷ 0 ∷ 1 ∷ zeros 263) slots ≡ false
 unfolding goodSaved isEditor hasForm hasKeys isProfile isMode profileOf modeOf editorSavedIn editorSize goodEditor goodLine limit zeros
 cursor-past-line slots = refl
 
@@ -78,19 +79,19 @@ unfolding Good isEditor hasForm hasKeys isProfile isMode profileOf modeOf editor
 sequences = (refl, refl, refl, refl, refl, refl, refl, refl, refl, refl)
 
 -- the state before the slots, and too short before too long; a number that is no profile's before both
-both-short : beginAnswer 0 0 0 ≡ NoRoom 265
+both-short : beginAnswer 0 0 0 ≡ NoRoom 266
 unfolding beginAnswer isProfile stateSize editorSize historySize
 both-short = refl
 
-long-state : beginAnswer 1 266 25599 ≡ BadState
+long-state : beginAnswer 1 267 25599 ≡ BadState
 unfolding beginAnswer isProfile stateSize editorSize historySize
 long-state = refl
 
-short-slots : beginAnswer 0 265 25599 ≡ NoRoom 25600
+short-slots : beginAnswer 0 266 25599 ≡ NoRoom 25600
 unfolding beginAnswer isProfile stateSize editorSize historySize
 short-slots = refl
 
-long-slots : beginAnswer 1 265 25601 ≡ BadState
+long-slots : beginAnswer 1 266 25601 ≡ BadState
 unfolding beginAnswer isProfile stateSize editorSize historySize
 long-slots = refl
 
@@ -98,6 +99,6 @@ no-profile : beginAnswer 2 0 0 ≡ BadState
 unfolding beginAnswer isProfile
 no-profile = refl
 
-ready : beginAnswer 1 265 25600 ≡ Ready
+ready : beginAnswer 1 266 25600 ≡ Ready
 unfolding beginAnswer isProfile stateSize editorSize historySize
 ready = refl

@@ -3,4 +3,5 @@ pub mod Savings
 pub mod Answering
 pub mod Lasting
 pub mod ByValue
+pub mod Begun
 pub mod Examples

@@ -5,7 +5,7 @@ use mathlib.Core.Bool.{Bool, true, false, cond}
 use mathlib.Core.List.{List, [], _∷_, _++_, append-nil}
 use native.Mathlib.Omega.{arith}
 use lib.ListN.{length, take, drop, getD, length-append, length-drop, take-append-drop}
-use lib.Seq.{take-at, drop-at, take-all, drop-drop}
+use lib.Seq.{take-at, drop-at, drop-drop, getD-drop}
 use Rattle.buffer.proofs.Choices.{then-is, else-is, true-is-not-false}
 use Rattle.buffer.proofs.Lists.{drop-end}
 use Rattle.buffer.proofs.Lending.{overAt-front, length-overAt}
@@ -38,7 +38,7 @@ use Rattle.state.specs.State.{stateSize, savedOf, editorIn, historyIn, g
 use Rattle.state.specs.Calls.{freshSaved, turnIn}
 
 -- the sizes
-pub size-is : stateSize ≡ 265
+pub size-is : stateSize ≡ 266
 unfolding stateSize editorSize historySize
 size-is = refl
 
@@ -132,20 +132,23 @@ saved-restored s k =
     ∙ ap (λ (x : List ℕ). take editorSize s ++ x) (k .rest)
     ∙ take-append-drop editorSize s
 
--- the total lies in the last two bytes
+-- the total lies in two bytes, the first slot in the last
 pub saved-total : (s : List ℕ) → IsState s → getD s 263 0 * 256 + getD s 264 0 ≡ historyIn s .total
 unfolding historyIn historySavedIn editorSize
 saved-total s k =
     let n = state-size s k ∙ size-is in
-    let d = length-drop 263 s in
-    sym (value-two s 263 (omega arith)) ∙ ap numberOf (take-all 2 (drop 263 s) (omega arith) ∙ sym (drop-drop 2 261 s))
+    sym (value-two s 263 (omega arith)) ∙ ap (λ (x : List ℕ). numberOf (take 2 x)) (sym (drop-drop 2 261 s))
+
+pub saved-first : (s : List ℕ) → getD s 265 0 ≡ historyIn s .first
+unfolding historyIn historySavedIn editorSize
+saved-first s = sym (getD-drop 261 s 4 0)
 
 -- a fresh session is all zeros but for its profile's number
-fresh-zeros : (p : Profile) → savedOf (freshEditor p) (recordOf noEntries) ≡ zeros 258 ++ (profileNumber p ∷ zeros 6)
+fresh-zeros : (p : Profile) → savedOf (freshEditor p) (recordOf noEntries) ≡ zeros 258 ++ (profileNumber p ∷ zeros 7)
 unfolding savedOf editorSaved historySaved numberBytes recordOf total padded limit zeros
 fresh-zeros p = refl
 
-pub fresh-saved : (p : Profile) → freshSaved (profileNumber p) ≡ zeros 258 ++ (profileNumber p ∷ zeros 6)
+pub fresh-saved : (p : Profile) → freshSaved (profileNumber p) ≡ zeros 258 ++ (profileNumber p ∷ zeros 7)
 unfolding freshSaved
 fresh-saved p = ap (λ (x : Profile). savedOf (freshEditor x) (recordOf noEntries)) (profile-back p) ∙ fresh-zeros p
 
@@ -185,7 +188,7 @@ save-written e h state mid left p r n l a b =
     ∙ append-nil all
 
 -- the sizes and parts, as the code has them
-pub as-size : (n : ℕ) → n ≡ 265 → n ≡ stateSize
+pub as-size : (n : ℕ) → n ≡ 266 → n ≡ stateSize
 as-size n h = h ∙ sym size-is
 
 pub part-editor : (s part : List ℕ) → part ≡ take 261 (drop 0 s) → part ≡ take editorSize s

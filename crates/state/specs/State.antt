@@ -1,4 +1,4 @@
--- A saved state: what the editor saves of itself, then what the history does. 265 bytes in all, good or bad together with the slots.
+-- A saved state: what the editor saves of itself, then what the history does. 266 bytes in all, good or bad together with the slots.
 -- (STANDARD 4.1 to 4.4)
 use Prim.Native.Nat.{ℕ, _+_}
 use mathlib.Core.Bool.{Bool, false, cond}

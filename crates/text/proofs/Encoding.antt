@@ -25,7 +25,7 @@ below-or-not a n = by (ltb a n) refl
     by false e = inr (ltb-false a n e)
 
 -- a byte within bounds
-within-is : (x y b : ℕ) → x ≤ b → b ≤ y → within x y b ≡ true
+pub within-is : (x y b : ℕ) → x ≤ b → b ≤ y → within x y b ≡ true
 unfolding within
 within-is x y b h k = then-is _ _ _ (le-leb x b h) ∙ le-leb b y k
 
@@ -58,11 +58,11 @@ after-F4 : (a : ℕ) → a ≡ 0xF4 → greatestSecond a ≡ 0x8F
 unfolding greatestSecond
 after-F4 a e = rw e
 
-least-other : (a : ℕ) → (a ≡ 0xE0 → ⊥) → (a ≡ 0xF0 → ⊥) → leastSecond a ≡ 0x80
+pub least-other : (a : ℕ) → (a ≡ 0xE0 → ⊥) → (a ≡ 0xF0 → ⊥) → leastSecond a ≡ 0x80
 unfolding leastSecond
 least-other a h k = else-is _ _ _ (ne-eqb a 0xE0 h) ∙ else-is _ _ _ (ne-eqb a 0xF0 k)
 
-greatest-other : (a : ℕ) → (a ≡ 0xED → ⊥) → (a ≡ 0xF4 → ⊥) → greatestSecond a ≡ 0xBF
+pub greatest-other : (a : ℕ) → (a ≡ 0xED → ⊥) → (a ≡ 0xF4 → ⊥) → greatestSecond a ≡ 0xBF
 unfolding greatestSecond
 greatest-other a h k = else-is _ _ _ (ne-eqb a 0xED h) ∙ else-is _ _ _ (ne-eqb a 0xF4 k)
 

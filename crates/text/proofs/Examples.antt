@@ -7,6 +7,7 @@ use Rattle.text.specs.Unicode.{encode, encodeAll}
 use Rattle.text.specs.declared.utf8.Decoded.the-variants.{IllFormed}
 use Rattle.text.specs.Decoding.{leastSecond, greatestSecond, within, decodeTwo, decodeThree, decodeFour, table, decodeFirst, piecesFrom, piecesOf, bytesAll, codesOf, codesIn, letter, letterFirst, wellFormedLength}
 use Rattle.text.specs.Space.{whiteSpace, among, isWhiteSpace}
+use Rattle.text.specs.Inner.{outside, awaited, misfit, unfit}
 use Rattle.text.specs.Apart.{afterRun, trimEnd, trimmed, allWhite, blank, wordsAfter, wordsBetween}
 
 -- U+004D, U+0430, U+4E8C and U+10302, encoded and decoded
@@ -44,6 +45,18 @@ no-letters : map letterFirst
     ≡ 0 ∷ 0 ∷ 0 ∷ 0 ∷ 0 ∷ []
 unfolding letterFirst letter decodeFirst table decodeTwo decodeThree decodeFour within leastSecond greatestSecond
 no-letters = refl
+
+-- the same text and the same bad beginnings, each byte judged by the three before it
+all-fit : unfit 0 0 0 bytes ≡ 0
+unfolding bytes unfit misfit outside awaited within leastSecond greatestSecond
+all-fit = refl
+
+bad-unfit : map (unfit 0 0 0)
+    ((0xC0 ∷ 0x80 ∷ []) ∷ (0xE0 ∷ 0x9F ∷ 0xBF ∷ []) ∷ (0xF0 ∷ 0x8F ∷ 0xBF ∷ 0xBF ∷ []) ∷ (0xED ∷ 0xA0 ∷ 0x80 ∷ [])
+    ∷ (0xF4 ∷ 0x90 ∷ 0x80 ∷ 0x80 ∷ []) ∷ (0xFF ∷ []) ∷ (0xE2 ∷ 0x82 ∷ []) ∷ [])
+    ≡ 1 ∷ 1 ∷ 1 ∷ 1 ∷ 1 ∷ 1 ∷ 1 ∷ []
+unfolding unfit misfit outside awaited within leastSecond greatestSecond
+bad-unfit = refl
 
 -- "a", NO-BREAK SPACE, "b" between a tab and a space: three well-formed bytes before FF; trimmed; two words; not blank
 prefix-length : wellFormedLength (0x61 ∷ 0xC2 ∷ 0xA0 ∷ 0xFF ∷ 0x62 ∷ []) ≡ 3

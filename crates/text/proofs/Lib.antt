@@ -8,3 +8,5 @@ pub mod Splits
 mod Examples
 pub mod Spaces
 pub mod Letters
+pub mod Windows
+pub mod Judging

@@ -3,17 +3,25 @@ use Prim.Native.Nat.{ℕ, _+_, _-_, _<_, _≤_}
 use mathlib.Core.Path.{_≡_, refl, sym, ap, _∙_}
 use mathlib.Core.Bool.{Bool, true, false, cond, Bool·beq}
 use mathlib.Core.List.{List, [], _∷_, _++_, map, append-assoc, append-nil}
+use mathlib.Core.Logic.{⊎-elim}
 use native.Mathlib.Omega.{arith}
-use borrow.Author.Tests.{eq-eqb, ne-eqb, eqb-true, eqb-false}
+use borrow.Author.Tests.{eq-eqb, ne-eqb, eqb-true, eqb-false, le-ltb}
 use lib.Dec.{eqb}
 use lib.ListN.{length, take, drop, length-append, length-drop}
 use lib.Seq.{drop-drop, take-at, append-snoc}
+use Rattle.buffer.specs.Greatest.{greatest}
+use Rattle.buffer.proofs.Choices.{else-is}
 use Rattle.buffer.proofs.Lists.{drop-end}
 use Rattle.text.specs.Decoding.{Piece, piecesOf, bytesOf, bytesAll}
 use Rattle.text.specs.declared.apart.Word.{Word}
 use Rattle.text.specs.declared.apart.Word.the-variants.{At, Nothing}
 use Rattle.text.specs.Apart.{white, runOf, afterRun, trimEnd, beforeEnd, trimmed, allWhite, blank, unlessEmpty, wordsAfter, wordsBetween, wordAt, nextWord}
-use Rattle.text.proofs.Pieces.{Fair, by-pieces, pieces-bytes, pieces-none, piece-some}
+use Rattle.text.specs.Space.{isWhiteSpace}
+use Rattle.text.specs.Inner.{lowWhite}
+use Rattle.text.proofs.Encoding.{below-or-not}
+use Rattle.text.proofs.TableRows.{decode-ascii}
+use Rattle.text.proofs.Spaces.{low-is}
+use Rattle.text.proofs.Pieces.{Fair, by-pieces, pieces-bytes, pieces-none, pieces-character, piece-some}
 use Rattle.text.proofs.WhiteRuns.{solidLength}
 
 -- a run and what lies after it make up the pieces
@@ -92,6 +100,30 @@ unfolding blank
 blank-is s n e =
     let z : n ≡ length (bytesAll (runOf true (piecesOf s))) = omega arith in
     cc (z, all-white (piecesOf s), ap length (pieces-bytes s))
+
+-- an ASCII text with a byte above 20 is not blank: no white space of ASCII is above 20
+ascii-solid : (code : ℕ) → 0x20 < code → code < 0x80 → isWhiteSpace code ≡ false
+unfolding lowWhite
+ascii-solid code h k =
+    sym (low-is code (omega arith)) ∙ else-is _ _ _ (le-ltb code 0x0E (omega arith)) ∙ ne-eqb code 0x20 (λ e. omega arith)
+
+blank-ascii : (a : ℕ) (s : List ℕ) → a < 0x80 → blank (a ∷ s) ≡ cond (isWhiteSpace a) (blank s) false
+unfolding blank allWhite
+blank-ascii a s h = ap allWhite (pieces-character (a ∷ s) a 1 (decode-ascii (a ∷ s) 0 (omega arith) h))
+
+pub solid-ascii : (s : List ℕ) → greatest s < 0x80 → 0x20 < greatest s → blank s ≡ false
+unfolding greatest
+solid-ascii [] h k = absurd (omega arith)
+solid-ascii (a ∷ s) h k =
+    blank-ascii a s (omega arith)
+    ∙ ⊎-elim
+    (λ (l : 0x20 < a). else-is (isWhiteSpace a) (blank s) false (ascii-solid a l (omega arith)))
+    (λ (l : a ≤ 0x20). ap (λ (t : Bool). cond (isWhiteSpace a) t false) (solid-ascii s (omega arith) (omega arith)) ∙ either (isWhiteSpace a))
+    (below-or-not 0x20 a)
+  where
+    either : (t : Bool) → cond t false false ≡ false
+    either true = refl
+    either false = refl
 
 -- what is left without the white space at the end begins the pieces
 record Leaves (ps : List Piece) : Type 0 where

@@ -18,7 +18,7 @@ pub enum Decoded {
 }
 
 // The least second byte after the first byte a.
-fn least_second(a: u8) -> u8
+pub(crate) fn least_second(a: u8) -> u8
     ensures { λ r. ⌜ r ≡ leastSecond a ⌝ }
 {
     match a {
@@ -29,7 +29,7 @@ fn least_second(a: u8) -> u8
 }
 
 // The greatest second byte after the first byte a.
-fn greatest_second(a: u8) -> u8
+pub(crate) fn greatest_second(a: u8) -> u8
     ensures { λ r. ⌜ r ≡ greatestSecond a ⌝ }
 {
     match a {
@@ -54,7 +54,7 @@ fn is_later(b: u8) -> bool
 }
 
 // Whether a byte lies from one bound to another.
-fn is_within(least: u8, greatest: u8, b: u8) -> bool
+pub(crate) fn is_within(least: u8, greatest: u8, b: u8) -> bool
     ensures { λ r. ⌜ r ≡ within least greatest b ⌝ }
 {
     if least <= b { b <= greatest } else { false }

@@ -1,4 +1,5 @@
 -- `history::slots::store` meets its contract.
+use native.Mathlib.Omega.{arith}
 use borrow.Author.Needs.{needs}
 use Rattle.history.proofs.Layouts.{slot-stored}
 use mathlib.Core.Path.{_∙_}
@@ -18,7 +19,9 @@ add-clear : tie.Need-add-clear
 add-clear c = search needs
 
 clear-requires : tie.Need-clear-requires
-clear-requires c κs = search needs
+clear-requires c κs =
+    let pre = c .before .before .before .before .before .before .before .before .before .before .before .pre in
+    let text = c .before .before .before .before .before .before .before .before .before .before .before .pre .0 in let start = c .before .before .before .before .before .before .before .push-byte .ensures .place in let end = c .before .before .before .push .ensures .place in (omega arith, omega (arith, pre .1))
 
 same-length : tie.Need-same-length
 same-length c = search needs

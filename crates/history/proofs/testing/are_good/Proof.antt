@@ -1,114 +1,104 @@
--- `history::testing::are_good` meets its contract. The rest is good exactly if the whole is, and what is left of the total is that of the rest.
-use Rattle.history.proofs.Judging.{judged-begin, judged-bad, judged-repeated, judged-on, judged-end, tallied-not, tallied-other, tallied-so}
-use Rattle.history.proofs.Totals.{total-begin, total-turn, total-end}
-use Rattle.history.specs.Entries.{total}
-use Rattle.history.specs.Slots.{entriesOf}
-use Rattle.history.specs.Inner.{slotBefore, judged}
-use borrow.Author.Tests.{not-true, not-false}
-use native.Mathlib.Omega.{arith}
-use Prim.Native.Nat.{_+_, _-_, _*_, _≤_}
-use mathlib.Core.List.{[]}
 use mathlib.Core.Path.{_≡_, refl, sym, _∙_}
-use lib.ListN.{drop}
+use Prim.Native.Nat.{_-_, _*_, _≤_, _+_}
+use native.Mathlib.Omega.{arith}
+use borrow.Author.Tests.{not-true, not-false}
+use Rattle.history.specs.Slots.{slotAfter}
+use Rattle.history.proofs.Turned.{after-below, after-before}
+use Rattle.history.proofs.Passing.{Judges, Tallies, judges-begin, tallies-begin, judges-bad, judges-repeated, judges-on, tallies-on, judges-end, tallies-end, next-after}
+use Rattle.history.proofs.Judging.{tallied-not, tallied-other, tallied-so}
 use Rattle.history.proofs.testing.are_good.Statement.{statement}
 use Rattle.history.proofs.testing.are_good.Tie as tie
+use Rattle.history.proofs.testing.are_good.Reads as reads
+use Rattle.history.proofs.testing.are_good.Lts as lts
+use Rattle.buffer.proofs.byte_at.Reads as byte-at-reads
+use Rattle.history.proofs.testing.is_good_slot.Reads as is-good-slot-reads
+use Rattle.history.proofs.testing.is_repeated.Reads as is-repeated-reads
+use Rattle.history.proofs.testing.is_rest_clear.Reads as is-rest-clear-reads
+use Rattle.history.proofs.testing.next_place.Reads as next-place-reads
 
 abbrev Inv-loop : tie.InvT-loop
-Inv-loop slots count total₀ k₀ at₀ sum₀ k at sum =
-    (k ≤ count)
-    × (at ≡ 256 * k)
-    × (judged (slotBefore at slots) (count - k) (drop at slots) ≡ judged [] count slots)
-    × (sum ≤ 255 * k)
-    × (sum + total (entriesOf (count - k) (drop at slots)) ≡ total (entriesOf count slots))
+Inv-loop slots first count total k₀ at₀ before₀ sum₀ k at before sum = (k ≤ count) × (at ≡ 256 * slotAfter first k) × (before ≡ 256 * slotAfter first (k - 1)) × Judges first slots count k × (sum ≤ 255 * k) × Tallies first slots count k sum
 
 abbrev μ-loop : tie.MeasureT-loop
-μ-loop slots count total₀ k₀ at₀ sum₀ k at sum = count - k
+μ-loop slots first count total k₀ at₀ before₀ sum₀ k at before sum = count - k
+
+mul-at : tie.Need-mul-at Inv-loop μ-loop
+mul-at c = let l = c .before .pre .1 in omega arith
 
 loop-holds : tie.Need-loop-holds Inv-loop μ-loop
-loop-holds c = (omega arith, refl, judged-begin _ _, omega arith, total-begin _ _)
+loop-holds c = let l = c .before .pre .1 in let e = after-before (c .before .args .first) 0 (omega arith) in (omega arith, omega arith, omega arith, judges-begin _ _ _, omega arith, tallies-begin _ _ _)
 
 is-good-slot-requires : tie.Need-is-good-slot-requires Inv-loop μ-loop
-is-good-slot-requires c κs = omega (arith, c .before .before .before .pre)
+is-good-slot-requires c κs =
+    let args = c .before .before .before .args in
+    let s = c .before .before .before .pre .0 in let p = c .before .loop .inv .1 in let b = after-below (args .first) (c .before .loop .k) in omega arith
 
 returns : tie.Need-returns Inv-loop μ-loop
 returns c =
-    let loop = c .before .before .before .loop in
     let args = c .before .before .before .before .before .args in
-    let bad = sym (loop .inv .2) ∙ judged-bad _ _ _ (omega arith) (sym (c .before .is-good-slot .ensures) ∙ not-true (c .before .is-good-slot .result) (c .if1 .taken)) in
-    sym (tallied-not _ (args .total) _ bad)
+    let pre = c .before .before .before .before .before .pre in
+    let loop = c .before .before .before .loop in
+    sym (tallied-not _ (args .total) _ (judges-bad (args .first) (args .slots .now) (pre .1) (pre .0) (args .count) (loop .k) _ _ (pre .2) (c .before .before .loop-test .taken) (loop .inv .1) (loop .inv .2) (loop .inv .3) (sym (c .before .is-good-slot .ensures) ∙ not-true (c .before .is-good-slot .result) (c .if1 .taken))))
 
 is-repeated-requires : tie.Need-is-repeated-requires Inv-loop μ-loop
-is-repeated-requires c κs = omega (arith, c .before .before .before .before .before .pre)
+is-repeated-requires c κs =
+    let args = c .before .before .before .before .before .args in
+    let loop = c .before .before .before .loop in
+    let s = c .before .before .before .before .before .pre .0 in let p = c .before .before .before .loop .inv .1 in let q = c .before .before .before .loop .inv .2 in let b = after-below (args .first) (loop .k) in let d = after-below (args .first) (loop .k - 1) in (omega arith, omega arith)
 
 returns-2 : tie.Need-returns-2 Inv-loop μ-loop
 returns-2 c =
-    let loop = c .before .before .before .before .before .loop in
     let args = c .before .before .before .before .before .before .before .args in
+    let pre = c .before .before .before .before .before .before .before .pre in
+    let loop = c .before .before .before .before .before .loop in
+    let loop-test = c .before .before .before .before .loop-test in
     let is-good-slot = c .before .before .before .is-good-slot in
-    let good = sym (is-good-slot .ensures) ∙ not-false (is-good-slot .result) (c .before .before .if1 .left) in
-    let bad = sym (loop .inv .2) ∙ judged-repeated _ _ _ (omega arith) good (sym (c .before .is-repeated .ensures) ∙ c .if2 .taken) in
-    sym (tallied-not _ (args .total) _ bad)
+    sym (tallied-not _ (args .total) _ (judges-repeated (args .first) (args .slots .now) (pre .1) (pre .0) (args .count) (loop .k) _ _ (pre .2) (loop-test .taken) (loop .inv .1) (loop .inv .2) (loop .inv .3) (sym (is-good-slot .ensures) ∙ not-false (is-good-slot .result) (c .before .before .if1 .left)) (sym (c .before .is-repeated .ensures) ∙ c .if2 .taken)))
 
 byte-at-requires : tie.Need-byte-at-requires Inv-loop μ-loop
 byte-at-requires c κs = tt
 
 add-sum : tie.Need-add-sum Inv-loop μ-loop
-add-sum c = omega (arith, c .before .before .before .before .before .before .before .before .pre, c .byte-at .ensures .small)
+add-sum c = let s = c .before .before .before .before .before .before .loop .inv .4 in let l = c .before .before .before .before .before .loop-test .taken in let m = c .before .before .before .before .before .before .before .before .pre .2 in let b = c .byte-at .ensures .small in omega arith
 
 add-k : tie.Need-add-k Inv-loop μ-loop
 add-k c = omega arith
 
-add-at : tie.Need-add-at Inv-loop μ-loop
-add-at c = omega (arith, c .before .before .before .before .before .before .before .before .pre)
+next-place-requires : tie.Need-next-place-requires Inv-loop μ-loop
+next-place-requires c κs =
+    let args = c .before .before .before .before .before .before .before .before .args in
+    let loop = c .before .before .before .before .before .before .loop in
+    let p = c .before .before .before .before .before .before .loop .inv .1 in let b = after-below (args .first) (loop .k) in omega arith
 
 loop-less : tie.Need-loop-less Inv-loop μ-loop
-loop-less c = omega arith
+loop-less c = let l = c .before .before .before .before .before .before .loop-test .taken in omega arith
 
 loop-again : tie.Need-loop-again Inv-loop μ-loop
 loop-again c =
-    let args = c .before .before .before .before .before .before .before .before .args in
-    let pre = c .before .before .before .before .before .before .before .before .pre in
-    let loop = c .before .before .before .before .before .before .loop in
-    let is-good-slot = c .before .before .before .before .is-good-slot in
-    let byte = c .byte-at .ensures .byte in
-    let small = c .byte-at .ensures .small in
-    let less : args .count - (loop .k + 1) ≡ args .count - loop .k - 1 = omega arith in
-    let good = sym (is-good-slot .ensures) ∙ not-false (is-good-slot .result) (c .before .before .before .if1 .left) in
-    let on = judged-on (args .slots .now) (loop .at) (args .count - loop .k) (omega arith) good (sym (c .before .before .is-repeated .ensures) ∙ c .before .if2 .left) in
-    let turn = total-turn (args .slots .now) (loop .at) (args .count - loop .k) (omega arith) (omega arith) (omega arith) in
-    let tallies = loop .inv .4 in
-    (omega arith, omega arith, rw less (on ∙ loop .inv .2), omega arith, rw less (omega arith))
+    let args = c .before .before .before .before .before .before .before .before .before .args in
+    let pre = c .before .before .before .before .before .before .before .before .before .pre in
+    let loop = c .before .before .before .before .before .before .before .loop in
+    let loop-test = c .before .before .before .before .before .before .loop-test in
+    let is-good-slot = c .before .before .before .before .before .is-good-slot in
+    let if1 = c .before .before .before .before .if1 in
+    let is-repeated = c .before .before .before .is-repeated in
+    let on = judges-on (args .first) (args .slots .now) (pre .1) (pre .0) (args .count) (loop .k) _ _ (pre .2) (loop-test .taken) (loop .inv .1) (loop .inv .2) (loop .inv .3) (sym (is-good-slot .ensures) ∙ not-false (is-good-slot .result) (if1 .left)) (sym (is-repeated .ensures) ∙ c .before .before .if2 .left) in let more = tallies-on (args .first) (args .slots .now) (pre .1) (pre .0) (args .count) (loop .k) _ _ (pre .2) (loop-test .taken) (loop .inv .1) (loop .inv .2) _ (loop .sum) (c .before .byte-at .ensures .byte) (let b = c .before .byte-at .ensures .small in omega arith) (loop .inv .5) in let here : loop .k + 1 - 1 ≡ loop .k = omega arith in let p = c .before .before .before .before .before .before .before .loop .inv .1 in let t = c .before .before .before .before .before .before .loop-test .taken in let s = c .before .before .before .before .before .before .before .loop .inv .4 in let b = c .before .byte-at .ensures .small in (omega arith, c .next-place .ensures ∙ next-after (args .first) (loop .k) _ p, rw here p, on, omega arith, more)
 
 returns-3 : tie.Need-returns-3 Inv-loop μ-loop
 returns-3 c =
     let args = c .before .before .before .before .args in
-    let loop = c .before .before .loop in
-    let none = total-end (drop (loop .at) (args .slots .now)) (args .count - loop .k) (omega arith) in
-    let tallies = loop .inv .4 in
-    sym (tallied-other (args .count) (args .total) (args .slots .now) (λ e. c .if3 .taken (omega arith)))
+    sym (tallied-other (args .count) (args .total) _ (λ e. c .if3 .taken (tallies-end _ _ _ _ _ (c .before .loop-test .left) (c .before .before .loop .inv .5) ∙ sym e)))
 
-sub-greatest-byte : tie.Need-sub-greatest-byte Inv-loop μ-loop
-sub-greatest-byte c = omega (arith, c .before .before .before .before .pre)
-
-part-greatest-byte-start : tie.Need-part-greatest-byte-start Inv-loop μ-loop
-part-greatest-byte-start c = omega (arith, c .before .before .before .before .pre)
-
-part-greatest-byte-end : tie.Need-part-greatest-byte-end Inv-loop μ-loop
-part-greatest-byte-end c = omega (arith, c .before .before .before .before .pre)
-
-greatest-byte-requires : tie.Need-greatest-byte-requires Inv-loop μ-loop
-greatest-byte-requires c κs = tt
+is-rest-clear-requires : tie.Need-is-rest-clear-requires Inv-loop μ-loop
+is-rest-clear-requires c κs = c .before .before .before .before .pre
 
 returns-4 : tie.Need-returns-4 Inv-loop μ-loop
 returns-4 c =
-    let args = c .before .before .before .before .before .before .args in
-    let loop = c .before .before .before .before .loop in
-    let none = total-end (drop (loop .at) (args .slots .now)) (args .count - loop .k) (omega arith) in
-    let tallies = loop .inv .4 in
-    let same = c .before .before .if3 .left in
-    judged-end (args .slots .now) (loop .at) (args .count - loop .k) _ (omega arith) (c .greatest-byte .ensures)
-    ∙ loop .inv .2
-    ∙ sym (tallied-so (args .count) (args .total) (args .slots .now) (omega arith))
+    let args = c .before .before .before .before .before .args in
+    let pre = c .before .before .before .before .before .pre in
+    let loop = c .before .before .before .loop in
+    let loop-test = c .before .before .loop-test in
+    let tallies = tallies-end (args .first) (args .slots .now) (args .count) (loop .k) (loop .sum) (loop-test .left) (loop .inv .5) in c .is-rest-clear .ensures ∙ judges-end (args .first) (args .slots .now) (pre .1) (pre .0) (args .count) (loop .k) (loop-test .left) (loop .inv .0) (loop .inv .3) ∙ sym (tallied-so (args .count) (args .total) _ (sym (c .before .if3 .left) ∙ tallies))
 
 pub are-good-spec : {M : Type 1} → statement M
 are-good-spec =
@@ -116,6 +106,7 @@ are-good-spec =
     (tie.spec
     Inv-loop
     μ-loop
+    mul-at
     loop-holds
     is-good-slot-requires
     returns
@@ -124,12 +115,9 @@ are-good-spec =
     byte-at-requires
     add-sum
     add-k
-    add-at
+    next-place-requires
     loop-less
     loop-again
     returns-3
-    sub-greatest-byte
-    part-greatest-byte-start
-    part-greatest-byte-end
-    greatest-byte-requires
+    is-rest-clear-requires
     returns-4)

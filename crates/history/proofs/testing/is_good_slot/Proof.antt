@@ -1,11 +1,14 @@
--- `history::testing::is_good_slot` meets its contract.
+use native.Mathlib.Omega.{arith}
+use Rattle.history.proofs.Passing.{entry-top, slot-stray, slot-clear}
 use borrow.Author.Needs.{needs}
-use Rattle.history.proofs.Judging.{entry-below, slot-bad, slot-good}
-use borrow.Author.Tests.{not-true, not-false}
-use Prim.Native.Nat.{_+_}
-use mathlib.Core.Path.{sym, _∙_}
 use Rattle.history.proofs.testing.is_good_slot.Statement.{statement}
 use Rattle.history.proofs.testing.is_good_slot.Tie as tie
+use Rattle.history.proofs.testing.is_good_slot.Reads as reads
+use Rattle.history.proofs.testing.is_good_slot.Lts as lts
+use Rattle.buffer.proofs.byte_at.Reads as byte-at-reads
+use Rattle.buffer.proofs.greatest_byte.Reads as greatest-byte-reads
+use Rattle.history.proofs.testing.is_usable.Reads as is-usable-reads
+use Rattle.history.proofs.testing.top_of.Reads as top-of-reads
 
 add-start : tie.Need-add-start
 add-start c = search needs
@@ -18,6 +21,24 @@ add-end c = search needs
 
 add-next : tie.Need-add-next
 add-next c = search needs
+
+sub-greatest-byte : tie.Need-sub-greatest-byte
+sub-greatest-byte c = search needs
+
+part-greatest-byte-start : tie.Need-part-greatest-byte-start
+part-greatest-byte-start c = search needs
+
+part-greatest-byte-end : tie.Need-part-greatest-byte-end
+part-greatest-byte-end c = search needs
+
+greatest-byte-requires : tie.Need-greatest-byte-requires
+greatest-byte-requires c κs = search needs
+
+returns : tie.Need-returns
+returns c =
+    let args = c .before .before .before .before .before .args in
+    let byte-at = c .before .before .before .byte-at in
+    slot-stray (args .slots .now) (args .at) _ _ (byte-at .ensures .byte) (let l = c .before .before .before .byte-at .ensures .small in omega arith) (c .before .greatest-byte .ensures) (c .if1 .taken)
 
 top-of-requires : tie.Need-top-of-requires
 top-of-requires c κs = search needs
@@ -33,33 +54,17 @@ part-is-usable-end c = search needs
 
 is-usable-requires : tie.Need-is-usable-requires
 is-usable-requires c κs =
-    let args = c .before .before .before .before .args in
-    entry-below (args .slots .now) (args .at + 1) _ _ (c .before .top-of .ensures)
-
-returns : tie.Need-returns
-returns c =
-    let args = c .before .before .before .before .before .before .args in
-    let byte-at = c .before .before .before .before .byte-at in
-    sym (slot-bad (args .slots .now) (args .at) _ (byte-at .ensures .byte) (sym (c .before .is-usable .ensures) ∙ not-true (c .before .is-usable .result) (c .if1 .taken)))
-
-sub-greatest-byte : tie.Need-sub-greatest-byte
-sub-greatest-byte c = search needs
-
-part-greatest-byte-start : tie.Need-part-greatest-byte-start
-part-greatest-byte-start c = search needs
-
-part-greatest-byte-end : tie.Need-part-greatest-byte-end
-part-greatest-byte-end c = search needs
-
-greatest-byte-requires : tie.Need-greatest-byte-requires
-greatest-byte-requires c κs = search needs
+    let args = c .before .before .before .before .before .before .before .args in
+    let greatest-byte = c .before .before .before .greatest-byte in
+    entry-top (args .slots .now) (args .at) _ _ _ (let l = c .before .before .before .before .before .byte-at .ensures .small in omega arith) (greatest-byte .ensures) (c .before .before .if1 .left) (c .before .top-of .ensures)
 
 returns-2 : tie.Need-returns-2
 returns-2 c =
     let args = c .before .before .before .before .before .before .before .before .args in
     let byte-at = c .before .before .before .before .before .before .byte-at in
-    let is-usable = c .before .before .before .is-usable in
-    slot-good (args .slots .now) (args .at) _ _ (byte-at .ensures .byte) (sym (is-usable .ensures) ∙ not-false (is-usable .result) (c .before .before .if1 .left)) (c .greatest-byte .ensures)
+    let greatest-byte = c .before .before .before .before .greatest-byte in
+    let if1 = c .before .before .before .if1 in
+    slot-clear (args .slots .now) (args .at) _ _ (byte-at .ensures .byte) (let l = c .before .before .before .before .before .before .byte-at .ensures .small in omega arith) (greatest-byte .ensures) _ (if1 .left) (c .is-usable .ensures)
 
 pub is-good-slot-spec : {M : Type 1} → statement M
 is-good-slot-spec =
@@ -69,14 +74,14 @@ is-good-slot-spec =
     byte-at-requires
     add-end
     add-next
+    sub-greatest-byte
+    part-greatest-byte-start
+    part-greatest-byte-end
+    greatest-byte-requires
+    returns
     top-of-requires
     sub-is-usable
     part-is-usable-start
     part-is-usable-end
     is-usable-requires
-    returns
-    sub-greatest-byte
-    part-greatest-byte-start
-    part-greatest-byte-end
-    greatest-byte-requires
     returns-2)

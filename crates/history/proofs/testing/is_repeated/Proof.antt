@@ -1,19 +1,18 @@
--- `history::testing::is_repeated` meets its contract.
+use mathlib.Core.Path.{sym, _∙_}
+use native.Mathlib.Omega.{arith}
+use Rattle.history.proofs.Passing.{none-before, heads-tell, two-slots}
 use borrow.Author.Tests.{not-true}
 use borrow.Author.Needs.{needs}
-use Rattle.history.proofs.Judging.{before-first, slot-some, heads-tell, two-slots}
-use native.Mathlib.Omega.{arith}
-use mathlib.Core.Path.{sym, _∙_}
 use Rattle.history.proofs.testing.is_repeated.Statement.{statement}
 use Rattle.history.proofs.testing.is_repeated.Tie as tie
+use Rattle.history.proofs.testing.is_repeated.Reads as reads
+use Rattle.history.proofs.testing.is_repeated.Lts as lts
+use Rattle.buffer.proofs.same_throughout.Reads as same-throughout-reads
 
 returns : tie.Need-returns
 returns c =
     let args = c .before .before .args in
-    rw (before-first (args .slots .now) (args .at) (c .if1 .taken)) (sym (slot-some (args .slots .now) (args .at) (omega (arith, c .before .before .pre))))
-
-add-next : tie.Need-add-next
-add-next c = search needs
+    none-before (args .k) (args .slots .now) (args .before) (args .at) (c .if1 .taken) (let p = c .before .before .pre .1 in omega arith)
 
 add-head : tie.Need-add-head
 add-head c = search needs
@@ -46,7 +45,13 @@ returns-2 : tie.Need-returns-2
 returns-2 c =
     let args = c .before .before .before .before .before .before .args in
     let if1 = c .before .before .before .before .if1 in
-    heads-tell (args .slots .now) (args .at) (if1 .left) (sym (c .before .same-throughout .ensures) ∙ not-true (c .before .same-throughout .result) (c .if2 .taken))
+    heads-tell (args .k) (args .slots .now) (args .before) (args .at) (if1 .left) (sym (c .before .same-throughout .ensures) ∙ not-true (c .before .same-throughout .result) (c .if2 .taken))
+
+add-end : tie.Need-add-end
+add-end c = search needs
+
+add-next : tie.Need-add-next
+add-next c = search needs
 
 sub-same-throughout-3 : tie.Need-sub-same-throughout-3
 sub-same-throughout-3 c = search needs
@@ -73,14 +78,13 @@ returns-3 : tie.Need-returns-3
 returns-3 c =
     let args = c .before .before .before .before .before .before .before .before .before .args in
     let if1 = c .before .before .before .before .before .before .before .if1 in
-    c .same-throughout2 .ensures ∙ two-slots (args .slots .now) (args .at) (if1 .left)
+    c .same-throughout2 .ensures ∙ two-slots (args .k) (args .slots .now) (args .before) (args .at) (if1 .left)
 
 pub is-repeated-spec : {M : Type 1} → statement M
 is-repeated-spec =
     tie.close
     (tie.spec
     returns
-    add-next
     add-head
     add-block
     sub-same-throughout
@@ -91,6 +95,8 @@ is-repeated-spec =
     part-same-throughout-end-2
     same-throughout-requires
     returns-2
+    add-end
+    add-next
     sub-same-throughout-3
     part-same-throughout-start-3
     part-same-throughout-end-3

@@ -1,46 +1,52 @@
--- `history::testing::is_usable` meets its contract.
-use borrow.Author.Needs.{needs}
-use Rattle.buffer.proofs.Choices.{then-is, else-is}
-use Rattle.text.proofs.Prefix.{ascii-well-formed, whole-is}
-use Rattle.text.specs.Decoding.{wellFormed}
-use Rattle.history.specs.Entries.{usable}
-use borrow.Author.Tests.{eq-eqb}
 use mathlib.Core.Path.{sym, _∙_}
-use native.Mathlib.Omega.{arith}
+use Rattle.buffer.proofs.Choices.{then-is, else-is}
+use Rattle.history.specs.Entries.{usable}
+use Rattle.history.proofs.Passing.{usable-solid, usable-low}
+use borrow.Author.Needs.{needs}
 use Rattle.history.proofs.testing.is_usable.Statement.{statement}
 use Rattle.history.proofs.testing.is_usable.Tie as tie
+use Rattle.history.proofs.testing.is_usable.Reads as reads
+use Rattle.history.proofs.testing.is_usable.Lts as lts
+use Rattle.text.proofs.is_blank.Reads as is-blank-reads
+use Rattle.text.proofs.is_well_formed.Reads as is-well-formed-reads
+
+returns : tie.Need-returns
+returns c =
+    let args = c .before .before .before .args in
+    let pre = c .before .before .before .pre in
+    usable-solid (args .text .now) _ pre (c .before .if1 .taken) (c .if2 .taken)
 
 is-blank-requires : tie.Need-is-blank-requires
 is-blank-requires c κs = search needs
 
-returns : tie.Need-returns
-unfolding usable
-returns c = sym (then-is _ _ _ (sym (c .before .is-blank .ensures) ∙ c .if1 .taken))
-
 returns-2 : tie.Need-returns-2
-unfolding usable wellFormed
 returns-2 c =
     let args = c .before .before .before .before .args in
     let pre = c .before .before .before .before .pre in
-    let blank = sym (c .before .before .is-blank .ensures) ∙ c .before .if1 .left in
-    sym (else-is _ _ _ blank ∙ eq-eqb _ _ (whole-is _ (ascii-well-formed (args .text .now) (omega (arith, pre, c .if2 .taken)))))
+    usable-low (args .text .now) _ _ pre (c .before .before .if1 .taken) (c .is-blank .ensures)
 
-well-formed-prefix-requires : tie.Need-well-formed-prefix-requires
-well-formed-prefix-requires c κs = search needs
+is-blank-requires-2 : tie.Need-is-blank-requires-2
+is-blank-requires-2 c κs = search needs
 
 returns-3 : tie.Need-returns-3
-unfolding usable wellFormed
-returns-3 c =
-    let is-blank = c .before .before .before .is-blank in
-    let blank = sym (is-blank .ensures) ∙ c .before .before .if1 .left in
-    sym (else-is _ _ _ blank ∙ rw (c .well-formed-prefix .ensures))
+unfolding usable
+returns-3 c = sym (then-is _ _ _ (sym (c .before .is-blank2 .ensures) ∙ c .if3 .taken))
+
+is-well-formed-requires : tie.Need-is-well-formed-requires
+is-well-formed-requires c κs = search needs
+
+returns-4 : tie.Need-returns-4
+unfolding usable
+returns-4 c = c .is-well-formed .ensures ∙ sym (else-is _ _ _ (sym (c .before .before .is-blank2 .ensures) ∙ c .before .if3 .left))
 
 pub is-usable-spec : {M : Type 1} → statement M
 is-usable-spec =
     tie.close
     (tie.spec
-    is-blank-requires
     returns
+    is-blank-requires
     returns-2
-    well-formed-prefix-requires
-    returns-3)
+    is-blank-requires-2
+    returns-3
+    is-well-formed-requires
+    returns-4)

@@ -1,5 +1,5 @@
 -- `history::testing::top_of` meets its contract.
-use Rattle.history.proofs.Judging.{top-short, top-long}
+use Rattle.history.proofs.Passing.{top-short, top-long}
 use borrow.Author.Needs.{needs}
 use Rattle.history.proofs.testing.top_of.Statement.{statement}
 use Rattle.history.proofs.testing.top_of.Tie as tie

@@ -1,10 +1,14 @@
--- `history::stepping::History::recall` meets its contract.
-use Rattle.history.proofs.Newest.{recall-past, recall-none, recall-there}
 use mathlib.Core.Path.{_∙_}
 use native.Mathlib.Omega.{arith}
+use Rattle.history.proofs.Newest.{recall-past, recall-there}
 use borrow.Author.Needs.{needs}
 use Rattle.history.proofs.stepping.History.recall.Statement.{statement}
 use Rattle.history.proofs.stepping.History.recall.Tie as tie
+use Rattle.history.proofs.stepping.History.recall.Reads as reads
+use Rattle.history.proofs.stepping.History.recall.Lts as lts
+use Rattle.buffer.proofs.byte_at.Reads as byte-at-reads
+use Rattle.buffer.proofs.part.Reads as part-reads
+use Rattle.history.proofs.slots.place_of.Reads as place-of-reads
 
 part-requires : tie.Need-part-requires
 part-requires c κs = search needs
@@ -14,16 +18,8 @@ returns c =
     let args = c .before .before .before .before .args in
     c .part .ensures ∙ recall-past (args .self) (args .slots .now) (args .number) (c .before .if1 .taken)
 
-part-requires-2 : tie.Need-part-requires-2
-part-requires-2 c κs = search needs
-
-returns-2 : tie.Need-returns-2
-returns-2 c =
-    let args = c .before .before .before .before .before .args in
-    c .part2 .ensures ∙ recall-none (args .self) (args .slots .now) (args .number) (omega (arith, c .before .before .if1 .left)) (c .before .if2 .taken)
-
-mul-at : tie.Need-mul-at
-mul-at c = search needs
+place-of-requires : tie.Need-place-of-requires
+place-of-requires c κs = search needs
 
 add-part : tie.Need-add-part
 add-part c = search needs
@@ -31,14 +27,13 @@ add-part c = search needs
 byte-at-requires : tie.Need-byte-at-requires
 byte-at-requires c κs = search needs
 
-part-requires-3 : tie.Need-part-requires-3
-part-requires-3 c κs = search needs
+part-requires-2 : tie.Need-part-requires-2
+part-requires-2 c κs = search needs
 
-returns-3 : tie.Need-returns-3
-returns-3 c =
+returns-2 : tie.Need-returns-2
+returns-2 c =
     let args = c .before .before .before .before .before .before .args in
-    let if1 = c .before .before .before .if1 in
-    c .part3 .ensures ∙ recall-there (args .self) (args .slots .now) (args .number) (omega (arith, if1 .left)) _ (c .before .byte-at .ensures .byte)
+    c .part2 .ensures ∙ recall-there (args .self) (args .slots .now) (args .number) (let l = c .before .before .before .if1 .left in omega arith) _ _ (c .before .before .place-of .ensures) (c .before .byte-at .ensures .byte) (let l = c .before .byte-at .ensures .small in omega arith)
 
 pub recall-spec : {M : Type 1} → statement M
 recall-spec =
@@ -46,10 +41,8 @@ recall-spec =
     (tie.spec
     part-requires
     returns
-    part-requires-2
-    returns-2
-    mul-at
+    place-of-requires
     add-part
     byte-at-requires
-    part-requires-3
-    returns-3)
+    part-requires-2
+    returns-2)
