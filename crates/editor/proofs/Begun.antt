@@ -9,7 +9,7 @@ use lib.ListN.{length}
 use Rattle.buffer.specs.Write.{over}
 use Rattle.buffer.proofs.Choices.{then-is, else-is}
 use Rattle.history.specs.Slots.{slotAfter, ChangesOnly}
-use Rattle.history.specs.Journal.{count, Alike, journalOf, slotsOf as journalSlots}
+use Rattle.history.specs.Journal.{count, journalOf, slotsOf as journalSlots}
 use Rattle.history.specs.declared.stepping.History.{History}
 use Rattle.history.proofs.Journals.{slots-held, count-held}
 use Rattle.history.proofs.Begun.{changes-none, offered-changes}

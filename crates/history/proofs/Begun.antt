@@ -5,22 +5,21 @@ use mathlib.Core.Bool.{Bool, true, false, cond}
 use mathlib.Core.List.{List, [], _∷_, _++_}
 use native.Mathlib.Omega.{arith}
 use lib.Dec.{ltb}
-use lib.ListN.{length, take, drop, getD, length-drop}
+use lib.ListN.{length, take, drop}
 use lib.Seq.{take-at, drop-at, drop-drop, length-take-le}
-use borrow.Author.Tests.{ltb-true, ltb-false, le-ltb, lt-ltb}
+use borrow.Author.Tests.{ltb-true, ltb-false}
 use Rattle.buffer.specs.Lend.{zeros}
 use Rattle.buffer.specs.Write.{over, overAt}
-use Rattle.buffer.proofs.Choices.{then-is, else-is}
 use Rattle.buffer.proofs.Lending.{length-overAt}
 use Rattle.history.specs.Entries.{mostEntries, isNew, withRoom, added, total}
 use Rattle.history.specs.Slots.{slotAfter, slot, turned, layout, slotAt, ChangesOnly}
-use Rattle.history.specs.Journal.{Journal, count, entryOf, firstAfter, offered, Alike, recordOf, slotsOf, journalOf, good}
+use Rattle.history.specs.Journal.{Journal, count, entryOf, firstAfter, offered, Alike, slotsOf, journalOf, good}
 use Rattle.history.specs.Answer.{addAnswer, recordBy, slotsBy, Addition}
 use Rattle.history.specs.declared.stepping.History.{History}
 use Rattle.history.specs.declared.adding.Added.{Added}
 use Rattle.history.specs.declared.adding.Added.the-variants.{Done, BadState, TooLong, IllFormed}
 use Rattle.history.proofs.Turned.{after-below, slot-turned}
-use Rattle.history.proofs.Layouts.{Short, length-slot, length-layout, layout-turned, layout-more, in-order-slot, in-order-unused}
+use Rattle.history.proofs.Layouts.{length-slot, length-layout, layout-turned, layout-more, in-order-slot, in-order-unused}
 use Rattle.history.proofs.States.{full-layout}
 use Rattle.history.proofs.Journals.{Fair, good-fair, slots-held, count-held, place-held, good-total}
 use Rattle.history.proofs.Called.{done-has, add-after}

@@ -6,9 +6,9 @@ use mathlib.Core.List.{List, [], _∷_, _++_, append-assoc}
 use native.Mathlib.Omega.{arith}
 use lib.Dec.{eqb}
 use lib.ListN.{length, take, drop, getD, length-drop, take-append-drop}
-use lib.Seq.{take-add, take-all, drop-drop, getD-take, length-take-le}
+use lib.Seq.{take-add, take-all, drop-drop, length-take-le}
 use borrow.Author.Tests.{eq-eqb, ne-eqb, lt-ltb, le-leb}
-use Rattle.buffer.proofs.Choices.{then-is, else-is, true-is-not-false}
+use Rattle.buffer.proofs.Choices.{then-is, else-is, neither, itself, true-is-not-false}
 use Rattle.buffer.proofs.Lists.{drop-step}
 use Rattle.buffer.proofs.Zeros.{zero-bytes}
 use Rattle.buffer.proofs.Ordering.{same-append, same-after, same-as, same-is}
@@ -109,14 +109,6 @@ order-step bs es rest fits byte =
     ∙ ap (λ (l : List ℕ). sameBytes (slot (entry s) ++ (run es ++ rest)) l) (sym (take-append-drop 256 bs))
     ∙ same-append (slot (entry s)) s (run es ++ rest) (drop 256 bs) size
     ∙ ap (λ (t : Bool). cond t (sameBytes (run es ++ rest) (drop 256 bs)) false) (slot-laid s whole byte)
-
-pub neither : (t : Bool) → cond t false false ≡ false
-neither true = refl
-neither false = refl
-
-pub itself : (t : Bool) → cond t true false ≡ t
-itself true = refl
-itself false = refl
 
 joined : (p s r j : Bool) → j ≡ cond s r false → cond p false j ≡ cond (cond p false s) r false
 joined true s r j e = refl

@@ -2,13 +2,13 @@
 use Prim.Native.Nat.{ℕ, zero, suc, _+_, _-_, _*_, _%_, _<_, _≤_, max}
 use mathlib.Core.Path.{_≡_, refl, sym, ap, _∙_}
 use mathlib.Core.Bool.{Bool, true, false, cond, not}
-use mathlib.Core.List.{List, [], _∷_, _++_}
+use mathlib.Core.List.{List, [], _++_}
 use native.Mathlib.Omega.{arith}
 use lib.Dec.{ltb, eqb}
 use lib.ListN.{length, take, drop, getD, length-drop, take-append-drop}
-use lib.Seq.{take-add, take-take, drop-drop, drop-append-le, drop-append-add, getD-take, getD-drop, length-take-le}
-use borrow.Author.Tests.{eq-eqb, ne-eqb, lt-ltb, le-ltb, ltb-true, ltb-false}
-use Rattle.buffer.proofs.Choices.{then-is, else-is}
+use lib.Seq.{take-add, take-take, drop-drop, drop-append-le, drop-append-add, getD-take, getD-drop}
+use borrow.Author.Tests.{eq-eqb, ne-eqb, ltb-true, ltb-false}
+use Rattle.buffer.proofs.Choices.{then-is, else-is, neither, itself}
 use Rattle.buffer.proofs.Lists.{drop-step, drop-take}
 use Rattle.buffer.proofs.Lending.{rest-lent}
 use Rattle.buffer.proofs.Greatest.{greatest-append}
@@ -23,7 +23,6 @@ use Rattle.history.specs.Entries.{usable, total}
 use Rattle.history.specs.Slots.{slotAfter, turned, slotAt, entry}
 use Rattle.history.specs.Inner.{unused, goodSlot, slotBefore, nextPlace, entriesOf, judged}
 use Rattle.history.proofs.Turned.{length-turned, slot-turned}
-use Rattle.history.proofs.Judging.{neither, itself}
 use Rattle.history.proofs.Totals.{total-turn}
 
 -- what is read of a slot, where it is read with more after it

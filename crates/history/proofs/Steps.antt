@@ -60,7 +60,7 @@ pub onward-total : (h : History) → onward h .history .total ≡ h .total
 onward-total h = ap (λ (x : History). x .total) (onward-placed h)
 
 -- and where it leads and what it recalls goes by place and count alone
-pub back-by : (h : History) → (back h .recalled ≡ cond (eqb (h .place) 0) Nothing (Entry (h .place - 1))) × (back h .history .place ≡ cond (eqb (h .place) 0) (h .place) (h .place - 1))
+back-by : (h : History) → (back h .recalled ≡ cond (eqb (h .place) 0) Nothing (Entry (h .place - 1))) × (back h .history .place ≡ cond (eqb (h .place) 0) (h .place) (h .place - 1))
 unfolding back
 back-by h = by (eqb (h .place) 0)
   where
@@ -69,7 +69,7 @@ back-by h = by (eqb (h .place) 0)
     by true = (refl, refl)
     by false = (refl, refl)
 
-pub onward-by : (h : History)
+onward-by : (h : History)
     → (onward h .recalled ≡ cond (ltb (h .place) (h .count)) (recalledAt (h .count) (h .place + 1)) Nothing)
     × (onward h .history .place ≡ cond (ltb (h .place) (h .count)) (h .place + 1) (h .place))
 unfolding onward

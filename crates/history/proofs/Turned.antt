@@ -5,11 +5,11 @@ use mathlib.Core.Bool.{Bool, true, false}
 use mathlib.Core.List.{List, [], _∷_, _++_, append-assoc, append-nil}
 use native.Mathlib.Omega.{arith}
 use lib.Dec.{ltb}
-use lib.ListN.{length, take, drop, getD, length-append, length-take, length-drop, take-append-drop}
-use lib.Seq.{take-at, drop-at, take-append-le, drop-append-le, drop-append-add, drop-drop, take-take, length-take-le}
+use lib.ListN.{length, take, drop, getD, length-append, length-drop, take-append-drop}
+use lib.Seq.{take-at, drop-at, take-append-le, drop-append-le, drop-append-add, drop-drop, length-take-le}
 use borrow.Author.Tests.{ltb-true, ltb-false}
 use Rattle.buffer.proofs.Lending.{length-overAt, overAt-first, overAt-second}
-use Rattle.buffer.specs.Write.{over, overAt}
+use Rattle.buffer.specs.Write.{overAt}
 use Rattle.history.specs.Slots.{slotAfter, turned, slotAt, entry, entriesFrom}
 use Rattle.history.specs.Inner.{entriesOf}
 
@@ -41,10 +41,6 @@ pub turned-on : (n : ℕ) (s : List ℕ) → n ≤ 100 → length s ≡ 25600 �
 turned-on n s h l =
     let e : 100 - (100 - n) ≡ n = omega arith in
     ap (λ (k : ℕ). turned k (turned (100 - n) s)) (sym e) ∙ turned-back (100 - n) s (omega arith) l
-
--- what is the same turned is the same
-pub turned-same : (n : ℕ) (s t : List ℕ) → n ≤ 100 → length s ≡ 25600 → length t ≡ 25600 → turned n s ≡ t → s ≡ turned (100 - n) t
-turned-same n s t h k l e = sym (turned-back n s h k) ∙ ap (turned (100 - n)) e
 
 -- where the slot lies that is k after the first: before the end of the buffer, or round it
 pub after-before : (f k : ℕ) → f + k < 100 → slotAfter f k ≡ f + k

@@ -15,11 +15,11 @@ use Rattle.history.specs.declared.adding.Added.the-variants.{Done}
 use Rattle.history.specs.Steps.{back, onward}
 use Rattle.history.proofs.Steps.{back-total, onward-total}
 use Rattle.history.proofs.Journals.{good-total, wrong-total, one-total}
-use Rattle.history.proofs.Judging.{neither}
 use Rattle.history.proofs.Called.{added-total}
 use Rattle.keys.specs.declared.standing.Profile.{Profile}
 use Rattle.keys.specs.Modes.{profileNumber}
 use Rattle.buffer.specs.Lend.{zeros}
+use Rattle.buffer.proofs.Choices.{neither}
 use Rattle.editor.specs.declared.line.Editor.{Editor}
 use Rattle.editor.specs.declared.drawing.Pressed.{Pressed}
 use Rattle.editor.specs.Line.{lineOf, goodEditor}

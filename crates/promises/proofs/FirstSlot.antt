@@ -7,6 +7,7 @@ use mathlib.Core.List.{List, []}
 use native.Mathlib.Omega.{arith}
 use lib.ListN.{getD}
 use Rattle.buffer.specs.Lend.{zeros}
+use Rattle.buffer.proofs.Choices.{neither}
 use Rattle.history.specs.Slots.{slotAfter, slot, slotAt, ChangesOnly}
 use Rattle.history.specs.Journal.{Journal, noEntries, entryOf, firstAfter, Alike, recordOf, slotsOf as journalSlots, journalOf, good}
 use Rattle.history.specs.Answer.{number as addedNumber, value as addedValue, Addition}
@@ -16,8 +17,7 @@ use Rattle.history.specs.declared.adding.Added.the-variants.{Done}
 use Rattle.history.specs.Steps.{back, onward}
 use Rattle.history.proofs.Steps.{back-placed, onward-placed, same-steps}
 use Rattle.history.proofs.States.{good-has}
-use Rattle.history.proofs.Journals.{Fair, good-fair, fair-good, count-held, slots-held}
-use Rattle.history.proofs.Judging.{neither}
+use Rattle.history.proofs.Journals.{good-fair, fair-good, count-held, slots-held}
 use Rattle.history.proofs.Called.{add-after}
 use Rattle.history.proofs.Lasting.{added-good}
 use Rattle.history.proofs.Begun.{entry-lies, zeros-lie, add-changes, numbers-alike, add-alike as add-alike-by-value}

@@ -1,6 +1,6 @@
 -- Where a history begins, of saved states: a call changes the bytes of one slot at most, and in two good states that differ in nothing else it answers the same and leaves two such states.
 use Prim.Native.Nat.{ℕ}
-use mathlib.Core.Path.{_≡_, refl, sym, ap, _∙_}
+use mathlib.Core.Path.{_≡_, refl, ap, _∙_}
 use mathlib.Core.Bool.{Bool, true, false}
 use mathlib.Core.List.{List}
 use Rattle.buffer.proofs.Choices.{else-is, then-is}

@@ -10,7 +10,7 @@ use lib.Dec.{eqb}
 use lib.ListN.{length, take, drop, length-append, length-drop}
 use lib.Seq.{drop-drop, take-at, append-snoc}
 use Rattle.buffer.specs.Greatest.{greatest}
-use Rattle.buffer.proofs.Choices.{else-is}
+use Rattle.buffer.proofs.Choices.{else-is, neither}
 use Rattle.buffer.proofs.Lists.{drop-end}
 use Rattle.text.specs.Decoding.{Piece, piecesOf, bytesOf, bytesAll}
 use Rattle.text.specs.declared.apart.Word.{Word}
@@ -118,12 +118,8 @@ solid-ascii (a ∷ s) h k =
     blank-ascii a s (omega arith)
     ∙ ⊎-elim
     (λ (l : 0x20 < a). else-is (isWhiteSpace a) (blank s) false (ascii-solid a l (omega arith)))
-    (λ (l : a ≤ 0x20). ap (λ (t : Bool). cond (isWhiteSpace a) t false) (solid-ascii s (omega arith) (omega arith)) ∙ either (isWhiteSpace a))
+    (λ (l : a ≤ 0x20). ap (λ (t : Bool). cond (isWhiteSpace a) t false) (solid-ascii s (omega arith) (omega arith)) ∙ neither (isWhiteSpace a))
     (below-or-not 0x20 a)
-  where
-    either : (t : Bool) → cond t false false ≡ false
-    either true = refl
-    either false = refl
 
 -- what is left without the white space at the end begins the pieces
 record Leaves (ps : List Piece) : Type 0 where

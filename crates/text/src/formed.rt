@@ -1,7 +1,7 @@
 // Whether a text is well-formed, many bytes at a time: each byte is judged by the three before it, without an early exit.
 ghost use mathlib.Core.Path.{_≡_};
 ghost use lib.ListN.{length, take};
-ghost use Prim.Native.Nat.{max, _≤_};
+ghost use Prim.Native.Nat.{_≤_};
 ghost use Rattle.buffer.specs.Greatest.{greatest};
 ghost use Rattle.text.specs.Decoding.{wellFormed};
 ghost use Rattle.text.specs.Inner.{outside, awaited, misfit, misfits, misfitsIn, endMisfit, unfit};
