@@ -1,5 +1,5 @@
 // Adding to a history: a text that is not blank and differs from the newest entry stands after it; when full, the oldest goes.
-ghost use Prim.Native.Nat.{_+_, _≤_};
+ghost use Prim.Native.Nat.{_≤_};
 ghost use mathlib.Core.Path.{_≡_};
 ghost use mathlib.Core.Bool.{true};
 ghost use lib.ListN.{length};

@@ -1,5 +1,5 @@
 // The slots: storing an entry in one, clearing, and where each lies, round the end.
-ghost use Prim.Native.Nat.{_+_, _-_, _*_, _≤_, _<_};
+ghost use Prim.Native.Nat.{_+_, _-_, _*_, _≤_};
 ghost use mathlib.Core.Path.{_≡_};
 ghost use lib.ListN.{length};
 ghost use Rattle.buffer.specs.Write.{overAt};
@@ -28,7 +28,8 @@ pub fn store(text: &[u8], slots: &mut [u8], at: usize)
 {
     let start = push_byte(text.len() as u8, slots, at);
     let end = push(text, slots, start);
-    clear(slots, end, at + History::SLOT);
+    let next = at + History::SLOT;
+    clear(slots, end, next);
 }
 
 // Where the slot begins that lies so many after another, round the end.

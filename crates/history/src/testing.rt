@@ -1,4 +1,4 @@
-// The state test. Every key runs it, so it goes over the slots in passes without an early exit.
+// The state test. Every key runs it, so it goes over the bytes of a slot in passes without an early exit.
 ghost use Prim.Native.Nat.{_+_, _*_, _<_, _≤_, max};
 ghost use mathlib.Core.Path.{_≡_};
 ghost use lib.Dec.{eqb};

@@ -191,7 +191,7 @@ in-use-by-calls state slots r = in-bytes state slots (reached r)
 pub first-by-calls : (state slots : List ℕ) → ReachedByCalls state slots → (firstByte state ≡ historyIn state .first) × (firstByte state < 100)
 first-by-calls state slots r = first-in-bytes state slots (reached r)
 
--- a call changes the bytes of one slot at most, whatever it answers
+-- a key and an add change the bytes of one slot at most, whatever they answer
 pub key-changes-by-calls : (state slots prompt : List ℕ) (byte : ℕ) (line screen : List ℕ) (p : ℕ) (state′ slots′ line′ screen′ : List ℕ)
     → KeyCall state slots prompt byte line screen p state′ slots′ line′ screen′ → ChangesOnly (slotAfter (historyIn state .first) (historyIn state .count)) slots slots′
 key-changes-by-calls state slots prompt byte line screen p state′ slots′ line′ screen′ c =
@@ -203,7 +203,7 @@ pub add-changes-by-calls : (state slots text : List ℕ) (p : ℕ) (state′ slo
 add-changes-by-calls state slots text p state′ slots′ c =
     let b = add-packs state slots text p state′ slots′ c in saved-add-changes-one state slots text (b .0) state′ slots′ (b .1)
 
--- and answers the same 64 bits in two good states that differ in where their history begins and in nothing else, with the same bytes in both buffers, and leaves two such states
+-- and answer the same 64 bits in two good states that differ in where their history begins and in nothing else, with the same bytes in both buffers, and leave two such states
 module _ (state slots state₂ slots₂ : List ℕ) (g : goodSaved state slots ≡ true) (g₂ : goodSaved state₂ slots₂ ≡ true) (a : SameBut (heldIn state slots) (heldIn state₂ slots₂)) where
   pub same-key-by-calls : (prompt : List ℕ) (byte : ℕ) (line screen : List ℕ) (p q : ℕ) (state′ slots′ line′ screen′ state₂′ slots₂′ line₂′ screen₂′ : List ℕ)
       → KeyCall state slots prompt byte line screen p state′ slots′ line′ screen′ → KeyCall state₂ slots₂ prompt byte line screen q state₂′ slots₂′ line₂′ screen₂′

@@ -17,7 +17,7 @@ use Rattle.history.specs.declared.adding.Added.the-variants.{Done}
 use Rattle.history.specs.Steps.{back, onward}
 use Rattle.history.proofs.Steps.{back-placed, onward-placed, same-steps}
 use Rattle.history.proofs.States.{good-has}
-use Rattle.history.proofs.Journals.{good-fair, fair-good, count-held, slots-held}
+use Rattle.history.proofs.Journals.{Fair, good-fair, fair-held, fair-good, count-held, slots-held}
 use Rattle.history.proofs.Called.{add-after}
 use Rattle.history.proofs.Lasting.{added-good}
 use Rattle.history.proofs.Begun.{entry-lies, zeros-lie, add-changes, numbers-alike, add-alike as add-alike-by-value}
@@ -81,15 +81,18 @@ pub fresh-byte : (p : Profile) → firstByte (freshSaved (profileNumber p)) ≡ 
 unfolding zeros
 fresh-byte p = ap (λ (s : List ℕ). getD s 265 0) (fresh-saved p)
 
--- ANY OF THE HUNDRED is good with any history: what a good state holds can begin at each of them
+-- ANY OF THE HUNDRED is good with any history: what a good state holds can begin at each of them, and is the same there
 abbrev pub begunAt : ℕ → Journal → Journal
 begunAt first j = record { entries = j .entries; place = j .place; first = first }
 
 pub any-slot : (h : History) (slots : List ℕ) (first : ℕ) → good h slots ≡ true → first < 100
-    → let j : Journal = begunAt first (journalOf h slots) in good (recordOf j) (journalSlots j) ≡ true
+    → let j : Journal = begunAt first (journalOf h slots) in
+    (good (recordOf j) (journalSlots j) ≡ true) × (journalOf (recordOf j) (journalSlots j) ≡ j) × Alike (journalOf h slots) j
 any-slot h slots first g l =
     let f = good-fair h slots g in
-    fair-good (begunAt first (journalOf h slots)) (record { entries = f .entries; placed = f .placed; begins = l })
+    let j : Journal = begunAt first (journalOf h slots) in
+    let fair : Fair j = record { entries = f .entries; placed = f .placed; begins = l } in
+    (fair-good j fair, fair-held j fair, record { entries = refl; place = refl })
 
 -- A STEP leaves it alone, and AN ADD moves it on by one, round the end, where it drops the oldest, and nowhere else
 pub by-step : (h : History) → (back h .history .first ≡ h .first) × (onward h .history .first ≡ h .first)

@@ -1,16 +1,15 @@
 -- A text is well-formed exactly if each of its bytes, and its end, fits after the three bytes before it.
 use Prim.Native.Nat.{ℕ, zero, suc, _+_, _<_, _≤_, max}
 use mathlib.Core.Path.{_≡_, refl, sym, ap, _∙_}
-use mathlib.Core.Bool.{Bool, true, false, cond}
-use mathlib.Core.List.{List, [], _∷_, _++_, append-assoc, append-nil}
+use mathlib.Core.Bool.{Bool, true, false}
+use mathlib.Core.List.{List, [], _∷_}
 use mathlib.Core.Logic.{⊎-elim}
 use native.Mathlib.Omega.{arith}
 use types.Run.{hit}
-use borrow.Author.Tests.{lt-ltb, le-ltb, le-leb, lt-leb, leb-false, eq-eqb, ne-eqb, eqb-true, eqb-false}
+use borrow.Author.Tests.{lt-ltb, le-ltb, le-leb, lt-leb, eq-eqb, ne-eqb, eqb-true, eqb-false}
 use lib.Dec.{leb, eqb}
 use lib.ListN.{length, drop, getD, length-drop}
 use lib.Seq.{getD-drop, drop-drop}
-use Rattle.buffer.specs.Lend.{zeros}
 use Rattle.buffer.proofs.Choices.{then-is, else-is, true-is-not-false}
 use Rattle.text.specs.declared.utf8.Decoded.the-variants.{Character, IllFormed}
 use Rattle.text.specs.Decoding.{leastSecond, greatestSecond, within, second, later, table, decodeFirst, wellFormedLength, wellFormed}
@@ -353,44 +352,3 @@ same-within (suc k) (x ∷ s) h = same-front x s (λ i. same-within k (drop i s)
 -- a text is well-formed exactly if its bytes and its end fit
 pub fits-formed : (s : List ℕ) → eqb (unfit 0 0 0 s) 0 ≡ wellFormed s
 fits-formed s = same-within (suc (length s)) s (omega arith)
-
--- a zero byte more: where nothing is awaited, nothing is after it
-not-awaited : (c b a : ℕ) → awaited c b a ≡ false → (a < 0xC2) × (b < 0xE0)
-unfolding awaited
-not-awaited c b a e = by (leb 0xC2 a) (leb 0xE0 b) refl refl e
-  where
-    by : (t u : Bool) → leb 0xC2 a ≡ t → leb 0xE0 b ≡ u → cond t true (cond u true (leb 0xF0 c)) ≡ false → (a < 0xC2) × (b < 0xE0)
-    by true u p q r = absurd (true-is-not-false r)
-    by false true p q r = absurd (true-is-not-false r)
-    by false false p q r = (leb-false 0xC2 a p, leb-false 0xE0 b q)
-
-quiet : (c b a : ℕ) → awaited c b a ≡ false → awaited b a 0 ≡ false
-quiet c b a e = let q = not-awaited c b a e in after-whole b a 0 (omega arith) (let h = q .0 in omega arith) (let h = q .1 in omega arith)
-
-zero-more : (c b a : ℕ) → max (misfit c b a 0) (misfit b a 0 0) ≡ misfit c b a 0
-zero-more c b a = by (awaited c b a) (awaited b a 0) refl refl
-  where
-    full : (c b a : ℕ) → awaited c b a ≡ true → misfit c b a 0 ≡ 1
-    full c b a e = misfit-awaited c b a 0 e ∙ outside-is _ _ 0 (second-zero a)
-
-    none : (c b a : ℕ) → awaited c b a ≡ false → misfit c b a 0 ≡ 0
-    none c b a e = misfit-ascii c b a 0 e (omega arith)
-
-    by : (t u : Bool) → awaited c b a ≡ t → awaited b a 0 ≡ u → max (misfit c b a 0) (misfit b a 0 0) ≡ misfit c b a 0
-    by true true e f = let p = full c b a e in let q = full b a 0 f in omega arith
-    by t false e f = let q = none b a 0 f in omega arith
-    by false true e f = absurd (true-is-not-false (sym f ∙ quiet c b a e))
-
-unfit-zero : (c b a : ℕ) (s : List ℕ) → unfit c b a (s ++ 0 ∷ []) ≡ unfit c b a s
-unfolding unfit
-unfit-zero c b a [] = zero-more c b a
-unfit-zero c b a (x ∷ s) = ap (λ (n : ℕ). max (misfit c b a x) n) (unfit-zero b a x s)
-
-formed-zero : (s : List ℕ) → wellFormed (s ++ 0 ∷ []) ≡ wellFormed s
-formed-zero s = sym (fits-formed (s ++ 0 ∷ [])) ∙ ap (λ (n : ℕ). eqb n 0) (unfit-zero 0 0 0 s) ∙ fits-formed s
-
--- zeros after a text leave it well-formed, or ill-formed
-pub formed-zeros : (e : List ℕ) (n : ℕ) → wellFormed (e ++ zeros n) ≡ wellFormed e
-unfolding zeros
-formed-zeros e zero = ap wellFormed (append-nil e)
-formed-zeros e (suc n) = ap wellFormed (sym (append-assoc e (0 ∷ []) (zeros n))) ∙ formed-zeros (e ++ 0 ∷ []) n ∙ formed-zero e

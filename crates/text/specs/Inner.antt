@@ -47,7 +47,7 @@ unfoldable pub misfits : ℕ → ℕ → ℕ → List ℕ → List ℕ
 misfits c b a [] = []
 misfits c b a (x ∷ s) = misfit c b a x ∷ misfits b a x s
 
--- the bytes of a text from its fourth on
+-- the bytes of a text from its fourth on, judged so
 unfoldable pub misfitsIn : List ℕ → List ℕ
 misfitsIn s = misfits (getD s 0 0) (getD s 1 0) (getD s 2 0) (drop 3 s)
 

@@ -30,7 +30,7 @@ fn is_awaited(c: u8, b: u8, a: u8) -> bool
     0xF0 <= c
 }
 
-// 0 if x can stand after the bytes c, b and a, of which a is the nearest, 1 if not. A byte before the text's beginning is 0.
+// 0 if x can stand after the bytes c, b and a, of which a is the nearest, if these are right; 1 if not. A byte before the text's beginning is 0.
 fn misfit(c: u8, b: u8, a: u8, x: u8) -> u8
     ensures { λ r. ⌜ r ≡ misfit c b a x ⌝ }
 {

@@ -1,3 +1,4 @@
+-- `history::adding::offer` meets its contract.
 use mathlib.Core.Path.{sym, _∙_}
 use native.Mathlib.Omega.{arith}
 use borrow.Author.Tests.{not-true, not-false}
@@ -7,13 +8,6 @@ use Rattle.history.proofs.States.{good-has, dropped-within, offered-old
 use borrow.Author.Needs.{needs}
 use Rattle.history.proofs.adding.offer.Statement.{statement}
 use Rattle.history.proofs.adding.offer.Tie as tie
-use Rattle.history.proofs.adding.offer.Reads as reads
-use Rattle.history.proofs.adding.offer.Lts as lts
-use Rattle.buffer.proofs.byte_at.Reads as byte-at-reads
-use Rattle.history.proofs.adding.is_new.Reads as is-new-reads
-use Rattle.history.proofs.slots.place_of.Reads as place-of-reads
-use Rattle.history.proofs.slots.slot_after.Reads as slot-after-reads
-use Rattle.history.proofs.slots.store.Reads as store-reads
 
 add-grown : tie.Need-add-grown
 add-grown c =

@@ -1,11 +1,9 @@
+-- `history::slots::place_of` meets its contract.
 use native.Mathlib.Omega.{arith}
 use Rattle.history.proofs.Turned.{after-below}
 use borrow.Author.Needs.{needs}
 use Rattle.history.proofs.slots.place_of.Statement.{statement}
 use Rattle.history.proofs.slots.place_of.Tie as tie
-use Rattle.history.proofs.slots.place_of.Reads as reads
-use Rattle.history.proofs.slots.place_of.Lts as lts
-use Rattle.history.proofs.slots.slot_after.Reads as slot-after-reads
 
 slot-after-requires : tie.Need-slot-after-requires
 slot-after-requires c κs = search needs

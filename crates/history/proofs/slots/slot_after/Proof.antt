@@ -1,10 +1,9 @@
+-- `history::slots::slot_after` meets its contract.
 use native.Mathlib.Omega.{arith}
 use Rattle.history.specs.Slots.{slotAfter}
 use borrow.Author.Needs.{needs}
 use Rattle.history.proofs.slots.slot_after.Statement.{statement}
 use Rattle.history.proofs.slots.slot_after.Tie as tie
-use Rattle.history.proofs.slots.slot_after.Reads as reads
-use Rattle.history.proofs.slots.slot_after.Lts as lts
 
 add-result : tie.Need-add-result
 add-result c = search needs

@@ -15,8 +15,8 @@ push-byte-requires c κs = search needs
 push-requires : tie.Need-push-requires
 push-requires c κs = search needs
 
-add-clear : tie.Need-add-clear
-add-clear c = search needs
+add-next : tie.Need-add-next
+add-next c = search needs
 
 clear-requires : tie.Need-clear-requires
 clear-requires c κs =
@@ -41,7 +41,7 @@ store-spec =
     cast-push-byte
     push-byte-requires
     push-requires
-    add-clear
+    add-next
     clear-requires
     same-length
     returns)

@@ -1,3 +1,4 @@
+-- `history::testing::are_good` meets its contract. What is still to judge and to add up, from entry k on, is what there was.
 use mathlib.Core.Path.{_≡_, sym, _∙_}
 use Prim.Native.Nat.{_-_, _*_, _≤_, _+_}
 use native.Mathlib.Omega.{arith}
@@ -8,13 +9,6 @@ use Rattle.history.proofs.Passing.{Judges, Tallies, judges-begin, talli
 use Rattle.history.proofs.Judging.{tallied-not, tallied-other, tallied-so}
 use Rattle.history.proofs.testing.are_good.Statement.{statement}
 use Rattle.history.proofs.testing.are_good.Tie as tie
-use Rattle.history.proofs.testing.are_good.Reads as reads
-use Rattle.history.proofs.testing.are_good.Lts as lts
-use Rattle.buffer.proofs.byte_at.Reads as byte-at-reads
-use Rattle.history.proofs.testing.is_good_slot.Reads as is-good-slot-reads
-use Rattle.history.proofs.testing.is_repeated.Reads as is-repeated-reads
-use Rattle.history.proofs.testing.is_rest_clear.Reads as is-rest-clear-reads
-use Rattle.history.proofs.testing.next_place.Reads as next-place-reads
 
 abbrev Inv-loop : tie.InvT-loop
 Inv-loop slots first count total k₀ at₀ before₀ sum₀ k at before sum = (k ≤ count) × (at ≡ 256 * slotAfter first k) × (before ≡ 256 * slotAfter first (k - 1)) × Judges first slots count k × (sum ≤ 255 * k) × Tallies first slots count k sum

@@ -1,14 +1,9 @@
+-- `history::testing::is_good_slot` meets its contract.
 use native.Mathlib.Omega.{arith}
 use Rattle.history.proofs.Passing.{entry-top, slot-stray, slot-clear}
 use borrow.Author.Needs.{needs}
 use Rattle.history.proofs.testing.is_good_slot.Statement.{statement}
 use Rattle.history.proofs.testing.is_good_slot.Tie as tie
-use Rattle.history.proofs.testing.is_good_slot.Reads as reads
-use Rattle.history.proofs.testing.is_good_slot.Lts as lts
-use Rattle.buffer.proofs.byte_at.Reads as byte-at-reads
-use Rattle.buffer.proofs.greatest_byte.Reads as greatest-byte-reads
-use Rattle.history.proofs.testing.is_usable.Reads as is-usable-reads
-use Rattle.history.proofs.testing.top_of.Reads as top-of-reads
 
 add-start : tie.Need-add-start
 add-start c = search needs

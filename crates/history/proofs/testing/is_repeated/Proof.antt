@@ -1,3 +1,4 @@
+-- `history::testing::is_repeated` meets its contract.
 use mathlib.Core.Path.{sym, _∙_}
 use native.Mathlib.Omega.{arith}
 use Rattle.history.proofs.Passing.{none-before, heads-tell, two-slots}
@@ -5,14 +6,11 @@ use borrow.Author.Tests.{not-true}
 use borrow.Author.Needs.{needs}
 use Rattle.history.proofs.testing.is_repeated.Statement.{statement}
 use Rattle.history.proofs.testing.is_repeated.Tie as tie
-use Rattle.history.proofs.testing.is_repeated.Reads as reads
-use Rattle.history.proofs.testing.is_repeated.Lts as lts
-use Rattle.buffer.proofs.same_throughout.Reads as same-throughout-reads
 
 returns : tie.Need-returns
 returns c =
     let args = c .before .before .args in
-    none-before (args .k) (args .slots .now) (args .before) (args .at) (c .if1 .taken) (let p = c .before .before .pre .1 in omega arith)
+    none-before (args .k) (args .slots .now) (args .before) (args .at) (let first = c .if1 .taken in omega arith) (let p = c .before .before .pre .1 in omega arith)
 
 add-head : tie.Need-add-head
 add-head c = search needs

@@ -1,3 +1,4 @@
+-- `history::testing::is_rest_clear` meets its contract.
 use Prim.Native.Nat.{_*_}
 use mathlib.Core.Path.{sym}
 use lib.Seq.{length-take-le}
@@ -6,9 +7,6 @@ use Rattle.history.proofs.Passing.{rest-used, rest-before, rest-between
 use borrow.Author.Needs.{needs}
 use Rattle.history.proofs.testing.is_rest_clear.Statement.{statement}
 use Rattle.history.proofs.testing.is_rest_clear.Tie as tie
-use Rattle.history.proofs.testing.is_rest_clear.Reads as reads
-use Rattle.history.proofs.testing.is_rest_clear.Lts as lts
-use Rattle.buffer.proofs.greatest_byte.Reads as greatest-byte-reads
 
 mul-oldest : tie.Need-mul-oldest
 mul-oldest c = search needs

@@ -1,3 +1,4 @@
+-- `history::testing::is_usable` meets its contract.
 use mathlib.Core.Path.{sym, _∙_}
 use Rattle.buffer.proofs.Choices.{then-is, else-is}
 use Rattle.history.specs.Entries.{usable}
@@ -5,10 +6,6 @@ use Rattle.history.proofs.Passing.{usable-solid, usable-low}
 use borrow.Author.Needs.{needs}
 use Rattle.history.proofs.testing.is_usable.Statement.{statement}
 use Rattle.history.proofs.testing.is_usable.Tie as tie
-use Rattle.history.proofs.testing.is_usable.Reads as reads
-use Rattle.history.proofs.testing.is_usable.Lts as lts
-use Rattle.text.proofs.is_blank.Reads as is-blank-reads
-use Rattle.text.proofs.is_well_formed.Reads as is-well-formed-reads
 
 returns : tie.Need-returns
 returns c =

@@ -1,3 +1,4 @@
+-- `history::testing::next_place` meets its contract.
 use mathlib.Core.Path.{sym}
 use borrow.Author.Tests.{lt-ltb, le-ltb}
 use Rattle.buffer.proofs.Choices.{then-is, else-is}
@@ -5,8 +6,6 @@ use Rattle.history.specs.Inner.{nextPlace}
 use borrow.Author.Needs.{needs}
 use Rattle.history.proofs.testing.next_place.Statement.{statement}
 use Rattle.history.proofs.testing.next_place.Tie as tie
-use Rattle.history.proofs.testing.next_place.Reads as reads
-use Rattle.history.proofs.testing.next_place.Lts as lts
 
 add-next : tie.Need-add-next
 add-next c = search needs

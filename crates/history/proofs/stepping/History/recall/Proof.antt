@@ -1,14 +1,10 @@
+-- `history::stepping::History::recall` meets its contract.
 use mathlib.Core.Path.{_∙_}
 use native.Mathlib.Omega.{arith}
 use Rattle.history.proofs.Newest.{recall-past, recall-there}
 use borrow.Author.Needs.{needs}
 use Rattle.history.proofs.stepping.History.recall.Statement.{statement}
 use Rattle.history.proofs.stepping.History.recall.Tie as tie
-use Rattle.history.proofs.stepping.History.recall.Reads as reads
-use Rattle.history.proofs.stepping.History.recall.Lts as lts
-use Rattle.buffer.proofs.byte_at.Reads as byte-at-reads
-use Rattle.buffer.proofs.part.Reads as part-reads
-use Rattle.history.proofs.slots.place_of.Reads as place-of-reads
 
 part-requires : tie.Need-part-requires
 part-requires c κs = search needs
