@@ -102,8 +102,8 @@ fn stray_bytes(saved: &mut Saved, mixer: &mut Mixer, first: usize) {
     }
 }
 
-/// Entries that lie one slot further on, or back, or half round, than the first slot says: bad, unless all slots are used,
-/// since a full history has an oldest entry in each slot from which on no neighbours are equal.
+/// Entries that lie one slot further on, or back, or half round, than the first slot says: bad, unless all slots are used. A full
+/// history may begin in any slot, if no neighbours are equal then.
 fn shifted_ones(saved: &mut Saved, mixer: &mut Mixer, first: usize) {
     for count in COUNTS.into_iter().filter(|&count| count > 0) {
         let model = begun(first, count, || text(mixer, KINDS[first % KINDS.len()], UNLIKE));

@@ -33,7 +33,7 @@ uint64_t rissemat_quote(const uint8_t *words, size_t words_len, uint8_t *out, si
  * first, and the first slot. The slots: 100 of 256 bytes, slot i from byte 256 * i on, each with an entry of history, a length byte then the
  * text, or all zeros; all unused bytes are zero. The oldest entry lies in the first slot, state[265], 0 to 99, and the others in the slots
  * that follow, round the end: entry k (0 is the oldest) in slot (state[265] + k) % 100. An add, or an Enter that adds, writes one slot and
- * no other byte of the slots: (state[265] + state[261]) % 100, which in a full history is that of the oldest.
+ * no other byte of the slots: (state[265] + state[261]) % 100 by the state before the call, which in a full history is that of the oldest.
  * The total is the history's bytes in use: the sum of the entries' lengths, 0 in a fresh session, at most 25,500. A status page reads it
  * between any two calls as 256 * state[263] + state[264]. A state with any other total is bad (12). */
 
@@ -50,9 +50,9 @@ uint64_t rissemat_fresh_with(uint8_t profile, uint8_t *state, size_t state_len, 
 /* One key. The value is the length of the bytes to show, at the front of screen. Kind 1 is Enter: the second value is the length of
  * the line that is submitted, at the front of line (0 for an empty line: nothing to run, but the prompt is due). Kind 2: the line is full and
  * the byte was dropped; nothing changes. Kind 0 is any other key.
- * Refusals, in this order: 12 (a bad state: another length, mode or profile, a mode of the other profile, or state and slots break a rule of
- * line, control sequence or history, its total and its first slot among them), 11 (prompt over 128 bytes or ill-formed: its length), 9 (line under 255 bytes:
- * 255; then screen too short: length needed). */
+ * Refusals, in this order: 12 (a bad state: another length, mode or profile, a mode of the other profile, or state and slots break a rule
+ * of line, control sequence or history, its total and its first slot among them), 11 (prompt over 128 bytes or ill-formed: its length), 9
+ * (line under 255 bytes: 255; then screen too short: length needed). */
 uint64_t rissemat_key(uint8_t *state, size_t state_len, uint8_t *slots, size_t slots_len, const uint8_t *prompt, size_t prompt_len,
                       uint8_t key, uint8_t *line, size_t line_len, uint8_t *screen, size_t screen_len);
 
