@@ -5,8 +5,8 @@ use mathlib.Core.List.{List, [], _∷_, _++_, append-assoc, append-nil}
 use native.Mathlib.Omega.{arith}
 use native.Mathlib.Numerals.{add-one}
 use native.Mathlib.Nat.{le-of-lt}
-use lib.ListN.{length, take, drop, set, getD, length-append, length-drop, length-take, take-append-drop}
-use lib.Seq.{take-append-le, drop-append-le, take-append-add, drop-append-add, take-take, set-at, take-suc, append-snoc, length-take-le, take-all, drop-drop, take-at, drop-at, set-split, drop-length}
+use lib.ListN.{length, take, drop, set, getD, length-append, length-drop, length-take, take-append-drop, List·getD-append}
+use lib.Seq.{take-append-le, drop-append-le, take-append-add, drop-append-add, take-take, set-at, take-suc, append-snoc, length-take-le, take-all, drop-drop, take-at, drop-at, drop-append-seam, getD-take, set-split, drop-length}
 use borrow.Rule.Slice.PartMut.{putMid, post-is}
 use Rattle.buffer.specs.Write.{over, overAt}
 use Rattle.buffer.proofs.Lists.{drop-step}
@@ -121,3 +121,28 @@ overAt-second x a b o =
     ap (λ (l : List ℕ). l ++ (x ++ drop (length x) (drop (length a + o) (a ++ b)))) (take-append-add a b o)
     ∙ ap (λ (l : List ℕ). (a ++ take o b) ++ (x ++ drop (length x) l)) (drop-append-add a b o)
     ∙ append-assoc a (take o b) (x ++ drop (length x) (drop o b))
+
+-- what lies before a write, and what lies after it, stays
+pub overAt-under : (x d : List ℕ) (o p : ℕ) → p < o → o ≤ length d → getD (overAt x d o) p 0 ≡ getD d p 0
+unfolding overAt
+overAt-under x d o p l h =
+    let f = length-take-le o d h in
+    List·getD-append (take o d) (over x (drop o d)) 0 p (omega arith) ∙ getD-take o d p 0 l
+
+pub overAt-past : (x d : List ℕ) (o n : ℕ) → o + length x ≤ n → o + length x ≤ length d → drop n (overAt x d o) ≡ drop n d
+unfolding over overAt
+overAt-past x d o n l h =
+    let m : ℕ = o + length x in
+    let on : m + (n - m) ≡ n = omega arith in
+    let rest : List ℕ = drop (length x) (drop o d) in
+    let after : drop m (take o d ++ (x ++ rest)) ≡ drop m d =
+    sym (drop-drop (length x) o (take o d ++ (x ++ rest)))
+    ∙ ap (drop (length x)) (drop-at (take o d) (x ++ rest) o (length-take-le o d (omega arith)))
+    ∙ drop-append-seam x rest
+    ∙ drop-drop (length x) o d
+    in
+    ap (λ (i : ℕ). drop i (take o d ++ (x ++ rest))) (sym on)
+    ∙ sym (drop-drop (n - m) m (take o d ++ (x ++ rest)))
+    ∙ ap (drop (n - m)) after
+    ∙ drop-drop (n - m) m d
+    ∙ ap (λ (i : ℕ). drop i d) on

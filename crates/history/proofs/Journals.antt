@@ -9,7 +9,6 @@ use lib.ListN.{length, getD}
 use borrow.Author.Tests.{eq-eqb, eqb-true, eqb-false, ltb-true}
 use Rattle.buffer.specs.Compare.{sameBytes}
 use Rattle.buffer.specs.Lend.{zeros}
-use Rattle.buffer.proofs.Choices.{true-is-not-false}
 use Rattle.text.proofs.Prefix.{prefix-none, codes-none}
 use Rattle.text.specs.Apart.{blank}
 use Rattle.text.specs.Decoding.{wellFormed}
@@ -25,7 +24,7 @@ use Rattle.history.proofs.Turned.{after-below, length-entries}
 use Rattle.history.proofs.Layouts.{none, length-layout, entries-layout, no-entries}
 use Rattle.history.proofs.Steps.{same-numbers}
 use Rattle.history.proofs.Totals.{total-most}
-use Rattle.history.proofs.States.{holds, Good, good-has, good-short, short-at}
+use Rattle.history.proofs.States.{holds, refutes, Good, good-has, good-short, short-at}
 use Rattle.history.proofs.Kept.{good-of, Entries, added-entries}
 
 -- a history within the rules of the standard
@@ -120,16 +119,8 @@ formed-nothing = eq-eqb _ 0 (prefix-none [] codes-none)
 formed-at : (before : List ℕ) (es : List (List ℕ)) (n : ℕ) → sound before es ≡ true → wellFormed (getD es n []) ≡ true
 unfolding sound usable
 formed-at before [] n s = formed-nothing
-formed-at before (e ∷ es) zero s = formed (blank e) (wellFormed e) (holds (usable e) _ s .0)
-  where
-    formed : (b w : Bool) → cond b false w ≡ true → w ≡ true
-    formed true w k = absurd (true-is-not-false (sym k))
-    formed false w k = k
-formed-at before (e ∷ es) (suc n) s = formed-at e es n (rest (sameBytes before e) _ (holds (usable e) _ s .1))
-  where
-    rest : (p q : Bool) → cond p false q ≡ true → q ≡ true
-    rest true q k = absurd (true-is-not-false (sym k))
-    rest false q k = k
+formed-at before (e ∷ es) zero s = refutes (blank e) (wellFormed e) (holds (usable e) _ s .0) .1
+formed-at before (e ∷ es) (suc n) s = formed-at e es n (refutes (sameBytes before e) _ (holds (usable e) _ s .1) .1)
 
 pub fair-formed : (j : Journal) (n : ℕ) → Fair j → wellFormed (entryOf j n) ≡ true
 fair-formed j n f = formed-at [] (j .entries) n (f .entries .is-sound)

@@ -1,13 +1,13 @@
 -- Entries of which a good state can be made, and that adding keeps them so.
-use Prim.Native.Nat.{ℕ, _<_, _≤_}
+use Prim.Native.Nat.{ℕ, zero, suc, _<_, _≤_}
 use mathlib.Core.Path.{_≡_, refl, sym, _∙_}
 use mathlib.Core.Bool.{Bool, true, false, cond, not}
 use mathlib.Core.List.{List, [], _∷_, _++_}
 use native.Mathlib.Omega.{arith}
 use lib.Dec.{ltb}
-use lib.ListN.{length, drop, length-append}
+use lib.ListN.{length, take, drop, length-append}
 use borrow.Author.Tests.{eq-eqb, le-leb, lt-ltb, ltb-true, ltb-false}
-use Rattle.buffer.proofs.Choices.{then-is, else-is, true-is-not-false}
+use Rattle.buffer.proofs.Choices.{then-is, else-is}
 use Rattle.buffer.proofs.Ordering.{is-same}
 use Rattle.buffer.specs.Compare.{sameBytes}
 use Rattle.text.specs.Apart.{blank}
@@ -17,7 +17,7 @@ use Rattle.history.specs.Journal.{slotsOf, journalOf, good}
 use Rattle.history.specs.declared.stepping.History.{History}
 use Rattle.history.proofs.Layouts.{Short, none, more}
 use Rattle.history.proofs.Judging.{usable-some}
-use Rattle.history.proofs.States.{holds, Good}
+use Rattle.history.proofs.States.{holds, refutes, Good}
 
 -- the facts of a good state are enough for it
 pub good-of : (h : History) (slots : List ℕ) → Good h slots → good h slots ≡ true
@@ -53,11 +53,8 @@ unfolding sound latest
 sound-more before [] t s u n = then-is _ _ _ u ∙ else-is _ _ _ n
 sound-more before (e ∷ es) t s u n =
     let a = holds (usable e) _ s in
-    then-is _ _ _ (a .0) ∙ later (sameBytes before e) (sound e es) (sound e (es ++ (t ∷ []))) (λ k. sound-more e es t k u n) (a .1)
-  where
-    later : (p q r : Bool) → (q ≡ true → r ≡ true) → cond p false q ≡ true → cond p false r ≡ true
-    later true q r f k = absurd (true-is-not-false (sym k))
-    later false q r f k = f k
+    let b = refutes (sameBytes before e) _ (a .1) in
+    then-is _ _ _ (a .0) ∙ else-is _ _ _ (b .0) ∙ sound-more e es t (b .1) u n
 
 -- without the oldest
 sound-drop : (e : List ℕ) (es : List (List ℕ)) → sound [] (e ∷ es) ≡ true → sound [] es ≡ true
@@ -65,28 +62,30 @@ unfolding sound
 sound-drop e [] s = refl
 sound-drop e (d ∷ es) s =
     let a = holds (usable e) _ s in
-    let b = kept (sameBytes [] e) _ (a .1) in
-    let c = holds (usable d) _ b in
-    then-is _ _ _ (c .0) ∙ else-is _ _ _ (usable-some d (c .0)) ∙ kept (sameBytes e d) _ (c .1)
-  where
-    kept : (p q : Bool) → cond p false q ≡ true → q ≡ true
-    kept true q k = absurd (true-is-not-false (sym k))
-    kept false q k = k
+    let b = holds (usable d) _ (refutes (sameBytes [] e) _ (a .1) .1) in
+    then-is _ _ _ (b .0) ∙ else-is _ _ _ (usable-some d (b .0)) ∙ refutes (sameBytes e d) _ (b .1) .1
 
-short-more : (es : List (List ℕ)) (t : List ℕ) → Short es → length t ≤ 255 → Short (es ++ (t ∷ []))
-short-more [] t none l = more l none
-short-more (e ∷ es) t (more h hs) l = more h (short-more es t hs l)
+-- entries one after the other, the first of them, and those from a number on
+pub short-append : (es fs : List (List ℕ)) → Short es → Short fs → Short (es ++ fs)
+short-append [] fs none k = k
+short-append (e ∷ es) fs (more h hs) k = more h (short-append es fs hs k)
 
-short-drop : (es : List (List ℕ)) → Short es → Short (drop 1 es)
-short-drop [] none = none
-short-drop (e ∷ es) (more h hs) = hs
+pub short-take : (n : ℕ) (es : List (List ℕ)) → Short es → Short (take n es)
+short-take zero es h = none
+short-take (suc n) [] none = none
+short-take (suc n) (e ∷ es) (more h hs) = more h (short-take n es hs)
+
+pub short-drop : (n : ℕ) (es : List (List ℕ)) → Short es → Short (drop n es)
+short-drop zero es h = h
+short-drop (suc n) [] none = none
+short-drop (suc n) (e ∷ es) (more h hs) = short-drop n es hs
 
 -- after entries that have room for it
 one-more : (es : List (List ℕ)) (t : List ℕ) → Short es → length es < 100 → sound [] es ≡ true → length t ≤ 255 → usable t ≡ true
     → sameBytes (latest [] es) t ≡ false → Entries (es ++ (t ∷ []))
 one-more es t h k s l u n =
     record {
-      short = short-more es t h l;
+      short = short-append es (t ∷ []) h (more l none);
       few = let a = length-append es (t ∷ []) in omega arith;
       is-sound = sound-more [] es t s u n;
     }
@@ -107,7 +106,7 @@ with-room es t true q g l u n = one-more es t (g .short) (ltb-true _ _ q) (g .is
 with-room [] t false q g l u n = absurd (let z = ltb-false 0 100 q in omega arith)
 with-room (e ∷ es) t false q g l u n =
     let few = g .few in
-    one-more es t (short-drop (e ∷ es) (g .short)) (omega arith) (sound-drop e es (g .is-sound)) l u (differs es t u (after-oldest e es t u n))
+    one-more es t (short-drop 1 (e ∷ es) (g .short)) (omega arith) (sound-drop e es (g .is-sound)) l u (differs es t u (after-oldest e es t u n))
 
 usable-of : (t : List ℕ) → blank t ≡ false → wellFormed t ≡ true → usable t ≡ true
 unfolding usable

@@ -119,7 +119,7 @@ in-order-short es k e =
     let z = length-zeros (25600 - 256 * length es) in
     run-short es (omega arith)
 
-zeros-both : (a c : ℕ) → zeros a ++ zeros c ≡ zeros (a + c)
+pub zeros-both : (a c : ℕ) → zeros a ++ zeros c ≡ zeros (a + c)
 unfolding zeros
 zeros-both a c = replicate-append-replicate {A = ℕ} a c 0
 
@@ -129,7 +129,7 @@ unfolding inOrder zeros
 in-order-full es e = ap (λ (n : ℕ). run es ++ replicate (25600 - 256 * n) 0) e ∙ append-nil (run es)
 
 -- what lies after the entries
-in-order-rest : (es : List (List ℕ)) → Short es → drop (256 * length es) (inOrder es) ≡ zeros (25600 - 256 * length es)
+pub in-order-rest : (es : List (List ℕ)) → Short es → drop (256 * length es) (inOrder es) ≡ zeros (25600 - 256 * length es)
 unfolding inOrder
 in-order-rest es h = drop-at (run es) (zeros (25600 - 256 * length es)) (256 * length es) (length-run es h)
 

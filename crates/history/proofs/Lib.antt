@@ -9,8 +9,11 @@ pub mod Newest
 pub mod States
 pub mod Answers
 pub mod Kept
+pub mod Forgotten
+pub mod Closing
 pub mod Journals
 pub mod Saved
 pub mod Called
 pub mod Begun
 pub mod Lasting
+pub mod Shortened

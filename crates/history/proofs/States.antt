@@ -26,6 +26,11 @@ pub holds : (t u : Bool) → cond t u false ≡ true → (t ≡ true) × (u ≡ 
 holds true u e = (refl, e)
 holds false u e = absurd (true-is-not-false (sym e))
 
+-- a test that must not hold, and one that must
+pub refutes : (t u : Bool) → cond t false u ≡ true → (t ≡ false) × (u ≡ true)
+refutes true u e = absurd (true-is-not-false (sym e))
+refutes false u e = (refl, e)
+
 pub record Good (h : History) (slots : List ℕ) : Type 0 where
   pub size : length slots ≡ 25600
   pub begins : h .first < 100

@@ -5,24 +5,45 @@ use mathlib.Core.Bool.{Bool, true, false, cond}
 use mathlib.Core.List.{List, [], _∷_, _++_}
 use native.Mathlib.Omega.{arith}
 use lib.Dec.{ltb}
-use lib.ListN.{length, take, drop, getD}
-use lib.Seq.{length-take-le}
+use lib.ListN.{length, take, drop, getD, length-drop}
+use lib.Seq.{length-take-le, take-suc, getD-drop}
 use Rattle.history.specs.Entries.{mostEntries, isNew, withRoom, added, total}
 use Rattle.history.specs.Slots.{entry}
 use Rattle.history.specs.Inner.{entriesOf}
 use Rattle.history.proofs.Layouts.{Short, none, more}
 use Rattle.history.proofs.Judging.{length-entry}
 
--- a text more, and the oldest less
+-- entries one after the other, a text more, and the oldest less
+pub total-append : (es fs : List (List ℕ)) → total (es ++ fs) ≡ total es + total fs
+unfolding total
+total-append [] fs = omega arith
+total-append (e ∷ es) fs = let k = total-append es fs in omega arith
+
 pub total-more : (es : List (List ℕ)) (t : List ℕ) → total (es ++ (t ∷ [])) ≡ total es + length t
 unfolding total
-total-more [] t = omega arith
-total-more (e ∷ es) t = let k = total-more es t in omega arith
+total-more es t = let k = total-append es (t ∷ []) in omega arith
 
 pub total-less : (es : List (List ℕ)) → total es ≡ length (getD es 0 []) + total (drop 1 es)
 unfolding total
 total-less [] = refl
 total-less (e ∷ es) = refl
+
+-- entries from a number on: none of them, and one of them more
+pub total-none : (es : List (List ℕ)) (start : ℕ) → 0 ≡ total (take (start - start) (drop start es))
+unfolding total
+total-none es start = let z : start - start ≡ 0 = omega arith in sym (ap (λ (n : ℕ). total (take n (drop start es))) z)
+
+pub total-on : (es : List (List ℕ)) (start i : ℕ) → start ≤ i → i < length es
+    → total (take (i + 1 - start) (drop start es)) ≡ total (take (i - start) (drop start es)) + length (getD es i [])
+total-on es start i h l =
+    let j : ℕ = i - start in
+    let d = length-drop start es in
+    let next : i + 1 - start ≡ suc j = omega arith in
+    let at : start + j ≡ i = omega arith in
+    ap (λ (n : ℕ). total (take n (drop start es))) next
+    ∙ ap total (take-suc (drop start es) j [] (omega arith))
+    ∙ total-more (take j (drop start es)) (getD (drop start es) j [])
+    ∙ ap (λ (e : List ℕ). total (take j (drop start es)) + length e) (getD-drop start es j [] ∙ ap (λ (n : ℕ). getD es n []) at)
 
 -- after a text was offered: what it adds and what it drops
 pub total-added : (text : List ℕ) (es : List (List ℕ))

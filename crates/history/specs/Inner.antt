@@ -1,13 +1,14 @@
--- What only contracts of inner functions cite: the test of a state slot by slot, over the slots in the order of the entries (Slots: `turned`).
+-- What only contracts of inner functions cite: the test of a state slot by slot, over the slots in the order of the entries (Slots: `turned`), and entries that are taken out.
 use Prim.Native.Nat.{ℕ, zero, suc, _+_, _-_}
 use mathlib.Core.Bool.{Bool, false, cond}
-use mathlib.Core.List.{List, [], _∷_}
+use mathlib.Core.List.{List, [], _∷_, _++_}
 use lib.Dec.{ltb, eqb}
-use lib.ListN.{take, drop, getD}
+use lib.ListN.{length, take, drop, getD}
 use Rattle.buffer.specs.Compare.{sameBytes}
 use Rattle.buffer.specs.Greatest.{greatest}
 use Rattle.history.specs.Entries.{usable, total}
 use Rattle.history.specs.Slots.{slotSize, slotsSize, entry}
+use Rattle.history.specs.Journal.{Journal}
 
 -- what lies after the entry in a slot
 unfoldable pub unused : List ℕ → List ℕ
@@ -41,3 +42,10 @@ judged before (suc n) bytes =
 -- the same of n slots, and that their entries have this total
 unfoldable pub tallied : ℕ → ℕ → List ℕ → Bool
 tallied n sum bytes = cond (judged [] n bytes) (eqb sum (total (entriesOf n bytes))) false
+
+-- a history without the entries from one number up to another, at the place that is the count then
+abbrev pub cutOut : ℕ → ℕ → List (List ℕ) → List (List ℕ)
+cutOut start end es = take start es ++ drop end es
+
+abbrev pub cutFrom : ℕ → ℕ → Journal → Journal
+cutFrom start end j = record { entries = cutOut start end (j .entries); place = length (cutOut start end (j .entries)); first = j .first }

@@ -1,10 +1,10 @@
-// The slots: storing an entry in one, clearing, and where each lies, round the end.
-ghost use Prim.Native.Nat.{_+_, _-_, _*_, _≤_};
+// The slots: storing an entry in one, copying one over another, clearing, and where each lies, round the end.
+ghost use Prim.Native.Nat.{_+_, _-_, _*_, _<_, _≤_};
 ghost use mathlib.Core.Path.{_≡_};
 ghost use lib.ListN.{length};
 ghost use Rattle.buffer.specs.Write.{overAt};
 ghost use Rattle.buffer.specs.Lend.{zeros};
-ghost use Rattle.history.specs.Slots.{slotSize, slotAfter, slot};
+ghost use Rattle.history.specs.Slots.{slotSize, slotCount, slotsSize, slotAfter, slot, slotAt};
 use super::stepping::History;
 use buffer::push;
 use buffer::push_byte;
@@ -30,6 +30,20 @@ pub fn store(text: &[u8], slots: &mut [u8], at: usize)
     let end = push(text, slots, start);
     let next = at + History::SLOT;
     clear(slots, end, next);
+}
+
+// Copies a slot over another.
+pub fn copy_slot(slots: &mut [u8], source: usize, target: usize)
+    requires { ⌜ (length (now slots) ≡ slotsSize) × (source < slotCount) × (target < slotCount) ⌝ }
+    ensures { λ _. ⌜ now (slots .exit) ≡ overAt (slotAt source (now (slots .entry))) (now (slots .entry)) (slotSize * target) ⌝ }
+{
+    let old = History::SLOT * source;
+    let new = History::SLOT * target;
+    let mut i = 0;
+    while i < History::SLOT {
+        slots[new + i] = slots[old + i];
+        i += 1;
+    }
 }
 
 // Where the slot begins that lies so many after another, round the end.

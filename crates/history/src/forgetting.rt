@@ -1,0 +1,148 @@
+// Forgetting an entry of a history: it goes, with it the older of two equal entries that would come together, and later entries close up.
+ghost use Prim.Native.Nat.{_-_, _*_, _<_, _≤_};
+ghost use mathlib.Core.Path.{_≡_};
+ghost use mathlib.Core.Bool.{true};
+ghost use lib.ListN.{length, take, drop};
+ghost use Rattle.buffer.specs.Write.{overAt};
+ghost use Rattle.buffer.specs.Lend.{zeros};
+ghost use Rattle.history.specs.Entries.{total};
+ghost use Rattle.history.specs.Slots.{slotSize, slotCount, slotsSize, turned};
+ghost use Rattle.history.specs.Journal.{journalOf, good};
+ghost use Rattle.history.specs.Answer.{Holds};
+ghost use Rattle.history.specs.Forgotten.{without, repeats, Forgets};
+ghost use Rattle.history.specs.Inner.{cutFrom};
+use super::slots::clear;
+use super::slots::copy_slot;
+use super::slots::place_of;
+use super::slots::slot_after;
+use super::stepping::History;
+use super::testing::is_good;
+use buffer::same;
+
+// What forgetting an entry answers.
+pub enum Forgot {
+    // So many entries went: 1, or 2 where the older of two equal ones went as well.
+    Gone(usize),
+    // The state is bad.
+    BadState,
+    // There is no entry of that number: the number.
+    NoEntry(usize),
+}
+
+pub struct Forgetting {
+    pub history: History,
+    pub answer: Forgot,
+}
+
+// Whether entry k stands between two equal entries, which would come together without it.
+fn is_between(history: History, slots: &[u8], k: usize) -> bool
+    requires { ⌜ (k < history .count) × (history .count ≤ slotCount) ⌝ }
+    ensures { λ r. ⌜ r ≡ repeats k (without k (journalOf history (now (slots .entry)) .entries)) ⌝ }
+{
+    let next = k + 1;
+    if k == 0 {
+        return false;
+    }
+    if history.count <= next {
+        return false;
+    }
+    same(history.recall(slots, k - 1), history.recall(slots, next))
+}
+
+// How many bytes the entries have together from one number up to another.
+fn lengths(history: History, slots: &[u8], start: usize, end: usize) -> usize
+    requires { ⌜ (good history (now slots) ≡ true) × (start ≤ end) × (end ≤ history .count) ⌝ }
+    ensures { λ r. ⌜ r ≡ total (take (end - start) (drop start (journalOf history (now (slots .entry)) .entries))) ⌝ }
+{
+    let mut sum = 0;
+    let mut i = start;
+    while i < end {
+        sum += history.recall(slots, i).len();
+        i += 1;
+    }
+    sum
+}
+
+// Moves the entries from one number up to the count down to another number.
+fn close_up(slots: &mut [u8], first: usize, start: usize, end: usize, count: usize)
+    requires { ⌜ (length (now slots) ≡ slotsSize) × (first < slotCount) × (start ≤ end) × (end ≤ count) × (count ≤ slotCount) ⌝ }
+    ensures { λ _. ⌜ turned first (now (slots .exit)) ≡ overAt (take (slotSize * (count - end)) (drop (slotSize * end) (turned first (now (slots .entry))))) (turned first (now (slots .entry))) (slotSize * start) ⌝ }
+{
+    let mut source = end;
+    let mut target = start;
+    while source < count {
+        copy_slot(slots, slot_after(first, source), slot_after(first, target));
+        source += 1;
+        target += 1;
+    }
+}
+
+// Writes zeros into the slots of the entries from one number up to another.
+fn clear_slots(slots: &mut [u8], first: usize, start: usize, end: usize)
+    requires { ⌜ (length (now slots) ≡ slotsSize) × (first < slotCount) × (start ≤ end) × (end ≤ slotCount) ⌝ }
+    ensures { λ _. ⌜ turned first (now (slots .exit)) ≡ overAt (zeros (slotSize * (end - start))) (turned first (now (slots .entry))) (slotSize * start) ⌝ }
+{
+    let mut i = start;
+    while i < end {
+        let at = place_of(first, i);
+        let next = at + History::SLOT;
+        clear(slots, at, next);
+        i += 1;
+    }
+}
+
+// Takes the entries out from one number up to another.
+fn cut(history: History, slots: &mut [u8], start: usize, end: usize) -> History
+    requires { ⌜ (good history (now slots) ≡ true) × (start ≤ end) × (end ≤ history .count) ⌝ }
+    ensures { λ r. ⌜ Holds (cutFrom start end (journalOf history (now (slots .entry)))) r (now (slots .exit)) ⌝ }
+{
+    let first = history.first;
+    let count = history.count;
+    let total = history.total - lengths(history, slots, start, end);
+    let left = count - (end - start);
+    close_up(slots, first, start, end, count);
+    clear_slots(slots, first, left, count);
+    History {
+        count: left,
+        place: left,
+        total,
+        first,
+    }
+}
+
+// Forgets an entry of a history that was tested and is good.
+pub fn forget_tested(history: History, slots: &mut [u8], k: usize) -> Forgetting
+    requires { ⌜ good history (now slots) ≡ true ⌝ }
+    ensures { λ r. ⌜ Forgets history (now (slots .entry)) k (r .history) (r .answer) (now (slots .exit)) ⌝ }
+{
+    if history.count <= k {
+        return Forgetting {
+            history,
+            answer: Forgot::NoEntry(k),
+        };
+    }
+    let next = k + 1;
+    if is_between(history, slots, k) {
+        return Forgetting {
+            history: cut(history, slots, k - 1, next),
+            answer: Forgot::Gone(2),
+        };
+    }
+    Forgetting {
+        history: cut(history, slots, k, next),
+        answer: Forgot::Gone(1),
+    }
+}
+
+// Forgets the entry of a number, the oldest being 0.
+pub fn forget(history: History, slots: &mut [u8], k: usize) -> Forgetting
+    ensures { λ r. ⌜ Forgets history (now (slots .entry)) k (r .history) (r .answer) (now (slots .exit)) ⌝ }
+{
+    if !is_good(history, slots) {
+        return Forgetting {
+            history,
+            answer: Forgot::BadState,
+        };
+    }
+    forget_tested(history, slots, k)
+}
