@@ -62,6 +62,13 @@ uint64_t rissemat_key(uint8_t *state, size_t state_len, uint8_t *slots, size_t s
  * well-formed prefix). */
 uint64_t rissemat_history_add(uint8_t *state, size_t state_len, uint8_t *slots, size_t slots_len, const uint8_t *text, size_t text_len);
 
+/* Entry k of the history forgotten, 0 being the oldest. If that brings two equal entries together, the older of them goes as well. Later
+ * entries close up, the first slot stays, the slots that are free then hold zeros, and the place is set to the count; the line that is being
+ * typed stays. So the room is given back: no later add drops an old entry before there are 100 again. The value is how many entries went, 1
+ * or 2.
+ * Refusals, in this order: 12 (a bad state, as above), 18 (k is not below the count of entries: k). */
+uint64_t rissemat_history_forget(uint8_t *state, size_t state_len, uint8_t *slots, size_t slots_len, size_t k);
+
 /* The test of a tree image: frames 01, 02 and 03 one after the other. The value is 0.
  * Refusal: 1 (a bad tree: the number, from 0, of the first frame that breaks a rule; an image over 32,768 bytes is bad at frame 0). */
 uint64_t rissemat_tree(const uint8_t *image, size_t image_len);

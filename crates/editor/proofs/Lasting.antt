@@ -8,15 +8,18 @@ use lib.ListN.{length}
 use Rattle.text.specs.Decoding.{wellFormed}
 use Rattle.history.specs.Journal.{good}
 use Rattle.history.specs.Answer.{Emptied, Offered, Addition}
+use Rattle.history.specs.Forgotten.{Forgets}
 use Rattle.history.specs.Steps.{back, onward}
 use Rattle.history.specs.Saved.{restored as restoredHistory}
 use Rattle.history.specs.declared.stepping.History.{History}
 use Rattle.history.specs.declared.stepping.Step.{Step}
 use Rattle.history.specs.declared.adding.Added.{Added}
+use Rattle.history.specs.declared.forgetting.Forgot.{Forgot}
 use Rattle.history.specs.declared.saving.Restored.{Restored as RestoredHistory}
 use Rattle.history.specs.declared.saving.Restored.the-variants.{Good}
 use Rattle.history.proofs.Journals.{back-good, onward-good}
 use Rattle.history.proofs.Lasting.{emptied-good, offered-good, added-good}
+use Rattle.history.proofs.Shortened.{forgets-good}
 use Rattle.history.proofs.Saved.{restored-good as restored-history-good}
 use Rattle.keys.specs.declared.standing.Profile.{Profile}
 use Rattle.editor.specs.declared.line.Editor.{Editor}
@@ -31,7 +34,7 @@ use Rattle.editor.proofs.Saved.{restored-good}
 
 -- What calls reach, in any order and each with buffers of its own: an editor, and a history with its slots. Every public call that hands out one of them is counted. At any time
 -- `Editor::fresh`, `Editor::recalled` and `Editor::restored` hand out an editor, `History::fresh_in` (`History::fresh` is the same record, for slots that are zeros already) and
--- `History::restored` a history with its slots, both `restored` from any bytes; all other calls take a state that was reached (`key_tested` as `key`, `add_tested` as `add_command`).
+-- `History::restored` a history with its slots, both `restored` from any bytes; all other calls take a state that was reached (`key_tested` as `key`, `add_tested` as `add_command`, `forget_tested` as `forget`).
 pub data Reached : Editor → History → List ℕ → Type 0 where
   by-fresh : {h : History} {slots : List ℕ} (profile : Profile) → Emptied h slots → Reached (freshEditor profile) h slots
   by-fresh-editor : {e : Editor} {h : History} {slots : List ℕ} (profile : Profile) → Reached e h slots → Reached (freshEditor profile) h slots
@@ -46,6 +49,7 @@ pub data Reached : Editor → History → List ℕ → Type 0 where
   by-offer : {e : Editor} {h r : History} {slots left : List ℕ} (text : List ℕ) → Reached e h slots → length text ≤ 255 → wellFormed text ≡ true → Offered h slots text r left
       → Reached e r left
   by-add-command : {e : Editor} {h r : History} {slots text left : List ℕ} {told : Added} → Reached e h slots → Addition h slots text r told left → Reached e r left
+  by-forget : {e : Editor} {h r : History} {slots left : List ℕ} {k : ℕ} {told : Forgot} → Reached e h slots → Forgets h slots k r told left → Reached e r left
   by-key : {e : Editor} {h : History} {slots prompt line screen slots′ line′ screen′ : List ℕ} {byte : ℕ} {k : KeyAnswer} → Reached e h slots
       → Pressing e h slots prompt byte line screen k slots′ line′ screen′ → Reached (k .editor) (k .history) slots′
 
@@ -82,5 +86,8 @@ never-reached-bad e r left (by-offer {h = h} {slots = slots} text t l w o) =
 never-reached-bad e r left (by-add-command {h = h} {slots = slots} {text = text} {told = told} t a) =
     let p = state-parts e h slots (never-reached-bad e h slots t) in
     good-state e r left (p .0) (added-good h slots text r told left (p .1) a)
+never-reached-bad e r left (by-forget {h = h} {slots = slots} {k = k} {told = told} t a) =
+    let p = state-parts e h slots (never-reached-bad e h slots t) in
+    good-state e r left (p .0) (forgets-good h slots k r told left (p .1) a)
 never-reached-bad _ _ slots′ (by-key {e} {h} {slots} {prompt} {line} {screen} {line′ = line′} {screen′ = screen′} {byte = byte} {k = k} r p) =
     stays-good e h slots prompt byte line screen k slots′ line′ screen′ (never-reached-bad e h slots r) p

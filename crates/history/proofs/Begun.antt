@@ -2,27 +2,28 @@
 use Prim.Native.Nat.{ℕ, _+_, _*_, _<_, _≤_}
 use mathlib.Core.Path.{_≡_, refl, sym, ap, _∙_}
 use mathlib.Core.Bool.{Bool, true, false, cond}
-use mathlib.Core.List.{List, [], _∷_, _++_}
+use mathlib.Core.List.{List, [], _∷_, _++_, append-nil}
 use native.Mathlib.Omega.{arith}
 use lib.Dec.{ltb}
 use lib.ListN.{length, take, drop}
-use lib.Seq.{take-at, drop-at, drop-drop, length-take-le}
-use borrow.Author.Tests.{ltb-true, ltb-false}
+use lib.Seq.{take-at, length-take-le}
+use borrow.Author.Tests.{lt-ltb, ltb-true, ltb-false}
+use Rattle.buffer.proofs.Choices.{true-is-not-false}
 use Rattle.buffer.specs.Lend.{zeros}
 use Rattle.buffer.specs.Write.{over, overAt}
-use Rattle.buffer.proofs.Lending.{length-overAt}
+use Rattle.buffer.proofs.Lending.{length-overAt, overAt-past}
 use Rattle.history.specs.Entries.{mostEntries, isNew, withRoom, added, total}
 use Rattle.history.specs.Slots.{slotAfter, slot, turned, layout, slotAt, ChangesOnly}
 use Rattle.history.specs.Journal.{Journal, count, entryOf, firstAfter, offered, Alike, slotsOf, journalOf, good}
-use Rattle.history.specs.Answer.{addAnswer, recordBy, slotsBy, Addition}
+use Rattle.history.specs.Answer.{addAnswer, slotsBy, Addition}
 use Rattle.history.specs.declared.stepping.History.{History}
 use Rattle.history.specs.declared.adding.Added.{Added}
 use Rattle.history.specs.declared.adding.Added.the-variants.{Done, BadState, TooLong, IllFormed}
 use Rattle.history.proofs.Turned.{after-below, slot-turned}
 use Rattle.history.proofs.Layouts.{length-slot, length-layout, layout-turned, layout-more, in-order-slot, in-order-unused}
 use Rattle.history.proofs.States.{full-layout}
-use Rattle.history.proofs.Journals.{Fair, good-fair, slots-held, count-held, place-held, good-total}
-use Rattle.history.proofs.Called.{done-has, add-after}
+use Rattle.history.proofs.Journals.{Fair, count-held, place-held, first-held, good-fair, slots-held, good-total}
+use Rattle.history.proofs.Called.{done-has, isDone, add-leaves}
 
 -- where entries lie: entry k in the slot that is k after the first, and zeros in each that is as far as the count or further
 module _ (j : Journal) (f : Fair j) (k : ℕ) where
@@ -56,19 +57,11 @@ changes-one : (n : ℕ) (x s : List ℕ) → length x ≡ 256 → 256 * n + 256 
 unfolding over overAt
 changes-one n x s l h =
     let front : length (take (256 * n) s) ≡ 256 * n = length-take-le (256 * n) s (omega arith) in
-    let on : 256 * (n + 1) ≡ 256 * n + 256 = omega arith in
     let tail : List ℕ = drop (length x) (drop (256 * n) s) in
     record {
       size = length-overAt x s (256 * n) (omega arith);
       front = take-at (take (256 * n) s) (x ++ tail) (256 * n) front;
-      rest =
-          ap (λ (i : ℕ). drop i (take (256 * n) s ++ (x ++ tail))) on
-          ∙ sym (drop-drop 256 (256 * n) (take (256 * n) s ++ (x ++ tail)))
-          ∙ ap (drop 256) (drop-at (take (256 * n) s) (x ++ tail) (256 * n) front)
-          ∙ drop-at x tail 256 l
-          ∙ drop-drop (length x) (256 * n) s
-          ∙ ap (λ (i : ℕ). drop (256 * n + i) s) l
-          ∙ ap (λ (i : ℕ). drop i s) (sym on);
+      rest = overAt-past x s (256 * n) (256 * (n + 1)) (omega arith) (omega arith);
     }
 
 changes-as : (n : ℕ) (s t u : List ℕ) → t ≡ u → ChangesOnly n s t → ChangesOnly n s u
@@ -108,10 +101,6 @@ offered-changes text j f l = by (isNew text (j .entries)) (ltb (count j) 100) re
 
 -- an add, whatever it answers
 module _ (h : History) (slots text : List ℕ) (r : History) (told : Added) (left : List ℕ) (a : Addition h slots text r told left) where
-  first-held : journalOf h slots .first ≡ h .first
-  unfolding journalOf
-  first-held = refl
-
   pub add-changes : ChangesOnly (slotAfter (h .first) (h .count)) slots left
   add-changes = by (addAnswer (good h slots) text) refl (a .bytes)
     where
@@ -123,7 +112,7 @@ module _ (h : History) (slots text : List ℕ) (r : History) (told : Added) (lef
           let t = done-has h slots text d in
           let j : Journal = journalOf h slots in
           let same : slotAfter (j .first) (count j) ≡ at =
-          ap (λ (i : ℕ). slotAfter i (count j)) first-held ∙ ap (slotAfter (h .first)) (count-held h slots)
+          ap (λ (i : ℕ). slotAfter i (count j)) (first-held h slots) ∙ ap (slotAfter (h .first)) (count-held h slots)
           in
           let c = offered-changes text j (good-fair h slots (t .is-good)) (t .short) in
           rw (same, slots-held h slots (t .is-good), sym e) at c
@@ -139,48 +128,38 @@ offered-alike text j k a =
       place = ap (λ (es : List (List ℕ)). length (added text es)) (a .entries);
     }
 
-held : {p q : History} {s t : List ℕ} → p ≡ q → s ≡ t → journalOf p s ≡ journalOf q t
-held u v = cc
-
--- one that is not done keeps what is held
-add-kept : (h : History) (slots text : List ℕ) (r : History) (told : Added) (left : List ℕ) → Addition h slots text r told left → (told ≡ Done → ⊥) → journalOf r left ≡ journalOf h slots
-add-kept h slots text r told left a n = by (addAnswer (good h slots) text) refl (a .state) (a .bytes)
-  where
-    by : (x : Added) → addAnswer (good h slots) text ≡ x → r ≡ recordBy x h (offered text (journalOf h slots)) → left ≡ slotsBy x slots (offered text (journalOf h slots))
-        → journalOf r left ≡ journalOf h slots
-    by Done d p q = absurd (n (a .answer ∙ d))
-    by BadState d p q = held p q
-    by (TooLong m) d p q = held p q
-    by (IllFormed m) d p q = held p q
-
 -- two good states whose histories have the same entries and place: the same answer, and two such histories after it
 pub add-alike : (h : History) (slots : List ℕ) (h₂ : History) (slots₂ : List ℕ) → good h slots ≡ true → good h₂ slots₂ ≡ true → Alike (journalOf h slots) (journalOf h₂ slots₂)
     → (text : List ℕ) (r r₂ : History) (told told₂ : Added) (left left₂ : List ℕ) → Addition h slots text r told left → Addition h₂ slots₂ text r₂ told₂ left₂
     → (told₂ ≡ told) × Alike (journalOf r left) (journalOf r₂ left₂)
-add-alike h slots h₂ slots₂ g g₂ a text r r₂ told told₂ left left₂ p q = (answer, by told refl)
+add-alike h slots h₂ slots₂ g g₂ a text r r₂ told told₂ left left₂ p q =
+    (answer, rw (add-leaves h slots text r told left p, add-leaves h₂ slots₂ text r₂ told₂ left₂ q, answer) (by (isDone told)))
   where
     answer : told₂ ≡ told
     answer = q .answer ∙ ap (λ (t : Bool). addAnswer t text) (g₂ ∙ sym g) ∙ sym (p .answer)
 
-    kept : (told ≡ Done → ⊥) → Alike (journalOf r left) (journalOf r₂ left₂)
-    kept n = rw (add-kept h slots text r told left p n, add-kept h₂ slots₂ text r₂ told₂ left₂ q (λ e. n (sym answer ∙ e))) a
+    by : (t : Bool) → Alike (cond t (offered text (journalOf h slots)) (journalOf h slots)) (cond t (offered text (journalOf h₂ slots₂)) (journalOf h₂ slots₂))
+    by true = offered-alike text (journalOf h slots) (journalOf h₂ slots₂) a
+    by false = a
 
-    by : (x : Added) → told ≡ x → Alike (journalOf r left) (journalOf r₂ left₂)
-    by Done e =
-        rw (add-after h slots text r left (rw e at p), add-after h₂ slots₂ text r₂ left₂ (rw (answer ∙ e) at q))
-        (offered-alike text (journalOf h slots) (journalOf h₂ slots₂) a)
-    by BadState e = kept (λ d. differ (sym e ∙ d))
-      where
-        differ : BadState ≡ Done → ⊥
-        differ d = let z : _≡_ {A = ℕ} 0 1 = cc in omega arith
-    by (TooLong m) e = kept (λ d. differ (sym e ∙ d))
-      where
-        differ : TooLong m ≡ Done → ⊥
-        differ d = let z : _≡_ {A = ℕ} 0 1 = cc in omega arith
-    by (IllFormed m) e = kept (λ d. differ (sym e ∙ d))
-      where
-        differ : IllFormed m ≡ Done → ⊥
-        differ d = let z : _≡_ {A = ℕ} 0 1 = cc in omega arith
+-- with room no entry is dropped: those that were there stay in front, and in their slots
+offered-more : (text : List ℕ) (j : Journal) → count j < 100 → (t : Bool) → let k : Journal = cond t (offered text j) j in (more : List (List ℕ)) × (k .entries ≡ j .entries ++ more) × (k .first ≡ j .first)
+unfolding added withRoom firstAfter mostEntries
+offered-more text j room false = ([], sym (append-nil (j .entries)), refl)
+offered-more text j room true = by (isNew text (j .entries)) (ltb (count j) 100) (lt-ltb (count j) 100 room)
+  where
+    by : (n r : Bool) → r ≡ true
+        → (more : List (List ℕ)) × (cond n (cond r (j .entries) (drop 1 (j .entries)) ++ (text ∷ [])) (j .entries) ≡ j .entries ++ more) × (cond n (cond r (j .first) (slotAfter (j .first) 1)) (j .first) ≡ j .first)
+    by false r e = ([], sym (append-nil (j .entries)), refl)
+    by true true e = (text ∷ [], refl, refl)
+    by true false e = absurd (true-is-not-false (sym e))
+
+pub add-with-room : (h : History) (slots text : List ℕ) (r : History) (told : Added) (left : List ℕ) → h .count < 100 → Addition h slots text r told left
+    → (more : List (List ℕ)) × (journalOf r left .entries ≡ journalOf h slots .entries ++ more) × (r .first ≡ h .first)
+add-with-room h slots text r told left room a =
+    let e = add-leaves h slots text r told left a in
+    let m = offered-more text (journalOf h slots) (let n = count-held h slots in omega arith) (isDone told) in
+    (m .0, ap (λ (j : Journal). j .entries) e ∙ m .1, sym (first-held r left) ∙ ap (λ (j : Journal). j .first) e ∙ m .2 ∙ first-held h slots)
 
 -- the numbers of two such states
 pub numbers-alike : (h : History) (slots : List ℕ) (h₂ : History) (slots₂ : List ℕ) → good h slots ≡ true → good h₂ slots₂ ≡ true → Alike (journalOf h slots) (journalOf h₂ slots₂)

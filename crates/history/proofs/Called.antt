@@ -14,7 +14,7 @@ use Rattle.history.specs.Answer.{addAnswer, recordBy, slotsBy, Addition}
 use Rattle.history.specs.declared.stepping.History.{History}
 use Rattle.history.specs.declared.adding.Added.{Added}
 use Rattle.history.specs.declared.adding.Added.the-variants.{Done, BadState as BadHistory, TooLong, IllFormed}
-use Rattle.history.proofs.Journals.{Fair, good-fair, fair-held, fair-offered, good-total}
+use Rattle.history.proofs.Journals.{Fair, same-held, good-fair, fair-held, fair-offered, good-total}
 use Rattle.history.proofs.Totals.{total-added}
 
 -- a text that is added is short and well-formed, and the state good
@@ -43,11 +43,28 @@ pub add-after : (h : History) (slots text : List ℕ) (r : History) (left : List
 add-after h slots text r left a =
     let d : addAnswer (good h slots) text ≡ Done = sym (a .answer) in
     let j : Journal = offered text (journalOf h slots) in
-    held (a .state ∙ ap (λ (x : Added). recordBy x h j) d) (a .bytes ∙ ap (λ (x : Added). slotsBy x slots j) d)
+    same-held (a .state ∙ ap (λ (x : Added). recordBy x h j) d) (a .bytes ∙ ap (λ (x : Added). slotsBy x slots j) d)
     ∙ fair-held j (taken-fair h slots text (done-has h slots text d))
+
+-- whatever the answer: the text was offered, or all is as it was
+abbrev pub isDone : Added → Bool
+isDone Done = true
+isDone BadHistory = false
+isDone (TooLong n) = false
+isDone (IllFormed n) = false
+
+pub add-leaves : (h : History) (slots text : List ℕ) (r : History) (told : Added) (left : List ℕ) → Addition h slots text r told left
+    → journalOf r left ≡ cond (isDone told) (offered text (journalOf h slots)) (journalOf h slots)
+add-leaves h slots text r told left a = by told a (a .state ∙ ap (λ (x : Added). recordBy x h j) (sym (a .answer))) (a .bytes ∙ ap (λ (x : Added). slotsBy x slots j) (sym (a .answer)))
   where
-    held : {p q : History} {s t : List ℕ} → p ≡ q → s ≡ t → journalOf p s ≡ journalOf q t
-    held u v = cc
+    j : Journal
+    j = offered text (journalOf h slots)
+
+    by : (x : Added) → Addition h slots text r x left → r ≡ recordBy x h j → left ≡ slotsBy x slots j → journalOf r left ≡ cond (isDone x) j (journalOf h slots)
+    by Done a p q = add-after h slots text r left a
+    by BadHistory a p q = same-held p q
+    by (TooLong n) a p q = same-held p q
+    by (IllFormed n) a p q = same-held p q
 
 -- the total after it: that before, with what is added and without what is dropped
 pub added-total : (h : History) (slots text : List ℕ) (r : History) (left : List ℕ) → Addition h slots text r Done left

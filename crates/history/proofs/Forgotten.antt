@@ -9,7 +9,7 @@ use lib.ListN.{length, take, drop, getD, length-append, length-drop, List·getD-
 use lib.Seq.{take-append-le, drop-at, take-take, drop-drop, length-take-le, getD-take, getD-drop, getD-append-add}
 use borrow.Author.Tests.{lt-ltb, le-ltb, ltb-true, ltb-false}
 use Rattle.buffer.proofs.Choices.{then-is, else-is, neither, true-is-not-false}
-use Rattle.buffer.proofs.Ordering.{same-is}
+use Rattle.buffer.proofs.Ordering.{same-is, is-same}
 use Rattle.buffer.specs.Compare.{sameBytes}
 use Rattle.history.specs.Entries.{usable, sound, total}
 use Rattle.history.specs.Forgotten.{without, repeats, remaining, gone}
@@ -54,6 +54,12 @@ unfolding sound
 differs-at before [] i l s = absurd (omega arith)
 differs-at before (e ∷ es) zero l s = refutes (sameBytes before e) _ (holds (usable e) _ s .1) .0
 differs-at before (e ∷ es) (suc i) l s = differs-at e es i (omega arith) (refutes (sameBytes before e) _ (holds (usable e) _ s .1) .1)
+
+pub neighbours : (es : List (List ℕ)) (i : ℕ) → i + 1 < length es → sound [] es ≡ true → getD es i [] ≡ getD es (i + 1) [] → ⊥
+neighbours es i l s e =
+    let on : i + 1 ≡ suc i = omega arith in
+    let d = ap (λ (n : ℕ). sameBytes (getD ([] ∷ es) n []) (getD es (i + 1) [])) (sym on) ∙ differs-at [] es (i + 1) l s in
+    true-is-not-false (sym (is-same (getD es i []) (getD es (i + 1) []) e) ∙ d)
 
 -- entries from a number on are sound after another that differs from the first of them
 sound-from : (before other : List ℕ) (es : List (List ℕ)) (t : ℕ) → sound before es ≡ true → (t < length es → sameBytes other (getD es t []) ≡ false) → sound other (drop t es) ≡ true
@@ -157,23 +163,50 @@ module _ (k : ℕ) (es : List (List ℕ)) where
           then-is _ _ _ r,
         )
 
-    -- what is cut out and how much that is, in one: from the number start up to k
-    pub record Cut (start : ℕ) : Type 0 where
-      pub within : start ≤ k
-      pub left : remaining k es ≡ cutOut start (k + 1) es
-      pub count : gone k es ≡ k + 1 - start
-
-    pub is-cut : (start : ℕ) × Cut start
-    is-cut = by (repeats k (without k es)) refl
+    -- two go exactly there
+    pub two-go : gone k es ≡ 2 → (0 < k) × (k + 1 < length es) × (getD es (k - 1) [] ≡ getD es (k + 1) [])
+    two-go e = by (repeats k (without k es)) refl
       where
-        by : (t : Bool) → repeats k (without k es) ≡ t → (start : ℕ) × Cut start
-        by true r =
-            let p = together r .0 in
-            let c = cut-two r in
-            (k - 1, record { within = omega arith; left = c .0; count = c .1 ∙ (let e : 2 ≡ k + 1 - (k - 1) = omega arith in e) })
-        by false r =
-            let c = cut-one r in
-            (k, record { within = omega arith; left = c .0; count = c .1 ∙ (let e : 1 ≡ k + 1 - k = omega arith in e) })
+        by : (t : Bool) → repeats k (without k es) ≡ t → (0 < k) × (k + 1 < length es) × (getD es (k - 1) [] ≡ getD es (k + 1) [])
+        by true r = together r
+        by false r = absurd (let n = cut-one r .1 in omega arith)
+
+    pub then-two : 0 < k → k + 1 < length es → getD es (k - 1) [] ≡ getD es (k + 1) [] → gone k es ≡ 2
+    then-two p l e = cut-two (come-together p l ∙ is-same (getD es (k - 1) []) (getD es (k + 1) []) e) .1
+
+    -- one or two go, and what remains are those before them and those after entry k, in their order
+    pub gone-few : (1 ≤ gone k es) × (gone k es ≤ 2) × (gone k es ≤ k + 1)
+    gone-few = by (repeats k (without k es)) refl
+      where
+        by : (t : Bool) → repeats k (without k es) ≡ t → (1 ≤ gone k es) × (gone k es ≤ 2) × (gone k es ≤ k + 1)
+        by true r = let p = together r .0 in let e = cut-two r .1 in (omega arith, omega arith, omega arith)
+        by false r = let e = cut-one r .1 in (omega arith, omega arith, omega arith)
+
+    pub remaining-cut : remaining k es ≡ cutOut (k + 1 - gone k es) (k + 1) es
+    remaining-cut = by (repeats k (without k es)) refl
+      where
+        cut : (start : ℕ) → start ≡ k + 1 - gone k es → cutOut start (k + 1) es ≡ cutOut (k + 1 - gone k es) (k + 1) es
+        cut start e = ap (λ (i : ℕ). cutOut i (k + 1) es) e
+
+        by : (t : Bool) → repeats k (without k es) ≡ t → remaining k es ≡ cutOut (k + 1 - gone k es) (k + 1) es
+        by true r = let p = together r .0 in let e = cut-two r .1 in cut-two r .0 ∙ cut (k - 1) (omega arith)
+        by false r = let e = cut-one r .1 in cut-one r .0 ∙ cut k (omega arith)
+
+    pub length-remaining : length (remaining k es) + gone k es ≡ length es
+    length-remaining =
+        let g = gone-few in
+        let few = g .2 in
+        let n = ap length remaining-cut ∙ length-cut (k + 1 - gone k es) (k + 1) es (omega arith) (omega arith) in
+        omega arith
+
+    pub total-remaining : total (remaining k es) + total (take (gone k es) (drop (k + 1 - gone k es) es)) ≡ total es
+    total-remaining =
+        let few = gone-few .2 in
+        let n : k + 1 - (k + 1 - gone k es) ≡ gone k es = omega arith in
+        let c = total-cut (k + 1 - gone k es) (k + 1) es (omega arith) in
+        ap (λ (l : List (List ℕ)). total l + total (take (gone k es) (drop (k + 1 - gone k es) es))) remaining-cut
+        ∙ ap (λ (m : ℕ). total (cutOut (k + 1 - gone k es) (k + 1) es) + total (take m (drop (k + 1 - gone k es) es))) (sym n)
+        ∙ c
 
     -- NEIGHBOURS STILL DIFFER: the one removal more is always enough
     pub sound-remaining : sound [] es ≡ true → sound [] (remaining k es) ≡ true
@@ -200,22 +233,10 @@ module _ (k : ℕ) (es : List (List ℕ)) where
 
     pub entries-remaining : Entries es → Entries (remaining k es)
     entries-remaining g =
-        let c = is-cut in
-        let start : ℕ = c .0 in
         let few = g .few in
-        let within = c .1 .within in
-        let n = ap length (c .1 .left) ∙ length-cut start (k + 1) es (omega arith) (omega arith) in
+        let n = length-remaining in
         record {
-          short = rw (c .1 .left) (short-cut start (k + 1) es (g .short));
+          short = rw remaining-cut (short-cut (k + 1 - gone k es) (k + 1) es (g .short));
           few = omega arith;
           is-sound = sound-remaining (g .is-sound);
         }
-
-    -- how many are left
-    pub length-remaining : length (remaining k es) + gone k es ≡ length es
-    length-remaining =
-        let c = is-cut in
-        let within = c .1 .within in
-        let n = ap length (c .1 .left) ∙ length-cut (c .0) (k + 1) es (omega arith) (omega arith) in
-        let g = c .1 .count in
-        omega arith

@@ -42,6 +42,16 @@ pub place-held : (h : History) (slots : List ℕ) → journalOf h slots .place �
 unfolding journalOf
 place-held h slots = refl
 
+pub first-held : (h : History) (slots : List ℕ) → journalOf h slots .first ≡ h .first
+unfolding journalOf
+first-held h slots = refl
+
+pub same-held : {p q : History} {s t : List ℕ} → p ≡ q → s ≡ t → journalOf p s ≡ journalOf q t
+same-held u v = cc
+
+pub same-good : {p q : History} {s t : List ℕ} → p ≡ q → s ≡ t → good p s ≡ good q t
+same-good u v = cc
+
 -- a good state holds a history within the rules, and holds it as its record and its slots
 pub good-fair : (h : History) (slots : List ℕ) → good h slots ≡ true → Fair (journalOf h slots)
 unfolding journalOf

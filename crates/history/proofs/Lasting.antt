@@ -1,4 +1,4 @@
--- No call on a history leads from a good state to a bad one (for the steps through it: Journals, `back-good` and `onward-good`).
+-- No call on a history leads from a good state to a bad one (for the steps through it: Journals, `back-good` and `onward-good`; for forgetting: Shortened, `forgets-good`).
 use Prim.Native.Nat.{ℕ}
 use mathlib.Core.Path.{_≡_, refl, _∙_}
 use mathlib.Core.Bool.{true}
@@ -8,11 +8,8 @@ use Rattle.history.specs.Answer.{Holds, Emptied, Offered, addAnswer, rec
 use Rattle.history.specs.declared.stepping.History.{History}
 use Rattle.history.specs.declared.adding.Added.{Added}
 use Rattle.history.specs.declared.adding.Added.the-variants.{Done, BadState, TooLong, IllFormed}
-use Rattle.history.proofs.Journals.{Fair, fair-good, fair-none}
+use Rattle.history.proofs.Journals.{Fair, same-good, fair-good, fair-none}
 use Rattle.history.proofs.Called.{Taken, done-has, taken-fair}
-
-same-good : {r q : History} {s t : List ℕ} → r ≡ q → s ≡ t → good r s ≡ good q t
-same-good p q = cc
 
 -- what holds a history within the rules
 pub holds-good : (j : Journal) (r : History) (left : List ℕ) → Fair j → Holds j r left → good r left ≡ true

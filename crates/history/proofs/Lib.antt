@@ -17,3 +17,4 @@ pub mod Called
 pub mod Begun
 pub mod Lasting
 pub mod Shortened
+pub mod Examples

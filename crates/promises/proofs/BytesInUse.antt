@@ -5,17 +5,21 @@ use mathlib.Core.Path.{_≡_, refl, ap, _∙_}
 use mathlib.Core.Bool.{Bool, true, false, cond}
 use mathlib.Core.List.{List}
 use lib.Dec.{ltb, eqb}
-use lib.ListN.{length, getD}
+use lib.ListN.{length, take, drop, getD}
 use Rattle.history.specs.Entries.{mostEntries, isNew, total}
 use Rattle.history.specs.Journal.{Journal, noEntries, count, entryOf, recordOf, journalOf, good}
 use Rattle.history.specs.Answer.{number as addedNumber, value as addedValue, Addition}
+use Rattle.history.specs.Forgotten.{Forgets, number as forgotNumber, value as forgotValue}
 use Rattle.history.specs.declared.stepping.History.{History}
 use Rattle.history.specs.declared.adding.Added.{Added}
 use Rattle.history.specs.declared.adding.Added.the-variants.{Done}
+use Rattle.history.specs.declared.forgetting.Forgot.{Forgot}
+use Rattle.history.specs.declared.forgetting.Forgot.the-variants.{Gone}
 use Rattle.history.specs.Steps.{back, onward}
 use Rattle.history.proofs.Steps.{back-total, onward-total}
 use Rattle.history.proofs.Journals.{good-total, wrong-total, one-total}
 use Rattle.history.proofs.Called.{added-total}
+use Rattle.history.proofs.Shortened.{forgotten-total}
 use Rattle.keys.specs.declared.standing.Profile.{Profile}
 use Rattle.keys.specs.Modes.{profileNumber}
 use Rattle.buffer.specs.Lend.{zeros}
@@ -28,13 +32,13 @@ use Rattle.editor.specs.Answer.{stateOf, goodState, number as pressedNumber, va
 use Rattle.editor.proofs.States.{state-parts}
 use Rattle.editor.proofs.Lasting.{Reached as ReachedByValue}
 use Rattle.state.specs.State.{historyIn, goodSaved}
-use Rattle.state.specs.Calls.{freshSaved, SavedKey, SavedAdd}
+use Rattle.state.specs.Calls.{freshSaved, SavedKey, SavedAdd, SavedForget}
 use Rattle.state.proofs.Lasting.{Reached}
 use Rattle.state.proofs.Savings.{good-saved-parts, saved-total, fresh-saved}
 use Rattle.rust.specs.Same.{original}
 use Rattle.session.specs.declared.standing.Session.{Session}
 use Rattle.promises.proofs.Tables.{told}
-use Rattle.promises.proofs.KeyAnswers.{keyed, Lent, press-bad, saved-add-bad}
+use Rattle.promises.proofs.KeyAnswers.{keyed, Lent, press-bad, saved-add-bad, saved-forget-bad}
 use Rattle.promises.proofs.Lasting.{never-bad, never-bad-by-value, ReachedInSession, never-bad-in-session}
 
 -- a record's total is the sum of the lengths of the entries that it holds with its slots, which is at most 25,500
@@ -84,6 +88,11 @@ pub by-add : (h : History) (slots text : List ℕ) (r : History) (left : List �
     (h .total)
 by-add = added-total
 
+-- AN ENTRY THAT IS FORGOTTEN makes it less by its length, and by that of the older of two equal ones where that goes with it
+pub by-forget : (h : History) (slots : List ℕ) (k : ℕ) (r : History) (n : ℕ) (left : List ℕ) → Forgets h slots k r (Gone n) left
+    → r .total + total (take n (drop (k + 1 - n) (journalOf h slots .entries))) ≡ h .total
+by-forget = forgotten-total
+
 -- ANOTHER TOTAL is bad, whatever else the state is (KeyAnswers: every call that tests one refuses it with 12)
 pub wrong : (e : Editor) (h : History) (slots : List ℕ) → (h .total ≡ total (journalOf h slots .entries) → ⊥) → (good h slots ≡ false) × (goodState e h slots ≡ false)
 unfolding goodState
@@ -96,7 +105,7 @@ withTotal h n = record { count = h .count; place = h .place; total = n; first = 
 pub no-other : (h : History) (slots : List ℕ) (n : ℕ) → good h slots ≡ true → good (withTotal h n) slots ≡ eqb n (h .total)
 no-other = one-total
 
--- a saved state with another one is refused with 12 by a key and by an add, and every byte stays
+-- a saved state with another one is refused with 12 by a key, by an add and where an entry is to be forgotten, and every byte stays
 pub other-bad : (state slots : List ℕ) → (inUse state ≡ total (journalOf (historyIn state) slots .entries) → ⊥) → goodSaved state slots ≡ false
 other-bad state slots n = by (goodSaved state slots) refl
   where
@@ -114,6 +123,11 @@ pub add-refused : (state slots text : List ℕ) (r : Added) (state′ slots′ :
     → (inUse state ≡ total (journalOf (historyIn state) slots .entries) → ⊥)
     → told {L = List ℕ × List ℕ} (addedNumber r) (addedValue r) (state′, slots′) ≡ told 12 0 (state, slots)
 add-refused state slots text r state′ slots′ p n = saved-add-bad state slots text r state′ slots′ p (other-bad state slots n)
+
+pub forget-refused : (state slots : List ℕ) (k : ℕ) (r : Forgot) (state′ slots′ : List ℕ) → SavedForget state slots k r state′ slots′
+    → (inUse state ≡ total (journalOf (historyIn state) slots .entries) → ⊥)
+    → told {L = List ℕ × List ℕ} (forgotNumber r) (forgotValue r) (state′, slots′) ≡ told 12 0 (state, slots)
+forget-refused state slots k r state′ slots′ p n = saved-forget-bad state slots k r state′ slots′ p (other-bad state slots n)
 
 -- NOTHING ELSE depends on it: the history that record and slots hold is the same whatever the total, the Rust's beside it, and what a key does
 pub same-history : (h : History) (slots : List ℕ) (n : ℕ) → journalOf (withTotal h n) slots ≡ journalOf h slots

@@ -6,7 +6,7 @@ use mathlib.Core.List.{List}
 use mathlib.Core.Option.{Option, none, some}
 use native.Mathlib.Omega.{arith}
 use lib.Dec.{eqb}
-use lib.ListN.{length}
+use lib.ListN.{length, take}
 use Rattle.text.specs.Apart.{trimmed, wordsBetween}
 use Rattle.words.specs.Tokens.{wordsOf, wordFrames}
 use Rattle.words.specs.declared.tokenizer.Tokens.{Tokens}
@@ -15,9 +15,13 @@ use Rattle.history.specs.Entries.{total}
 use Rattle.history.specs.Slots.{slotAfter, ChangesOnly}
 use Rattle.history.specs.Journal.{offered, journalOf}
 use Rattle.history.specs.Answer.{recordBy, Addition, number as addNumber, value as addValue}
+use Rattle.history.specs.Forgotten.{Forgets, number as forgetNumber, value as forgetValue}
 use Rattle.history.specs.declared.stepping.History.{History}
 use Rattle.history.specs.declared.adding.Added.{Added}
 use Rattle.history.specs.declared.adding.Added.the-variants.{Done, BadState as BadHistory, TooLong, IllFormed}
+use Rattle.history.specs.declared.forgetting.Forgot.{Forgot}
+use Rattle.history.specs.declared.forgetting.Forgot.the-variants.{Gone, BadState as NoHistory, NoEntry}
+use Rattle.history.proofs.Shortened.{gone-has}
 use Rattle.keys.specs.declared.standing.Profile.the-variants.{Rust}
 use Rattle.keys.specs.declared.standing.Mode.the-variants.{Typing}
 use Rattle.keys.specs.Modes.{profileNumber}
@@ -32,13 +36,13 @@ use Rattle.editor.proofs.Lines.{good-line, length-of}
 use Rattle.editor.proofs.States.{good-parts, editor-parts, state-parts}
 use Rattle.editor.proofs.Fine.{stays-good}
 use Rattle.state.specs.State.{savedOf, editorIn, historyIn, goodSaved}
-use Rattle.state.specs.Calls.{Beginning, turnIn, number as begunNumber, value as begunValue}
+use Rattle.state.specs.Calls.{Beginning, turnIn, forgetIn, SavedForget, number as begunNumber, value as begunValue}
 use Rattle.state.specs.declared.calls.Begun.{Begun}
 use Rattle.state.specs.declared.calls.Begun.the-variants.{Ready, NoRoom as NoSpace, BadState as NoState}
 use Rattle.state.proofs.Savings.{held-saved, history-saved, good-saved-parts}
-use Rattle.state.proofs.Begun.{heldIn}
+use Rattle.state.proofs.Stored.{heldIn}
 use Rattle.state.proofs.ByValue.{keyFor, key-by-value, key-saved, add-by-value, add-saved}
-use Rattle.state.proofs.Lasting.{Reached, begun, by-key as key-reached, by-add as add-reached}
+use Rattle.state.proofs.Lasting.{Reached, begun, by-key as key-reached, by-add as add-reached, by-forget as forget-reached}
 use Rattle.tree.specs.Rules.{checkTree}
 use Rattle.tree.specs.declared.check.Checked.the-variants.{Good}
 use Rattle.parse.specs.Answer.{number as parseNumber, value as parseValue}
@@ -52,24 +56,25 @@ use Rattle.shell.specs.declared.answer.Ran.the-variants.{NoRoom as RunNoRoom}
 use Rattle.shell.specs.declared.builtin.Builtin.the-variants.{Help}
 use Rattle.shell.proofs.Answers.{naming}
 use Rattle.rissemat.specs.Packed.{answered, plain}
-use Rattle.rissemat.specs.Calls.{WordsCall, QuoteCall, FreshWithCall, FreshCall, KeyCall, keyTold, AddCall, TreeCall, ParseCall, HelpCall, RunCall, runTold}
+use Rattle.rissemat.specs.Calls.{WordsCall, QuoteCall, FreshWithCall, FreshCall, KeyCall, keyTold, AddCall, ForgetCall, TreeCall, ParseCall, HelpCall, RunCall, runTold}
 use Rattle.rissemat.proofs.Unpacking.{value-back, number-back, kind-back, second-back}
-use Rattle.rissemat.proofs.Packings.{words-packs, quote-packs, fresh-packs, key-packs, add-packs, tree-packs, parse-packs, help-packs, run-packs}
+use Rattle.rissemat.proofs.Packings.{words-packs, quote-packs, fresh-packs, key-packs, add-packs, forget-packs, tree-packs, parse-packs, help-packs, run-packs}
 use Rattle.rust.specs.Tree.{Commands}
 use Rattle.rust.specs.Parser.{tokenize, Result, parse}
 use Rattle.rust.specs.Help.{showHelp}
 use Rattle.rust.specs.Shell.{enter}
-use Rattle.rust.specs.History.{CommandHistory, addCommand}
+use Rattle.rust.specs.History.{CommandHistory, addCommand, shortened}
 use Rattle.rust.specs.Loop.{Shell, rustKey}
 use Rattle.rust.specs.Same.{original, shellOf, Seen, quiet, output, handed, exited, crashed, seenOf, QuotedAsIs}
 use Rattle.rust.specs.Calls.{Writes, PressesAs, resultNumber, parseBytes, helpBytes, HelpsAs, seenBytes, Says, Fair, SameAsRust}
 use Rattle.promises.proofs.Tables.{Answered, told}
 use Rattle.promises.proofs.Answers.{tooLong, illFormed, tokenizeTable, tokenize-tells, quoteTable, quote-tells, checkTable, check-tells, parseTable, parse-tells, helpTable, help-tells, Ended, runTable, run-tells}
-use Rattle.promises.proofs.KeyAnswers.{Keyed, keyed, pressTable, press-tells, savedAddTable, saved-add-tells, beginTable, begin-tells}
+use Rattle.promises.proofs.KeyAnswers.{Keyed, keyed, pressTable, press-tells, savedAddTable, saved-add-tells, savedForgetTable, saved-forget-tells, beginTable, begin-tells}
 use Rattle.promises.proofs.Lasting.{never-bad, full-line-saved}
 use Rattle.promises.proofs.BytesInUse.{inUse, in-bytes}
-use Rattle.promises.proofs.FirstSlot.{firstByte, in-bytes as first-in-bytes, saved-key-changes-one, saved-add-changes-one, same-saved-key, same-saved-add}
-use Rattle.promises.proofs.SameAsRust.{words, key, add-command}
+use Rattle.promises.proofs.FirstSlot.{firstByte, in-bytes as first-in-bytes, saved-key-changes-one, saved-add-changes-one, same-saved-key, same-saved-add, same-saved-forget}
+use Rattle.promises.proofs.Forgetting.{editor-stays, as-by-value}
+use Rattle.promises.proofs.SameAsRust.{words, key, add-command, forget}
 use Rattle.promises.proofs.OtherCommands.{named, Agree, parse-alone, help-alone, run-alone}
 
 -- THE PACKING: value, number, kind and second value are read back from an answer's bits; a value stops at 32 bits, a second value at 16
@@ -106,6 +111,7 @@ pub record TellTables : Type 0 where
   pub key : (state slots prompt : List ℕ) (byte : ℕ) (line screen : List ℕ) (p : ℕ) (state′ slots′ line′ screen′ : List ℕ)
       → KeyCall state slots prompt byte line screen p state′ slots′ line′ screen′ → PacksKey (pressTable state slots prompt byte line screen) p (state′, slots′, line′, screen′)
   pub history-add : (state slots text : List ℕ) (p : ℕ) (state′ slots′ : List ℕ) → AddCall state slots text p state′ slots′ → Packs (savedAddTable state slots text) p (state′, slots′)
+  pub history-forget : (state slots : List ℕ) (k p : ℕ) (state′ slots′ : List ℕ) → ForgetCall state slots k p state′ slots′ → Packs (savedForgetTable state slots k) p (state′, slots′)
   pub tree : (image : List ℕ) (p : ℕ) → TreeCall image p → Packs (checkTable image) p tt
   pub parse : (image line out : List ℕ) (p : ℕ) (left : List ℕ) → ParseCall image line out p left → Packs (parseTable image line out) p left
   pub help : (image line out : List ℕ) (p : ℕ) (left : List ℕ) → HelpCall image line out p left → Packs (helpTable image line out) p left
@@ -139,6 +145,9 @@ tell-tables =
       history-add = λ state slots text p state′ slots′ c.
           let b = add-packs state slots text p state′ slots′ c in
           packs _ _ (state′, slots′) _ p (saved-add-tells state slots text (b .0) state′ slots′ (b .1)) (b .2);
+      history-forget = λ state slots k p state′ slots′ c.
+          let b = forget-packs state slots k p state′ slots′ c in
+          packs _ _ (state′, slots′) _ p (saved-forget-tells state slots k (b .0) state′ slots′ (b .1)) (b .2);
       tree = λ image p c. let b = tree-packs image p c in packs _ _ tt _ p (check-tells image (b .0) (b .1)) (b .2);
       parse = λ image line out p left c. let b = parse-packs image line out p left c in packs _ _ left _ p (parse-tells image line out (b .0) left (b .1)) (b .2);
       help = λ image line out p left c. let b = help-packs image line out p left c in packs _ _ left _ p (help-tells image line out (b .0) left (b .1)) (b .2);
@@ -158,6 +167,7 @@ pub data ReachedByCalls : List ℕ → List ℕ → Type 0 where
   by-key : {state slots prompt line screen state′ slots′ line′ screen′ : List ℕ} {byte p : ℕ} → ReachedByCalls state slots
       → KeyCall state slots prompt byte line screen p state′ slots′ line′ screen′ → ReachedByCalls state′ slots′
   by-history-add : {state slots text state′ slots′ : List ℕ} {p : ℕ} → ReachedByCalls state slots → AddCall state slots text p state′ slots′ → ReachedByCalls state′ slots′
+  by-history-forget : {state slots state′ slots′ : List ℕ} {k p : ℕ} → ReachedByCalls state slots → ForgetCall state slots k p state′ slots′ → ReachedByCalls state′ slots′
 
 -- bits 32 to 39: the refusal's number
 abbrev pub numberIn : ℕ → ℕ
@@ -179,6 +189,7 @@ reached (by-fresh-with {profile} c) = fresh-reached profile c
 reached (by-key {state} {slots} {prompt} {line} {screen} {state′} {slots′} {line′} {screen′} {byte} {p} r c) =
     key-reached (reached r) (key-packs state slots prompt byte line screen p state′ slots′ line′ screen′ c .1)
 reached (by-history-add {state} {slots} {text} {state′} {slots′} {p} r c) = add-reached (reached r) (add-packs state slots text p state′ slots′ c .1)
+reached (by-history-forget {state} {slots} {state′} {slots′} {k} {p} r c) = forget-reached (reached r) (forget-packs state slots k p state′ slots′ c .1)
 
 pub never-bad-by-calls : (state slots : List ℕ) → ReachedByCalls state slots → goodSaved state slots ≡ true
 never-bad-by-calls state slots r = never-bad state slots (reached r)
@@ -222,6 +233,37 @@ module _ (state slots state₂ slots₂ : List ℕ) (g : goodSaved state slots �
       let y = add-packs state₂ slots₂ text q state₂′ slots₂′ d in
       let s = same-saved-add state slots state₂ slots₂ g g₂ a text (x .0) (y .0) state′ slots′ state₂′ slots₂′ (x .1) (y .1) in
       (y .2 ∙ ap (λ (r : Added). plain (addNumber r) (addValue r)) (s .0) ∙ sym (x .2), s .1, s .2, s .3)
+
+  pub same-forget-by-calls : (k p q : ℕ) (state′ slots′ state₂′ slots₂′ : List ℕ) → ForgetCall state slots k p state′ slots′ → ForgetCall state₂ slots₂ k q state₂′ slots₂′
+      → (q ≡ p) × SameBut (heldIn state′ slots′) (heldIn state₂′ slots₂′) × (goodSaved state′ slots′ ≡ true) × (goodSaved state₂′ slots₂′ ≡ true)
+  same-forget-by-calls k p q state′ slots′ state₂′ slots₂′ c d =
+      let x = forget-packs state slots k p state′ slots′ c in
+      let y = forget-packs state₂ slots₂ k q state₂′ slots₂′ d in
+      let s = same-saved-forget state slots state₂ slots₂ g g₂ a k (x .0) (y .0) state′ slots′ state₂′ slots₂′ (x .1) (y .1) in
+      (y .2 ∙ ap (λ (r : Forgot). plain (forgetNumber r) (forgetValue r)) (s .0) ∙ sym (x .2), s .1, s .2, s .3)
+
+-- an entry that is forgotten: the editor's bytes stay, whatever is answered; and an answer without a refusal's number is how many entries went, as Forgetting says of them by value
+pub editor-stays-by-calls : (state slots : List ℕ) (k p : ℕ) (state′ slots′ : List ℕ) → ForgetCall state slots k p state′ slots′ → take 261 state′ ≡ take 261 state
+editor-stays-by-calls state slots k p state′ slots′ c =
+    let b = forget-packs state slots k p state′ slots′ c in editor-stays state slots k (b .0) state′ slots′ (b .1)
+
+gone-so : (r : Forgot) (p : ℕ) → p ≡ plain (forgetNumber r) (forgetValue r) → numberIn p ≡ 0 → (n : ℕ) × (r ≡ Gone n)
+unfolding answered
+gone-so (Gone n) p e z = (n, refl)
+gone-so NoHistory p e z = absurd (omega arith)
+gone-so (NoEntry n) p e z = absurd (omega arith)
+
+pub forgets-by-calls : (state slots : List ℕ) (k p : ℕ) (state′ slots′ : List ℕ) → ForgetCall state slots k p state′ slots′ → numberIn p ≡ 0
+    → (n : ℕ) × (p ≡ plain 0 n) × Forgets (historyIn state) slots k (historyIn state′) (Gone n) slots′
+unfolding forgetIn
+forgets-by-calls state slots k p state′ slots′ c zero =
+    let b = forget-packs state slots k p state′ slots′ c in
+    let g = gone-so (b .0) p (b .2) zero in
+    let made = subst (λ (r : Forgot). SavedForget state slots k r state′ slots′) (g .1) (b .1) in (
+      g .0,
+      b .2 ∙ ap (λ (r : Forgot). plain (forgetNumber r) (forgetValue r)) (g .1),
+      as-by-value state slots k (Gone (g .0)) state′ slots′ made (gone-has (goodSaved state slots) k (journalOf (historyIn state) slots .entries) (g .0) (made .answer) .0),
+    )
 
 pub full-line : (state slots prompt : List ℕ) (byte : ℕ) (line screen : List ℕ) (p : ℕ) (state′ slots′ line′ screen′ : List ℕ)
     → KeyCall state slots prompt byte line screen p state′ slots′ line′ screen′ → goodSaved state slots ≡ true → goodPrompt prompt ≡ true → limit ≤ length line
@@ -287,6 +329,9 @@ pub record PacksAsRust (image : List ℕ) (tree : Commands) : Type 0 where
       → PacksTurn prompt (shellIn state slots) byte line screen p (shellIn state′ slots′) line′ screen′
   pub adds : (state slots text : List ℕ) (p : ℕ) (state′ slots′ : List ℕ) → AddCall state slots text p state′ slots′ → goodSaved state slots ≡ true → numberIn p ≡ 0
       → addCommand (commandsIn state slots) text ≡ commandsIn state′ slots′
+  -- an entry forgotten and not refused: the Rust's history with the shortened list
+  pub forgets : (state slots : List ℕ) (k p : ℕ) (state′ slots′ : List ℕ) → ForgetCall state slots k p state′ slots′ → numberIn p ≡ 0
+      → shortened k (commandsIn state slots) ≡ commandsIn state′ slots′
 
 says-packed : (s : Seen) (r : Ran) (p : ℕ) → p ≡ runTold r → Says s r → PacksSeen s p
 unfolding runTold
@@ -372,6 +417,8 @@ packs-as-rust image tree same =
           maps (same .runs printable line out left (b .0) short plain-help (b .1)) (says-packed (seenOf (enter printable tree line)) (b .0) p (b .2)) (λ f. b .2 ∙ run-short f);
       keys = key-as-rust;
       adds = add-as-rust;
+      forgets = λ state slots k p state′ slots′ c zero.
+          let f = forgets-by-calls state slots k p state′ slots′ c zero in forget (historyIn state) slots k (historyIn state′) (f .0) slots′ (f .2);
     }
 
 -- DEMAND 3: under two well-formed trees that agree on the command that a line names, each call answers the same 64 bits and writes the same bytes

@@ -11,9 +11,11 @@ use Rattle.buffer.proofs.Choices.{neither}
 use Rattle.history.specs.Slots.{slotAfter, slot, slotAt, ChangesOnly}
 use Rattle.history.specs.Journal.{Journal, noEntries, entryOf, firstAfter, Alike, recordOf, slotsOf as journalSlots, journalOf, good}
 use Rattle.history.specs.Answer.{number as addedNumber, value as addedValue, Addition}
+use Rattle.history.specs.Forgotten.{Forgets, number as forgotNumber, value as forgotValue}
 use Rattle.history.specs.declared.stepping.History.{History}
 use Rattle.history.specs.declared.adding.Added.{Added}
 use Rattle.history.specs.declared.adding.Added.the-variants.{Done}
+use Rattle.history.specs.declared.forgetting.Forgot.{Forgot}
 use Rattle.history.specs.Steps.{back, onward}
 use Rattle.history.proofs.Steps.{back-placed, onward-placed, same-steps}
 use Rattle.history.proofs.States.{good-has}
@@ -21,6 +23,7 @@ use Rattle.history.proofs.Journals.{Fair, good-fair, fair-held, fair-good, coun
 use Rattle.history.proofs.Called.{add-after}
 use Rattle.history.proofs.Lasting.{added-good}
 use Rattle.history.proofs.Begun.{entry-lies, zeros-lie, add-changes, numbers-alike, add-alike as add-alike-by-value}
+use Rattle.history.proofs.Shortened.{forget-first, forgets-good, forget-alike as forget-alike-by-value}
 use Rattle.keys.specs.declared.standing.Profile.{Profile}
 use Rattle.keys.specs.Modes.{profileNumber}
 use Rattle.editor.specs.declared.line.Editor.{Editor}
@@ -34,13 +37,14 @@ use Rattle.editor.proofs.Fine.{stays-good}
 use Rattle.editor.proofs.Begun.{keys-alike, key-changes, same-answer, same-given, same-shown, alike-after}
 use Rattle.editor.proofs.Lasting.{Reached as ReachedByValue}
 use Rattle.state.specs.State.{historyIn, goodSaved}
-use Rattle.state.specs.Calls.{freshSaved, SavedKey, SavedAdd}
-use Rattle.state.proofs.Lasting.{Reached, key-stays, add-stays}
+use Rattle.state.specs.Calls.{freshSaved, SavedKey, SavedAdd, SavedForget}
+use Rattle.state.proofs.Stored.{heldIn}
+use Rattle.state.proofs.Lasting.{Reached, key-stays, add-stays, forget-stays}
 use Rattle.state.proofs.Savings.{good-saved-parts, saved-first, fresh-saved}
-use Rattle.state.proofs.Begun.{heldIn, key-changes-saved, add-changes-saved, key-alike, add-alike}
+use Rattle.state.proofs.Begun.{key-changes-saved, add-changes-saved, key-alike, add-alike, forget-alike}
 use Rattle.session.specs.declared.standing.Session.{Session}
 use Rattle.promises.proofs.Tables.{told}
-use Rattle.promises.proofs.KeyAnswers.{keyed, Lent, press-bad, saved-add-bad}
+use Rattle.promises.proofs.KeyAnswers.{keyed, Lent, press-bad, saved-add-bad, saved-forget-bad}
 use Rattle.promises.proofs.Lasting.{never-bad, never-bad-by-value, ReachedInSession, never-bad-in-session}
 
 -- WHERE ENTRIES LIE in a good state: entry k in the slot that is k after the first, round the end, and zeros in all others
@@ -94,7 +98,7 @@ any-slot h slots first g l =
     let fair : Fair j = record { entries = f .entries; placed = f .placed; begins = l } in
     (fair-good j fair, fair-held j fair, record { entries = refl; place = refl })
 
--- A STEP leaves it alone, and AN ADD moves it on by one, round the end, where it drops the oldest, and nowhere else
+-- A STEP leaves it alone, so does AN ENTRY THAT IS FORGOTTEN, also the oldest and the last one, and AN ADD moves it on by one, round the end, where it drops the oldest, and nowhere else
 pub by-step : (h : History) → (back h .history .first ≡ h .first) × (onward h .history .first ≡ h .first)
 by-step h = (ap (λ (x : History). x .first) (back-placed h), ap (λ (x : History). x .first) (onward-placed h))
 
@@ -103,7 +107,10 @@ pub by-add : (h : History) (slots text : List ℕ) (r : History) (left : List �
 unfolding journalOf
 by-add h slots text r left a = ap (λ (j : Journal). j .first) (add-after h slots text r left a)
 
--- ABOVE 99 is bad, whatever else the state is; a saved state with such a byte is refused with 12 by a key and by an add, and every byte stays
+pub by-forget : (h : History) (slots : List ℕ) (k : ℕ) (r : History) (a : Forgot) (left : List ℕ) → Forgets h slots k r a left → r .first ≡ h .first
+by-forget = forget-first
+
+-- ABOVE 99 is bad, whatever else the state is; a saved state with such a byte is refused with 12 by a key, by an add and where an entry is to be forgotten, and every byte stays
 pub above : (e : Editor) (h : History) (slots : List ℕ) → 100 ≤ h .first → (good h slots ≡ false) × (goodState e h slots ≡ false)
 unfolding goodState
 above e h slots n = (bad, ap (λ (t : Bool). cond (goodEditor e) t false) bad ∙ neither (goodEditor e))
@@ -132,6 +139,10 @@ pub add-refused : (state slots text : List ℕ) (r : Added) (state′ slots′ :
     → told {L = List ℕ × List ℕ} (addedNumber r) (addedValue r) (state′, slots′) ≡ told 12 0 (state, slots)
 add-refused state slots text r state′ slots′ p n = saved-add-bad state slots text r state′ slots′ p (above-bad state slots n)
 
+pub forget-refused : (state slots : List ℕ) (k : ℕ) (r : Forgot) (state′ slots′ : List ℕ) → SavedForget state slots k r state′ slots′ → 100 ≤ firstByte state
+    → told {L = List ℕ × List ℕ} (forgotNumber r) (forgotValue r) (state′, slots′) ≡ told 12 0 (state, slots)
+forget-refused state slots k r state′ slots′ p n = saved-forget-bad state slots k r state′ slots′ p (above-bad state slots n)
+
 -- ONE SLOT: whatever an add or a key answers, no byte changes but those of the slot after the newest entry, which in a full history is that of the oldest. By value, and saved.
 pub add-changes-one : (h : History) (slots text : List ℕ) (r : History) (a : Added) (left : List ℕ) → Addition h slots text r a left → ChangesOnly (slotAfter (h .first) (h .count)) slots left
 add-changes-one = add-changes
@@ -149,7 +160,7 @@ pub saved-add-changes-one : (state slots text : List ℕ) (r : Added) (state′ 
 saved-add-changes-one = add-changes-saved
 
 -- THE SAME WHEREVER IT BEGINS: two good histories with the same entries and place (`Alike`), wherever these lie. Count, place and total are the same, each number recalls the same entry, a
--- step recalls the same and leads to the same place; a text that is added is answered the same and leaves two such histories, which are good again.
+-- step recalls the same and leads to the same place; a text that is added and an entry that is forgotten are answered the same and leave two such histories, which are good again.
 pub same-history : (h : History) (slots : List ℕ) (h₂ : History) (slots₂ : List ℕ) → good h slots ≡ true → good h₂ slots₂ ≡ true → Alike (journalOf h slots) (journalOf h₂ slots₂)
     → ((h₂ .count ≡ h .count) × (h₂ .place ≡ h .place) × (h₂ .total ≡ h .total))
     × ((n : ℕ) → entryOf (journalOf h₂ slots₂) n ≡ entryOf (journalOf h slots) n)
@@ -166,6 +177,13 @@ pub same-add : (h : History) (slots : List ℕ) (h₂ : History) (slots₂ : Lis
 same-add h slots h₂ slots₂ g g₂ a text r r₂ x x₂ left left₂ p q =
     let s = add-alike-by-value h slots h₂ slots₂ g g₂ a text r r₂ x x₂ left left₂ p q in
     (s .0, s .1, added-good h slots text r x left g p, added-good h₂ slots₂ text r₂ x₂ left₂ g₂ q)
+
+pub same-forget : (h : History) (slots : List ℕ) (h₂ : History) (slots₂ : List ℕ) → good h slots ≡ true → good h₂ slots₂ ≡ true → Alike (journalOf h slots) (journalOf h₂ slots₂)
+    → (k : ℕ) (r r₂ : History) (x x₂ : Forgot) (left left₂ : List ℕ) → Forgets h slots k r x left → Forgets h₂ slots₂ k r₂ x₂ left₂
+    → (x₂ ≡ x) × Alike (journalOf r left) (journalOf r₂ left₂) × (good r left ≡ true) × (good r₂ left₂ ≡ true)
+same-forget h slots h₂ slots₂ g g₂ a k r r₂ x x₂ left left₂ p q =
+    let s = forget-alike-by-value h slots h₂ slots₂ g g₂ a k r r₂ x x₂ left left₂ p q in
+    (s .0, s .1, forgets-good h slots k r x left g p, forgets-good h₂ slots₂ k r₂ x₂ left₂ g₂ q)
 
 -- Two good states with the same editor, entries and place, wherever these lie (`SameBut`). A key answers, submits and shows the same, and leaves two such
 -- states, which are good again: so it goes on after every key.
@@ -188,7 +206,7 @@ same-key e h slots e₂ h₂ slots₂ g g₂ a prompt byte line screen k k₂ sl
 pub same-keys : (prompt : List ℕ) (s t : State) (keys : List ℕ) → SameBut s t → (shownBy prompt t keys ≡ shownBy prompt s keys) × SameBut (afterKeys prompt s keys) (afterKeys prompt t keys)
 same-keys = keys-alike
 
--- of saved states: a key, and a text that is added
+-- of saved states: a key, a text that is added, and an entry that is forgotten
 module _ (state slots state₂ slots₂ : List ℕ) (g : goodSaved state slots ≡ true) (g₂ : goodSaved state₂ slots₂ ≡ true) (a : SameBut (heldIn state slots) (heldIn state₂ slots₂)) where
   pub same-saved-key : (prompt : List ℕ) (byte : ℕ) (line screen : List ℕ) (r r₂ : Pressed) (state′ slots′ line′ screen′ state₂′ slots₂′ line₂′ screen₂′ : List ℕ)
       → SavedKey state slots prompt byte line screen r state′ slots′ line′ screen′ → SavedKey state₂ slots₂ prompt byte line screen r₂ state₂′ slots₂′ line₂′ screen₂′
@@ -209,3 +227,9 @@ module _ (state slots state₂ slots₂ : List ℕ) (g : goodSaved state slots �
   same-saved-add text r r₂ state′ slots′ state₂′ slots₂′ p q =
       let s = add-alike state slots state₂ slots₂ g g₂ a text r r₂ state′ slots′ state₂′ slots₂′ p q in
       (s .0, s .1, add-stays state slots text r state′ slots′ g p, add-stays state₂ slots₂ text r₂ state₂′ slots₂′ g₂ q)
+
+  pub same-saved-forget : (k : ℕ) (r r₂ : Forgot) (state′ slots′ state₂′ slots₂′ : List ℕ) → SavedForget state slots k r state′ slots′ → SavedForget state₂ slots₂ k r₂ state₂′ slots₂′
+      → (r₂ ≡ r) × SameBut (heldIn state′ slots′) (heldIn state₂′ slots₂′) × (goodSaved state′ slots′ ≡ true) × (goodSaved state₂′ slots₂′ ≡ true)
+  same-saved-forget k r r₂ state′ slots′ state₂′ slots₂′ p q =
+      let s = forget-alike state slots state₂ slots₂ g g₂ a k r r₂ state′ slots′ state₂′ slots₂′ p q in
+      (s .0, s .1, forget-stays state slots k r state′ slots′ g p, forget-stays state₂ slots₂ k r₂ state₂′ slots₂′ g₂ q)

@@ -10,9 +10,12 @@ use Rattle.text.specs.Decoding.{wellFormedLength}
 use Rattle.text.specs.Decoding.{wellFormed}
 use Rattle.history.specs.Journal.{Journal, noEntries, offered, recordOf, journalOf, good, slotsOf as journalSlots}
 use Rattle.history.specs.Answer.{addAnswer, recordBy, slotsBy, Addition, number as addedNumber, value as addedValue}
+use Rattle.history.specs.Forgotten.{gone, forgotten, forgetAnswer, isGone, Forgets, number as forgotNumber, value as forgotValue}
 use Rattle.history.specs.declared.stepping.History.{History}
 use Rattle.history.specs.declared.adding.Added.{Added}
 use Rattle.history.specs.declared.adding.Added.the-variants.{Done, BadState as BadHistory, TooLong, IllFormed}
+use Rattle.history.specs.declared.forgetting.Forgot.{Forgot}
+use Rattle.history.specs.declared.forgetting.Forgot.the-variants.{Gone, BadState as NoHistory, NoEntry}
 use Rattle.screen.specs.Redraw.{redraw, greatestNumber, roomAnswer, Redraw, number as drawnNumber, value as drawnValue}
 use Rattle.screen.specs.declared.line.Redrawn.{Redrawn}
 use Rattle.history.specs.Saved.{savedSize as historySize}
@@ -28,9 +31,9 @@ use Rattle.editor.specs.Turns.{Kind, shows, enters, drops, Turn, turnOf}
 use Rattle.editor.specs.Answer.{stateOf, editorOf, historyOf, slotsOf, goodState, goodPrompt, taken, turnAnswer, keyAnswer, refused, Pressing, number as pressedNumber, value as pressedValue, kindNumber, kind as pressedKind, beside as pressedBeside}
 use Rattle.editor.proofs.Called.{counted}
 use Rattle.state.specs.State.{stateSize, savedOf, editorIn, historyIn, goodSaved}
-use Rattle.state.specs.Calls.{beginAnswer, isReady, freshSaved, Beginning, turnIn, pressAnswer, savedAfter, SavedKey, savedAnswer, stateBy, SavedAdd, number as begunNumber, value as begunValue}
+use Rattle.state.specs.Calls.{beginAnswer, isReady, freshSaved, Beginning, turnIn, pressAnswer, savedAfter, SavedKey, savedAnswer, stateBy, SavedAdd, forgetIn, SavedForget, number as begunNumber, value as begunValue}
 use Rattle.state.specs.declared.calls.Begun.{Begun}
-use Rattle.promises.proofs.Tables.{Answered, told, Row, row, first, lacks, either, split, telling, pair}
+use Rattle.promises.proofs.Tables.{Answered, told, Row, row, first, lacks, either, split, telling, pair, chosen-pair}
 
 -- ADD_COMMAND: 12, 13, 3. A refusal keeps the record and the slots.
 unfoldable pub addTable : History → List ℕ → List ℕ → Answered (History × List ℕ)
@@ -226,7 +229,49 @@ saved-add-tells state slots text r state′ slots′ p =
     by true false false = refl
     by false l w = refl
 
--- A BAD SAVED STATE, whatever it is that is bad, is refused with 12 by both, and every byte stays
+-- FORGET: 12, 18. The value is how many entries went; a refusal keeps the record and the slots.
+unfoldable pub forgetRows : {L : Type 0} → Bool → ℕ → List (List ℕ) → L → L → Answered L
+forgetRows good k es kept left = first (row 12 (not good) 0 kept ∷ row 18 (not (ltb k (length es))) k kept ∷ []) (told 0 (gone k es) left)
+
+forget-rows : {L M : Type 0} (is : Bool) (k : ℕ) (es : List (List ℕ)) (kept left : L × M) (x : Forgot) {l : L} {m : M} → x ≡ forgetAnswer is k es
+    → l ≡ cond (isGone x) (left .0) (kept .0) → m ≡ cond (isGone x) (left .1) (kept .1) → told (forgotNumber x) (forgotValue x) (l, m) ≡ forgetRows is k es kept left
+unfolding forgetRows first forgetAnswer
+forget-rows is k es kept left x e p q =
+    ap (told (forgotNumber x) (forgotValue x)) (chosen-pair (isGone x) left kept p q)
+    ∙ ap (λ (y : Forgot). told (forgotNumber y) (forgotValue y) (cond (isGone y) left kept)) e
+    ∙ by is (ltb k (length es))
+  where
+    by : (g l : Bool) → let x : Forgot = cond g (cond l (Gone (gone k es)) (NoEntry k)) NoHistory in
+        told (forgotNumber x) (forgotValue x) (cond (isGone x) left kept) ≡ cond (not g) (told 12 0 kept) (cond (not l) (told 18 k kept) (told 0 (gone k es) left))
+    by true true = refl
+    by true false = refl
+    by false l = refl
+
+unfoldable pub forgetTable : History → List ℕ → ℕ → Answered (History × List ℕ)
+forgetTable h slots k =
+    let j : Journal = journalOf h slots in forgetRows (good h slots) k (j .entries) (h, slots) (recordOf (forgotten k j), journalSlots (forgotten k j))
+
+pub forget-tells : (h : History) (slots : List ℕ) (k : ℕ) (r : History) (a : Forgot) (left : List ℕ) → Forgets h slots k r a left
+    → told (forgotNumber a) (forgotValue a) (r, left) ≡ forgetTable h slots k
+unfolding forgetTable
+forget-tells h slots k r a left t =
+    let j : Journal = journalOf h slots in
+    forget-rows (good h slots) k (j .entries) (h, slots) (recordOf (forgotten k j), journalSlots (forgotten k j)) a (t .answer) (t .state) (t .bytes)
+
+-- on a saved state: 12 also for a bad line
+unfoldable pub savedForgetTable : List ℕ → List ℕ → ℕ → Answered (List ℕ × List ℕ)
+savedForgetTable state slots k =
+    let j : Journal = journalOf (historyIn state) slots in
+    forgetRows (goodSaved state slots) k (j .entries) (state, slots) (savedOf (editorIn state) (recordOf (forgotten k j)), journalSlots (forgotten k j))
+
+pub saved-forget-tells : (state slots : List ℕ) (k : ℕ) (r : Forgot) (state′ slots′ : List ℕ) → SavedForget state slots k r state′ slots′
+    → told (forgotNumber r) (forgotValue r) (state′, slots′) ≡ savedForgetTable state slots k
+unfolding savedForgetTable forgetIn
+saved-forget-tells state slots k r state′ slots′ p =
+    let j : Journal = journalOf (historyIn state) slots in
+    forget-rows (goodSaved state slots) k (j .entries) (state, slots) (savedOf (editorIn state) (recordOf (forgotten k j)), journalSlots (forgotten k j)) r (p .answer) (p .kept) (p .held)
+
+-- A BAD SAVED STATE, whatever it is that is bad, is refused with 12 by all three, and every byte stays
 pub press-bad : (state slots prompt : List ℕ) (byte : ℕ) (line screen : List ℕ) (r : Pressed) (state′ slots′ line′ screen′ : List ℕ)
     → SavedKey state slots prompt byte line screen r state′ slots′ line′ screen′ → goodSaved state slots ≡ false
     → told (pressedNumber r) (pressedValue r) (keyed {L = Lent} (pressedKind r) (pressedBeside r) (state′, slots′, line′, screen′)) ≡ told 12 0 (keyed {L = Lent} 0 0 (state, slots, line, screen))
@@ -237,6 +282,11 @@ pub saved-add-bad : (state slots text : List ℕ) (r : Added) (state′ slots′
     → told {L = List ℕ × List ℕ} (addedNumber r) (addedValue r) (state′, slots′) ≡ told 12 0 (state, slots)
 unfolding savedAddTable first
 saved-add-bad state slots text r state′ slots′ p n = saved-add-tells state slots text r state′ slots′ p ∙ rw n
+
+pub saved-forget-bad : (state slots : List ℕ) (k : ℕ) (r : Forgot) (state′ slots′ : List ℕ) → SavedForget state slots k r state′ slots′ → goodSaved state slots ≡ false
+    → told {L = List ℕ × List ℕ} (forgotNumber r) (forgotValue r) (state′, slots′) ≡ told 12 0 (state, slots)
+unfolding savedForgetTable forgetRows first
+saved-forget-bad state slots k r state′ slots′ p n = saved-forget-tells state slots k r state′ slots′ p ∙ rw n
 
 -- BEGIN: 12 for a number that is no profile's; then buffer by buffer, the state's first, 9 for one that is too short and 12 for one that is too long, since another length is no state's
 unfoldable pub beginTable : ℕ → List ℕ → List ℕ → Answered (List ℕ × List ℕ)

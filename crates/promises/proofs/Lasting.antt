@@ -40,12 +40,12 @@ use Rattle.session.specs.declared.taking.Took.{Took}
 use Rattle.session.specs.declared.taking.Taken.the-variants.{Over, NoRoom as NoBuffer}
 use Rattle.session.specs.declared.pressing.Pressing.{Pressing as SessionKey}
 
--- NO BAD STATE: what the public calls reach (`Reached`: in any order, each with its own buffers, refused or not) is good. As saved states: `begin`, `press`, `add`.
+-- NO BAD STATE: what the public calls reach (`Reached`: in any order, each with its own buffers, refused or not) is good. As saved states: `begin`, `press`, `add`, `forget`.
 pub never-bad : (state slots : List ℕ) → Reached state slots → goodSaved state slots ≡ true
 never-bad = never-reached-bad
 
 -- By value: `Editor::fresh`, `recalled`, `restored`, `key` and `key_tested`, `History::fresh`, `fresh_in`, `restored`, `previous` and `next`, `offer`, `add_command` and
--- `add_tested`.
+-- `add_tested`, `forget` and `forget_tested`.
 pub never-bad-by-value : (e : Editor) (h : History) (slots : List ℕ) → ReachedByValue e h slots → goodState e h slots ≡ true
 never-bad-by-value = never-reached-bad-by-value
 

@@ -1,5 +1,5 @@
 -- The promises, each in a file to be read from top to bottom: demand 1 (Answers, Reports, KeyAnswers, HouseAnswers, SessionAnswers, OneAnswer, Lasting), 2 (SameAsRust, with Std),
--- 3 (Subtrees, OtherCommands), the key profiles (KeyProfiles), the bytes in use (BytesInUse), where a history begins (FirstSlot), the same of the calls for Rust and C (Exported), and the marked examples.
+-- 3 (Subtrees, OtherCommands), the key profiles (KeyProfiles), the bytes in use (BytesInUse), where a history begins (FirstSlot), forgetting an entry (Forgetting), the same of the calls for Rust and C (Exported), and the marked examples.
 pub mod Tables
 pub mod Answers
 pub mod Reports
@@ -11,6 +11,7 @@ pub mod Lasting
 pub mod KeyProfiles
 pub mod BytesInUse
 pub mod FirstSlot
+pub mod Forgetting
 pub mod Std
 pub mod SameAsRust
 pub mod Subtrees

@@ -14,11 +14,14 @@ use Rattle.words.proofs.Answers.{one-answer as one-tokenize}
 use Rattle.quote.specs.Answer.{Quotation}
 use Rattle.quote.specs.declared.quoter.Quoted.{Quoted}
 use Rattle.quote.proofs.Answers.{one-answer as one-quote}
-use Rattle.history.specs.Journal.{noEntries, offered, journalOf, slotsOf as journalSlots}
+use Rattle.history.specs.Journal.{Journal, noEntries, offered, recordOf, journalOf, slotsOf as journalSlots}
 use Rattle.history.specs.Answer.{slotsBy, Addition}
+use Rattle.history.specs.Forgotten.{forgotten, isGone, Forgets}
 use Rattle.history.specs.declared.stepping.History.{History}
 use Rattle.history.specs.declared.adding.Added.{Added}
+use Rattle.history.specs.declared.forgetting.Forgot.{Forgot}
 use Rattle.history.proofs.Answers.{one-answer as one-add}
+use Rattle.history.proofs.Shortened.{one-forget}
 use Rattle.screen.specs.Redraw.{Redraw}
 use Rattle.screen.specs.declared.line.Redrawn.{Redrawn}
 use Rattle.screen.proofs.Drawing.{one-answer as one-redraw}
@@ -29,8 +32,8 @@ use Rattle.editor.specs.Answer.{refused, Pressing}
 use Rattle.editor.proofs.Always.{one-answer as one-key}
 use Rattle.keys.specs.declared.standing.Profile.the-variants.{Rust}
 use Rattle.keys.specs.Modes.{profileNumber}
-use Rattle.state.specs.State.{historyIn}
-use Rattle.state.specs.Calls.{isReady, freshSaved, Beginning, SavedKey, stateBy, SavedAdd}
+use Rattle.state.specs.State.{savedOf, editorIn, historyIn}
+use Rattle.state.specs.Calls.{isReady, freshSaved, Beginning, SavedKey, stateBy, SavedAdd, SavedForget}
 use Rattle.state.specs.declared.calls.Begun.{Begun}
 use Rattle.parse.specs.Answer.{Parsing}
 use Rattle.parse.specs.declared.answer.Parsed.{Parsed}
@@ -44,7 +47,7 @@ use Rattle.shell.proofs.Answers.{one-answer as one-run}
 use Rattle.buffer.specs.Showing.{Showing}
 use Rattle.buffer.specs.declared.show.Shown.{Shown}
 use Rattle.buffer.proofs.Inking.{one-answer as one-show}
-use Rattle.rissemat.specs.Calls.{WordsCall, QuoteCall, FreshWithCall, FreshCall, KeyCall, AddCall, TreeCall, ParseCall, HelpCall, RunCall}
+use Rattle.rissemat.specs.Calls.{WordsCall, QuoteCall, FreshWithCall, FreshCall, KeyCall, AddCall, ForgetCall, TreeCall, ParseCall, HelpCall, RunCall}
 use Rattle.tree.specs.declared.walk.Walk.{Walk}
 use Rattle.tree.specs.declared.walk.Step.{Step}
 use Rattle.tree.specs.Growth.{Grows}
@@ -112,6 +115,10 @@ pub add-command : (h : History) (slots text : List ℕ) (r r′ : History) (told
     → (told ≡ told′) × (r ≡ r′) × (left ≡ left′)
 add-command = one-add
 
+pub forget : (h : History) (slots : List ℕ) (k : ℕ) (r r′ : History) (told told′ : Forgot) (left left′ : List ℕ) → Forgets h slots k r told left → Forgets h slots k r′ told′ left′
+    → (told ≡ told′) × (r ≡ r′) × (left ≡ left′)
+forget = one-forget
+
 pub key : (e : Editor) (h : History) (slots prompt : List ℕ) (byte : ℕ) (line screen : List ℕ) (k k′ : KeyAnswer) (a b c a′ b′ c′ : List ℕ)
     → Pressing e h slots prompt byte line screen k a b c → Pressing e h slots prompt byte line screen k′ a′ b′ c′
     → (k .answer ≡ k′ .answer) × (k .editor ≡ k′ .editor) × (k .history ≡ k′ .history) × (a ≡ a′) × (b ≡ b′) × (c ≡ c′)
@@ -135,6 +142,15 @@ module _ (state slots : List ℕ) (state₁ slots₁ state₂ slots₂ : List �
         a .held ∙ ap (λ (x : Added). slotsBy x slots (offered text (journalOf (historyIn state) slots))) e ∙ sym (b .held),
       )
 
+  pub forget-saved : (k : ℕ) (r q : Forgot) → SavedForget state slots k r state₁ slots₁ → SavedForget state slots k q state₂ slots₂ → (r ≡ q) × (state₁ ≡ state₂) × (slots₁ ≡ slots₂)
+  forget-saved k r q a b =
+      let j : Journal = forgotten k (journalOf (historyIn state) slots) in
+      let e = one r q _ (a .answer) (b .answer) in (
+        e,
+        a .kept ∙ ap (λ (x : Forgot). cond (isGone x) (savedOf (editorIn state) (recordOf j)) state) e ∙ sym (b .kept),
+        a .held ∙ ap (λ (x : Forgot). cond (isGone x) (journalSlots j) slots) e ∙ sym (b .held),
+      )
+
   -- (`rissemat_fresh` is this with the number of the original's profile)
   pub rissemat-fresh-with : (profile : ℕ) (r q : ℕ) → FreshWithCall profile state slots r state₁ slots₁ → FreshWithCall profile state slots q state₂ slots₂
       → (r ≡ q) × (state₁ ≡ state₂) × (slots₁ ≡ slots₂)
@@ -145,6 +161,9 @@ module _ (state slots : List ℕ) (state₁ slots₁ state₂ slots₂ : List �
 
   pub rissemat-history-add : (text : List ℕ) (r q : ℕ) → AddCall state slots text r state₁ slots₁ → AddCall state slots text q state₂ slots₂ → (r ≡ q) × (state₁ ≡ state₂) × (slots₁ ≡ slots₂)
   rissemat-history-add text r q a b = (one _ _ _ (a .answer) (b .answer), one _ _ _ (a .kept) (b .kept), one _ _ _ (a .held) (b .held))
+
+  pub rissemat-history-forget : (k r q : ℕ) → ForgetCall state slots k r state₁ slots₁ → ForgetCall state slots k q state₂ slots₂ → (r ≡ q) × (state₁ ≡ state₂) × (slots₁ ≡ slots₂)
+  rissemat-history-forget k r q a b = (one _ _ _ (a .answer) (b .answer), one _ _ _ (a .kept) (b .kept), one _ _ _ (a .held) (b .held))
 
   module _ (prompt : List ℕ) (byte : ℕ) (line screen line₁ screen₁ line₂ screen₂ : List ℕ) where
     pub press : (r q : Pressed) → SavedKey state slots prompt byte line screen r state₁ slots₁ line₁ screen₁ → SavedKey state slots prompt byte line screen q state₂ slots₂ line₂ screen₂

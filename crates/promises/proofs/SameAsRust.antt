@@ -38,13 +38,13 @@ use Rattle.rust.specs.Std.{isEmpty, isUtf8}
 use Rattle.rust.specs.Tree.{commandsOf}
 use Rattle.rust.specs.Base.{buildCommandTree}
 use Rattle.rust.specs.Parser.{tokenize}
-use Rattle.rust.specs.History.{new, addCommand, previous, next, clearLineAndRedraw}
+use Rattle.rust.specs.History.{new, addCommand, shortened, previous, next, clearLineAndRedraw}
 use Rattle.rust.specs.Loop.{rustKey}
 use Rattle.rust.specs.Same.{original, stepIn, shellOf}
 use Rattle.rust.specs.Calls.{PressesAs, SplitsAs, Fair, SameAsRust}
 use Rattle.rust.specs.Session.{turnFrom, turnsFrom, printedBy, endedBy, EachQuoted, CourseAs, KeyLines, PrintsAs}
 use Rattle.rust.proofs.Running.{utf-formed}
-use Rattle.rust.proofs.Histories.{blank-is-empty, fresh-is, add-as-rust, previous-as-rust, next-as-rust}
+use Rattle.rust.proofs.Histories.{blank-is-empty, fresh-is, add-as-rust, forget-as-rust, previous-as-rust, next-as-rust}
 use Rattle.rust.proofs.Keys.{same-redraw, presses-as}
 use Rattle.rust.proofs.Sessions.{key-printed, keys-printed, press-printed}
 use Rattle.rust.proofs.Whole.{session-printed}
@@ -57,9 +57,11 @@ use Rattle.session.specs.declared.standing.Session.{Session}
 use Rattle.session.specs.declared.pressing.Pressing.{Pressing as Press}
 use Rattle.history.specs.Journal.{noEntries, journalOf, good}
 use Rattle.history.specs.Answer.{Addition}
+use Rattle.history.specs.Forgotten.{Forgets}
 use Rattle.history.specs.Steps.{back, onward}
 use Rattle.history.specs.declared.stepping.History.{History}
 use Rattle.history.specs.declared.adding.Added.the-variants.{Done}
+use Rattle.history.specs.declared.forgetting.Forgot.the-variants.{Gone}
 use Rattle.screen.specs.Decimal.{decimal, digitsValue}
 use Rattle.screen.specs.Redraw.{redraw}
 use Rattle.screen.proofs.Numerals.{Digits, decimal-one, decimal-value, decimal-digits, decimal-lead}
@@ -78,6 +80,11 @@ history-new = fresh-is
 pub add-command : (h : History) (slots text : List ℕ) (r : History) (left : List ℕ) → Addition h slots text r Done left
     → addCommand (original (journalOf h slots)) text ≡ original (journalOf r left)
 add-command = add-as-rust
+
+-- an entry that is forgotten leaves the Rust's history with the shortened list, at the place after its newest, from which add_command and the steps go on
+pub forget : (h : History) (slots : List ℕ) (k : ℕ) (r : History) (n : ℕ) (left : List ℕ) → Forgets h slots k r (Gone n) left
+    → shortened k (original (journalOf h slots)) ≡ original (journalOf r left)
+forget = forget-as-rust
 
 -- its previous and next: the place that a step leads to, and the entry of the number that it recalls, in a good state
 pub step-back : (h : History) (slots : List ℕ) → good h slots ≡ true → previous (original (journalOf h slots)) ≡ stepIn (journalOf h slots) (back h)

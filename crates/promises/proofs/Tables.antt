@@ -49,3 +49,8 @@ telling number value r q l m e f = ap (λ (x : _). told (number x) (value x) l) 
 -- two or more parts that are left, each known
 pub pair : {A B : Type 0} {x y : A} {l m : B} → x ≡ y → l ≡ m → _≡_ {A = A × B} (x, l) (y, m)
 pair p q = cc
+
+-- two parts that are chosen alike
+pub chosen-pair : {A B : Type 0} (t : Bool) (x y : A × B) {l : A} {m : B} → l ≡ cond t (x .0) (y .0) → m ≡ cond t (x .1) (y .1) → _≡_ {A = A × B} (l, m) (cond t x y)
+chosen-pair true x y p q = pair p q
+chosen-pair false x y p q = pair p q

@@ -1,6 +1,6 @@
 -- A call's answer as 64 bits says what the call that it wraps answered.
 use Prim.Native.Nat.{ℕ}
-use mathlib.Core.Path.{_≡_, refl, sym, ap, _∙_}
+use mathlib.Core.Path.{_≡_, refl, ap, _∙_}
 use mathlib.Core.Bool.{cond}
 use mathlib.Core.List.{List}
 use Rattle.words.specs.declared.tokenizer.Tokens.{Tokens}
@@ -8,13 +8,15 @@ use Rattle.words.specs.Answer.{Tokenized, number, value}
 use Rattle.quote.specs.declared.quoter.Quoted.{Quoted}
 use Rattle.quote.specs.Answer.{Quotation, number as quoteNumber, value as quoteValue}
 use Rattle.buffer.specs.Write.{over}
-use Rattle.history.specs.Journal.{noEntries, offered, slotsOf as journalSlots, journalOf}
+use Rattle.history.specs.Journal.{noEntries, offered, recordOf, slotsOf as journalSlots, journalOf}
 use Rattle.history.specs.Answer.{slotsBy, number as addNumber, value as addValue}
+use Rattle.history.specs.Forgotten.{forgotten, isGone, number as forgetNumber, value as forgetValue}
 use Rattle.history.specs.declared.adding.Added.{Added}
+use Rattle.history.specs.declared.forgetting.Forgot.{Forgot}
 use Rattle.editor.specs.declared.drawing.Pressed.{Pressed}
 use Rattle.editor.specs.Answer.{slotsOf, refused, number as keyNumber, value as keyValue, kind as keyKind, beside as keyBeside}
-use Rattle.state.specs.State.{historyIn}
-use Rattle.state.specs.Calls.{freshSaved, Beginning, isReady, turnIn, savedAfter, SavedKey, stateBy, SavedAdd, number as beginNumber, value as beginValue}
+use Rattle.state.specs.State.{savedOf, editorIn, historyIn}
+use Rattle.state.specs.Calls.{freshSaved, Beginning, isReady, turnIn, savedAfter, SavedKey, stateBy, SavedAdd, SavedForget, number as beginNumber, value as beginValue}
 use Rattle.state.specs.declared.calls.Begun.{Begun}
 use Rattle.tree.specs.declared.check.Checked.{Checked}
 use Rattle.tree.specs.Rules.{checkTree}
@@ -29,7 +31,7 @@ use Rattle.shell.specs.declared.answer.Ran.the-variants.{Nothing, Text, Exit, H
 use Rattle.rissemat.specs.declared.pack.Parts.{Parts}
 use Rattle.rissemat.specs.Packed.{answered, plain}
 use Rattle.rissemat.specs.Inner.{Tells, runNumber, runSecond}
-use Rattle.rissemat.specs.Calls.{WordsCall, QuoteCall, FreshWithCall, KeyCall, keyTold, AddCall, TreeCall, ParseCall, HelpCall, RunCall, runTold}
+use Rattle.rissemat.specs.Calls.{WordsCall, QuoteCall, FreshWithCall, KeyCall, keyTold, AddCall, ForgetCall, TreeCall, ParseCall, HelpCall, RunCall, runTold}
 
 -- the bits of an answer's parts
 sealed : (q : Parts) (p number value kind second : ℕ) → Tells q number value kind second → p ≡ answered (q .0) (q .1) (q .2) (q .3) → p ≡ answered number value kind second
@@ -74,6 +76,15 @@ add-call {state} {slots} {text} q p h t f =
       held = h .held ∙ ap (λ (x : Added). slotsBy x slots (offered text (journalOf (historyIn state) slots))) (h .answer);
     }
 
+pub forget-call : {state slots state′ slots′ : List ℕ} {k : ℕ} {r : Forgot} (q : Parts) (p : ℕ) → SavedForget state slots k r state′ slots′ → Tells q (forgetNumber r) (forgetValue r) 0 0
+    → p ≡ answered (q .0) (q .1) (q .2) (q .3) → ForgetCall state slots k p state′ slots′
+forget-call {state} {slots} {k = k} q p h t f =
+    record {
+      answer = sealed q p _ _ 0 0 t f ∙ ap (λ (x : Forgot). plain (forgetNumber x) (forgetValue x)) (h .answer);
+      kept = h .kept ∙ ap (λ (x : Forgot). cond (isGone x) (savedOf (editorIn state) (recordOf (forgotten k (journalOf (historyIn state) slots)))) state) (h .answer);
+      held = h .held ∙ ap (λ (x : Forgot). cond (isGone x) (journalSlots (forgotten k (journalOf (historyIn state) slots))) slots) (h .answer);
+    }
+
 pub tree-call : {image : List ℕ} {r : Checked} (q : Parts) (p : ℕ) → r ≡ checkTree image → Tells q (treeNumber r) (treeValue r) 0 0 → p ≡ answered (q .0) (q .1) (q .2) (q .3) → TreeCall image p
 tree-call q p h t f = record { answer = sealed q p _ _ 0 0 t f ∙ ap (λ (x : Checked). plain (treeNumber x) (treeValue x)) h }
 
@@ -98,27 +109,3 @@ run-told (NoRoom n) = refl
 pub run-call : {image line out left : List ℕ} {r : Ran} (q : Parts) (p : ℕ) → Running image line out r left → Tells q (runNumber r) (runValue r) (runKind r) (runSecond r)
     → p ≡ answered (q .0) (q .1) (q .2) (q .3) → RunCall image line out p left
 run-call {r = r} q p h t f = record { answer = sealed q p _ _ _ _ t f ∙ run-told r ∙ ap runTold (h .answer); bytes = h .bytes }
-
--- no second answer and no other bytes
-pub one-fresh : (profile : ℕ) (state slots a b a′ b′ : List ℕ) (r r′ : ℕ) → FreshWithCall profile state slots r a b → FreshWithCall profile state slots r′ a′ b′ → (r ≡ r′) × (a ≡ a′) × (b ≡ b′)
-one-fresh profile state slots a b a′ b′ r r′ h k = (h .answer ∙ sym (k .answer), h .kept ∙ sym (k .kept), h .held ∙ sym (k .held))
-
-pub one-key : (state slots prompt : List ℕ) (byte : ℕ) (line screen a b d e a′ b′ d′ e′ : List ℕ) (r r′ : ℕ) → KeyCall state slots prompt byte line screen r a b d e
-    → KeyCall state slots prompt byte line screen r′ a′ b′ d′ e′ → (r ≡ r′) × (a ≡ a′) × (b ≡ b′) × (d ≡ d′) × (e ≡ e′)
-one-key state slots prompt byte line screen a b d e a′ b′ d′ e′ r r′ h k =
-    (h .answer ∙ sym (k .answer), h .kept ∙ sym (k .kept), h .held ∙ sym (k .held), h .given ∙ sym (k .given), h .shown ∙ sym (k .shown))
-
-pub one-add : (state slots text a b a′ b′ : List ℕ) (r r′ : ℕ) → AddCall state slots text r a b → AddCall state slots text r′ a′ b′ → (r ≡ r′) × (a ≡ a′) × (b ≡ b′)
-one-add state slots text a b a′ b′ r r′ h k = (h .answer ∙ sym (k .answer), h .kept ∙ sym (k .kept), h .held ∙ sym (k .held))
-
-pub one-tree : (image : List ℕ) (r r′ : ℕ) → TreeCall image r → TreeCall image r′ → r ≡ r′
-one-tree image r r′ h k = h .answer ∙ sym (k .answer)
-
-pub one-parse : (image line out a a′ : List ℕ) (r r′ : ℕ) → ParseCall image line out r a → ParseCall image line out r′ a′ → (r ≡ r′) × (a ≡ a′)
-one-parse image line out a a′ r r′ h k = (h .answer ∙ sym (k .answer), h .bytes ∙ sym (k .bytes))
-
-pub one-help : (image line out a a′ : List ℕ) (r r′ : ℕ) → HelpCall image line out r a → HelpCall image line out r′ a′ → (r ≡ r′) × (a ≡ a′)
-one-help image line out a a′ r r′ h k = (h .answer ∙ sym (k .answer), h .bytes ∙ sym (k .bytes))
-
-pub one-run : (image line out a a′ : List ℕ) (r r′ : ℕ) → RunCall image line out r a → RunCall image line out r′ a′ → (r ≡ r′) × (a ≡ a′)
-one-run image line out a a′ r r′ h k = (h .answer ∙ sym (k .answer), h .bytes ∙ sym (k .bytes))

@@ -8,9 +8,11 @@ use Rattle.words.specs.Answer.{answerFor, Tokenized, number, value}
 use Rattle.quote.specs.declared.quoter.Quoted.{Quoted}
 use Rattle.quote.specs.Answer.{quoteAnswer, Quotation, number as quoteNumber, value as quoteValue}
 use Rattle.history.specs.declared.adding.Added.{Added}
+use Rattle.history.specs.declared.forgetting.Forgot.{Forgot}
 use Rattle.history.specs.Answer.{number as addNumber, value as addValue}
+use Rattle.history.specs.Forgotten.{number as forgetNumber, value as forgetValue}
 use Rattle.editor.specs.declared.drawing.Pressed.{Pressed}
-use Rattle.state.specs.Calls.{beginAnswer, Beginning, pressAnswer, SavedKey, savedAnswer, SavedAdd, number as beginNumber, value as beginValue}
+use Rattle.state.specs.Calls.{beginAnswer, Beginning, pressAnswer, SavedKey, savedAnswer, SavedAdd, forgetIn, SavedForget, number as beginNumber, value as beginValue}
 use Rattle.state.specs.declared.calls.Begun.{Begun}
 use Rattle.tree.specs.declared.check.Checked.{Checked}
 use Rattle.tree.specs.Rules.{checkTree}
@@ -22,7 +24,7 @@ use Rattle.help.specs.Answer.{answerFor as helpAnswer, Helping, number as helpN
 use Rattle.shell.specs.declared.answer.Ran.{Ran}
 use Rattle.shell.specs.Answer.{runAnswer, Running}
 use Rattle.rissemat.specs.Packed.{plain}
-use Rattle.rissemat.specs.Calls.{WordsCall, QuoteCall, FreshWithCall, KeyCall, keyTold, AddCall, TreeCall, ParseCall, HelpCall, RunCall, runTold}
+use Rattle.rissemat.specs.Calls.{WordsCall, QuoteCall, FreshWithCall, KeyCall, keyTold, AddCall, ForgetCall, TreeCall, ParseCall, HelpCall, RunCall, runTold}
 
 pub words-packs : (line out : List ℕ) (p : ℕ) (left : List ℕ) → WordsCall line out p left → (r : Tokens) × Tokenized line out r left × (p ≡ plain (number r) (value r))
 words-packs line out p left h = (answerFor line (length out), record { answer = refl; bytes = h .bytes }, h .answer)
@@ -46,6 +48,10 @@ key-packs state slots prompt byte line screen p state′ slots′ line′ screen
 pub add-packs : (state slots text : List ℕ) (p : ℕ) (state′ slots′ : List ℕ) → AddCall state slots text p state′ slots′
     → (r : Added) × SavedAdd state slots text r state′ slots′ × (p ≡ plain (addNumber r) (addValue r))
 add-packs state slots text p state′ slots′ h = (savedAnswer state slots text, record { answer = refl; kept = h .kept; held = h .held }, h .answer)
+
+pub forget-packs : (state slots : List ℕ) (k p : ℕ) (state′ slots′ : List ℕ) → ForgetCall state slots k p state′ slots′
+    → (r : Forgot) × SavedForget state slots k r state′ slots′ × (p ≡ plain (forgetNumber r) (forgetValue r))
+forget-packs state slots k p state′ slots′ h = (forgetIn state slots k, record { answer = refl; kept = h .kept; held = h .held }, h .answer)
 
 pub tree-packs : (image : List ℕ) (p : ℕ) → TreeCall image p → (r : Checked) × (r ≡ checkTree image) × (p ≡ plain (treeNumber r) (treeValue r))
 tree-packs image p h = (checkTree image, refl, h .answer)

@@ -3,6 +3,7 @@ ghost use Rattle.words.specs.Answer.{number as wordsNumber, value as wordsValue
 ghost use Rattle.quote.specs.Answer.{number as quoteNumber, value as quoteValue};
 ghost use Rattle.state.specs.Calls.{number as beginNumber, value as beginValue};
 ghost use Rattle.history.specs.Answer.{number as addNumber, value as addValue};
+ghost use Rattle.history.specs.Forgotten.{number as forgetNumber, value as forgetValue};
 ghost use Rattle.tree.specs.Answer.{number as treeNumber, value as treeValue};
 ghost use Rattle.parse.specs.Answer.{number as parseNumber, value as parseValue};
 ghost use Rattle.help.specs.Answer.{number as helpNumber, value as helpValue};
@@ -13,6 +14,7 @@ use crate::pack::Parts;
 use editor::Pressed;
 use help::Helped;
 use history::Added;
+use history::Forgot;
 use parse::Parsed;
 use quote::Quoted;
 use shell::Ran;
@@ -73,6 +75,16 @@ pub fn of_add(answer: Added) -> Parts
         Added::BadState => Parts(12, 0, 0, 0),
         Added::TooLong(n) => Parts(13, n, 0, 0),
         Added::IllFormed(n) => Parts(3, n, 0, 0),
+    }
+}
+
+pub fn of_forget(answer: Forgot) -> Parts
+    ensures { λ r. ⌜ Tells r (forgetNumber answer) (forgetValue answer) 0 0 ⌝ }
+{
+    match answer {
+        Forgot::Gone(n) => Parts(0, n, 0, 0),
+        Forgot::BadState => Parts(12, 0, 0, 0),
+        Forgot::NoEntry(k) => Parts(18, k, 0, 0),
     }
 }
 

@@ -6,8 +6,9 @@
 mod answers;
 mod pack;
 
-ghost use Rattle.rissemat.specs.Calls.{WordsCall, QuoteCall, FreshWithCall, FreshCall, KeyCall, AddCall, TreeCall, ParseCall, HelpCall, RunCall};
+ghost use Rattle.rissemat.specs.Calls.{WordsCall, QuoteCall, FreshWithCall, FreshCall, KeyCall, AddCall, ForgetCall, TreeCall, ParseCall, HelpCall, RunCall};
 use answers::of_add;
+use answers::of_forget;
 use answers::of_fresh;
 use answers::of_help;
 use answers::of_key;
@@ -25,6 +26,7 @@ use quote::quote;
 use shell::run;
 use state::add;
 use state::begin;
+use state::forget;
 use state::press;
 use tree::check_tree;
 use words::tokenize;
@@ -82,6 +84,14 @@ pub extern "C" fn rissemat_history_add(state: &mut [u8], slots: &mut [u8], text:
     ensures { λ r. ⌜ AddCall (now (state .entry)) (now (slots .entry)) (now (text .entry)) r (now (state .exit)) (now (slots .exit)) ⌝ }
 {
     packed(of_add(add(state, slots, text)))
+}
+
+// An entry of a session's history forgotten, the oldest being 0: how many entries went, 1 or 2.
+#[no_mangle]
+pub extern "C" fn rissemat_history_forget(state: &mut [u8], slots: &mut [u8], k: usize) -> u64
+    ensures { λ r. ⌜ ForgetCall (now (state .entry)) (now (slots .entry)) k r (now (state .exit)) (now (slots .exit)) ⌝ }
+{
+    packed(of_forget(forget(state, slots, k)))
 }
 
 // The test of a tree image: refused with the number, from 0, of the first frame that breaks a rule.

@@ -6,7 +6,8 @@ use mathlib.Core.List.{List, [], _∷_, _++_}
 use mathlib.Core.Option.{Option, none, some}
 use native.Mathlib.Omega.{arith}
 use lib.Dec.{ltb, leb, eqb}
-use lib.ListN.{length, drop, getD, getElem?}
+use lib.ListN.{length, take, drop, getD, getElem?}
+use lib.Seq.{drop-nil}
 use borrow.Author.Tests.{lt-ltb, le-ltb, le-leb, lt-leb, ltb-true, ltb-false, eqb-true, eqb-false}
 use Rattle.buffer.proofs.Choices.{then-is, else-is}
 use Rattle.text.specs.Decoding.{Piece, piecesOf, bytesAll}
@@ -15,15 +16,18 @@ use Rattle.text.proofs.WhiteRuns.{some-bytes}
 use Rattle.history.specs.Entries.{mostEntries, newestIs, isNew, withRoom, added}
 use Rattle.history.specs.Journal.{Journal, noEntries, count, entryOf, offered, atPlace, journalOf, good}
 use Rattle.history.specs.Answer.{Addition}
+use Rattle.history.specs.Forgotten.{without, repeats, remaining, forgotten as forgottenIn, Forgets}
 use Rattle.history.specs.Steps.{placedAt, back, recalledAt, onward}
 use Rattle.history.specs.declared.stepping.History.{History}
 use Rattle.history.specs.declared.stepping.Recalled.the-variants.{Entry, Nothing}
 use Rattle.history.specs.declared.stepping.Step.{Step}
 use Rattle.history.specs.declared.adding.Added.the-variants.{Done}
+use Rattle.history.specs.declared.forgetting.Forgot.the-variants.{Gone}
 use Rattle.history.proofs.Journals.{good-fair, count-held, place-held}
 use Rattle.history.proofs.Called.{add-after}
+use Rattle.history.proofs.Shortened.{forget-after}
 use Rattle.rust.specs.Std.{isEmpty}
-use Rattle.rust.specs.History.{new, last, isSome, pushed, kept, addCommand, Stepped, previous, next}
+use Rattle.rust.specs.History.{new, last, isSome, pushed, kept, addCommand, removed, isRepeated, forgotten, shortened, Stepped, previous, next}
 use Rattle.rust.specs.Same.{original, stepIn}
 
 -- `trim().is_empty()` is blank
@@ -85,6 +89,26 @@ pub add-is : (j : Journal) (t : List ℕ) → addCommand (original j) t ≡ orig
 unfolding addCommand
 add-is j t = ap (λ (l : List (List ℕ)). record { history = l; index = length l; size = 100 }) (kept-is (j .entries) t)
 
+-- an entry taken out
+removed-is : (k : ℕ) (es : List (List ℕ)) → removed k es ≡ without k es
+unfolding removed without
+removed-is zero [] = refl
+removed-is (suc k) [] = sym (drop-nil (suc k + 1))
+removed-is zero (e ∷ es) = refl
+removed-is (suc k) (e ∷ es) =
+    let on : suc (k + 1) ≡ suc k + 1 = omega arith in
+    ap (λ (l : List (List ℕ)). e ∷ l) (removed-is k es ∙ ap (λ (n : ℕ). take k es ++ drop n (e ∷ es)) on)
+
+forgotten-is : (k : ℕ) (es : List (List ℕ)) → forgotten k es ≡ remaining k es
+unfolding forgotten remaining isRepeated repeats
+forgotten-is k es =
+    ap (λ (l : List (List ℕ)). cond (isRepeated k l) (removed (k - 1) l) l) (removed-is k es)
+    ∙ ap (λ (l : List (List ℕ)). cond (isRepeated k (without k es)) l (without k es)) (removed-is (k - 1) (without k es))
+
+pub shortened-is : (k : ℕ) (j : Journal) → shortened k (original j) ≡ original (forgottenIn k j)
+unfolding shortened
+shortened-is k j = ap (λ (l : List (List ℕ)). record { history = l; index = length l; size = 100 }) (forgotten-is k (j .entries))
+
 -- an entry that is there
 found : (es : List (List ℕ)) (n : ℕ) → n < length es → getElem? es n ≡ some (getD es n [])
 found [] n h = absurd (omega arith)
@@ -129,6 +153,11 @@ module _ (j : Journal) (h : j .place ≤ count j) where
 pub add-as-rust : (h : History) (slots text : List ℕ) (r : History) (left : List ℕ) → Addition h slots text r Done left
     → addCommand (original (journalOf h slots)) text ≡ original (journalOf r left)
 add-as-rust h slots text r left a = add-is (journalOf h slots) text ∙ ap original (sym (add-after h slots text r left a))
+
+-- and that history with the shortened list
+pub forget-as-rust : (h : History) (slots : List ℕ) (k : ℕ) (r : History) (n : ℕ) (left : List ℕ) → Forgets h slots k r (Gone n) left
+    → shortened k (original (journalOf h slots)) ≡ original (journalOf r left)
+forget-as-rust h slots k r n left a = shortened-is k (journalOf h slots) ∙ ap original (sym (forget-after h slots k r n left a))
 
 -- its previous and next: the place that a step leads to, and the entry of the number that it recalls
 module _ (h : History) (slots : List ℕ) (is : good h slots ≡ true) where

@@ -1,11 +1,11 @@
 -- The Rust's history and its redraw (docs/src/src/shell/command/history.rs) as functions on values: a `Vec<String>` is a list of texts, a `String` its bytes.
--- (STANDARD 2.19, 3.4, 3.8, 3.9, 12.2)
-use Prim.Native.Nat.{ℕ, _+_, _-_}
+-- (STANDARD 2.19, 3.4, 3.8, 3.9, 3.19, 12.2)
+use Prim.Native.Nat.{ℕ, zero, suc, _+_, _-_}
 use mathlib.Core.Bool.{Bool, false, cond, not}
 use mathlib.Core.List.{List, [], _∷_, _++_}
 use mathlib.Core.Option.{Option, none, some}
 use lib.Dec.{ltb, leb}
-use lib.ListN.{length, drop, getElem?}
+use lib.ListN.{length, drop, getD, getElem?}
 use Rattle.buffer.specs.Compare.{sameBytes}
 use Rattle.rust.specs.Std.{display, isEmpty, trim}
 
@@ -42,6 +42,24 @@ kept size es cmd = cond (not (isEmpty (trim cmd))) (cond (not (isSome (last es) 
 unfoldable pub addCommand : CommandHistory → List ℕ → CommandHistory
 addCommand h cmd =
     record { history = kept (h .size) (h .history) cmd; index = length (kept (h .size) (h .history) cmd); size = h .size }
+
+-- Vec::remove
+unfoldable pub removed : ℕ → List (List ℕ) → List (List ℕ)
+removed i [] = []
+removed zero (e ∷ es) = es
+removed (suc i) (e ∷ es) = e ∷ removed i es
+
+-- k > 0 && k < self.history.len() && self.history[k - 1] == self.history[k]
+unfoldable pub isRepeated : ℕ → List (List ℕ) → Bool
+isRepeated k es = cond (ltb 0 k) (cond (ltb k (length es)) (sameBytes (getD es (k - 1) []) (getD es k [])) false) false
+
+-- self.history.remove(k), then self.history.remove(k - 1) where that has brought two equal entries together
+unfoldable pub forgotten : ℕ → List (List ℕ) → List (List ℕ)
+forgotten k es = cond (isRepeated k (removed k es)) (removed (k - 1) (removed k es)) (removed k es)
+
+-- The Rust has no call that takes an entry out: this is its history with the shortened list, at the place after the newest (3.19)
+unfoldable pub shortened : ℕ → CommandHistory → CommandHistory
+shortened k h = record { history = forgotten k (h .history); index = length (forgotten k (h .history)); size = h .size }
 
 -- what a step gives back: the history after it, and the text
 pub record Stepped : Type 0 where

@@ -16,8 +16,13 @@ use Rattle.history.specs.Answer.{Emptied, addAnswer, recordBy, slotsBy, Additio
 use Rattle.history.specs.declared.stepping.History.{History}
 use Rattle.history.specs.declared.adding.Added.{Added}
 use Rattle.history.specs.declared.adding.Added.the-variants.{Done, BadState as BadHistory, TooLong, IllFormed}
+use Rattle.history.specs.Forgotten.{forgotten, forgetAnswer, isGone, Forgets}
+use Rattle.history.specs.declared.forgetting.Forgot.{Forgot}
+use Rattle.history.specs.declared.forgetting.Forgot.the-variants.{Gone, BadState as NoHistory, NoEntry}
 use Rattle.history.proofs.adding.Added.{the-type}
+use Rattle.history.proofs.forgetting.Forgot.{the-type as forgot-type}
 use Rattle.history.proofs.Lasting.{added-good}
+use Rattle.history.proofs.Shortened.{forgets-good}
 use Rattle.editor.proofs.States.{good-parts, state-parts, good-state}
 use Rattle.editor.proofs.Fine.{stays-good}
 use Rattle.keys.specs.declared.standing.Profile.{Profile}
@@ -29,7 +34,7 @@ use Rattle.editor.specs.Line.{freshEditor}
 use Rattle.editor.specs.Turns.{turnOf}
 use Rattle.editor.specs.Answer.{stateOf, editorOf, historyOf, goodState, keyAnswer, refused, Pressing}
 use Rattle.state.specs.State.{stateSize, savedOf, editorIn, historyIn, goodSaved}
-use Rattle.state.specs.Calls.{beginAnswer, freshSaved, Beginning, turnIn, pressAnswer, savedAfter, SavedKey, savedAnswer, stateBy, SavedAdd}
+use Rattle.state.specs.Calls.{beginAnswer, freshSaved, Beginning, turnIn, pressAnswer, savedAfter, SavedKey, savedAnswer, stateBy, SavedAdd, forgetIn, SavedForget}
 use Rattle.state.specs.declared.calls.Begun.the-variants.{Ready, NoRoom, BadState as NoState}
 use Rattle.state.proofs.Savings.{size-is, good-saved-parts, Fits, good-fits, Read, read-good}
 
@@ -91,6 +96,10 @@ fresh-small p = (record { size = omega arith; cursor = omega arith }, record { c
 pub fresh-bytes : (p : Profile) (e : Editor) (h : History) → e ≡ freshEditor p → h ≡ recordOf noEntries → Fits e h
 fresh-bytes p e h a b = rw (a, b) (fresh-small p)
 
+-- the history of a state that was read is good
+pub history-good : (e : Editor) (h : History) (state slots : List ℕ) → Read e h state slots → good h slots ≡ true
+history-good e h state slots read = good-parts e h slots (read-good e h state slots read) .1
+
 -- a text added
 module _ (state slots text : List ℕ) where
   pub add-other : goodSaved state slots ≡ false → SavedAdd state slots text BadHistory state slots
@@ -98,16 +107,13 @@ module _ (state slots text : List ℕ) where
   add-other h = record { answer = sym (else-is _ _ _ h); kept = refl; held = refl }
 
   module _ (e : Editor) (h : History) (read : Read e h state slots) where
-    pub history-good : good h slots ≡ true
-    history-good = good-parts e h slots (read-good e h state slots read) .1
-
     module _ (r : History) (told : Added) (left : List ℕ) (b : Addition h slots text r told left) where
       a : Addition (historyIn state) slots text r told left
       a = rw (read .history) at b
 
       answered-so : told ≡ savedAnswer state slots text
       unfolding savedAnswer
-      answered-so = b .answer ∙ ap (λ (t : Bool). addAnswer t text) (history-good ∙ sym (read .is))
+      answered-so = b .answer ∙ ap (λ (t : Bool). addAnswer t text) (history-good e h state slots read ∙ sym (read .is))
 
       left-so : left ≡ slotsBy told slots (offered text (journalOf (historyIn state) slots))
       left-so = a .bytes ∙ ap (λ (x : Added). slotsBy x slots (offered text (journalOf (historyIn state) slots))) (sym (a .answer))
@@ -127,7 +133,7 @@ module _ (state slots text : List ℕ) where
           }
 
       pub add-good : goodState e r left ≡ true
-      add-good = good-state e r left (state-parts e h slots (read-good e h state slots read) .0) (added-good h slots text r told left history-good b)
+      add-good = good-state e r left (state-parts e h slots (read-good e h state slots read) .0) (added-good h slots text r told left (history-good e h state slots read) b)
 
       pub add-fits : Fits e r
       add-fits = good-fits e r left add-good
@@ -140,6 +146,49 @@ module _ (state slots text : List ℕ) where
           stays BadHistory m = refl
           stays (TooLong n) m = refl
           stays (IllFormed n) m = refl
+
+-- an entry forgotten
+module _ (state slots : List ℕ) (k : ℕ) where
+  pub forget-other : goodSaved state slots ≡ false → SavedForget state slots k NoHistory state slots
+  unfolding forgetIn forgetAnswer
+  forget-other h = record { answer = sym (else-is _ _ _ h); kept = refl; held = refl }
+
+  module _ (e : Editor) (h : History) (read : Read e h state slots) (r : History) (told : Forgot) (left : List ℕ) (b : Forgets h slots k r told left) where
+    f : Forgets (historyIn state) slots k r told left
+    f = rw (read .history) at b
+
+    forgot-so : told ≡ forgetIn state slots k
+    unfolding forgetIn
+    forgot-so =
+        f .answer
+        ∙ ap (λ (t : Bool). forgetAnswer t k (journalOf (historyIn state) slots .entries))
+        (ap (λ (x : History). good x slots) (sym (read .history)) ∙ history-good e h state slots read ∙ sym (read .is))
+
+    pub forget-done : (state′ : List ℕ) (n : ℕ) → told ≡ Gone n → state′ ≡ savedOf e r → SavedForget state slots k told state′ left
+    forget-done state′ n d w =
+        let j : Journal = forgotten k (journalOf (historyIn state) slots) in
+        record {
+          answer = forgot-so;
+          kept =
+              w
+              ∙ ap (λ (x : Editor). savedOf x r) (read .editor)
+              ∙ ap (savedOf (editorIn state)) (f .state ∙ ap (λ (x : Forgot). cond (isGone x) (recordOf j) (historyIn state)) d)
+              ∙ ap (λ (x : Forgot). cond (isGone x) (savedOf (editorIn state) (recordOf j)) state) (sym d);
+          held = f .bytes;
+        }
+
+    pub forget-fits : Fits e r
+    forget-fits =
+        good-fits e r left
+        (good-state e r left (state-parts e h slots (read-good e h state slots read) .0) (forgets-good h slots k r told left (history-good e h state slots read) b))
+
+    pub forget-refused : OneOf (1 ∷ 2 ∷ []) (tagOf forgot-type told) → SavedForget state slots k told state left
+    forget-refused m = record { answer = forgot-so; kept = sym (stays told m); held = f .bytes }
+      where
+        stays : (x : Forgot) → OneOf (1 ∷ 2 ∷ []) (tagOf forgot-type x) → cond (isGone x) (savedOf (editorIn state) (recordOf (forgotten k (journalOf (historyIn state) slots)))) state ≡ state
+        stays (Gone n) m = absurd (miss (1 ∷ 2 ∷ []) 0 tt m)
+        stays NoHistory m = refl
+        stays (NoEntry n) m = refl
 
 -- one key
 module _ (state slots prompt : List ℕ) (byte : ℕ) (line screen : List ℕ) where

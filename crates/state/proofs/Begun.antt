@@ -1,6 +1,6 @@
 -- Where a history begins, of saved states: a call changes the bytes of one slot at most, and in two good states that differ in nothing else it answers the same and leaves two such states.
 use Prim.Native.Nat.{ℕ}
-use mathlib.Core.Path.{_≡_, refl, ap, _∙_}
+use mathlib.Core.Path.{_≡_, refl, sym, ap, _∙_}
 use mathlib.Core.Bool.{Bool, true, false}
 use mathlib.Core.List.{List}
 use Rattle.buffer.proofs.Choices.{else-is, then-is}
@@ -9,24 +9,25 @@ use Rattle.history.specs.Journal.{Journal, offered, Alike, journalOf}
 use Rattle.history.specs.Answer.{addAnswer, slotsBy, recordBy, Addition}
 use Rattle.history.specs.declared.stepping.History.{History}
 use Rattle.history.specs.declared.adding.Added.{Added}
+use Rattle.history.specs.Forgotten.{forgotten, isGone}
+use Rattle.history.specs.declared.forgetting.Forgot.{Forgot}
+use Rattle.history.proofs.Called.{isDone}
 use Rattle.history.proofs.Begun.{changes-none, add-changes, add-alike as add-alike-by-value}
+use Rattle.history.proofs.Shortened.{forget-alike as forget-alike-by-value}
 use Rattle.editor.specs.declared.line.Editor.{Editor}
 use Rattle.editor.specs.declared.drawing.KeyAnswer.{KeyAnswer}
 use Rattle.editor.specs.declared.drawing.Pressed.{Pressed}
-use Rattle.editor.specs.Turns.{State, SameBut}
+use Rattle.editor.specs.Turns.{SameBut}
 use Rattle.editor.specs.Answer.{stateOf, keyAnswer, refused, Pressing}
 use Rattle.editor.proofs.Lines.{good-line, length-of}
 use Rattle.editor.proofs.States.{good-parts, state-parts}
 use Rattle.editor.proofs.Fine.{stays-good}
 use Rattle.editor.proofs.Begun.{key-changes, same-answer, same-given, same-shown, alike-after}
 use Rattle.state.specs.State.{editorIn, historyIn, goodSaved}
-use Rattle.state.specs.Calls.{turnIn, pressAnswer, SavedKey, savedAnswer, SavedAdd}
+use Rattle.state.specs.Calls.{turnIn, pressAnswer, SavedKey, savedAnswer, SavedAdd, SavedForget}
 use Rattle.state.proofs.Savings.{good-saved-parts, held-saved}
-use Rattle.state.proofs.ByValue.{keyFor, key-by-value, key-saved, add-by-value, add-saved}
-
--- the state that bytes and slots hold
-abbrev pub heldIn : List ℕ → List ℕ → State
-heldIn state slots = stateOf (editorIn state) (historyIn state) slots
+use Rattle.state.proofs.Stored.{heldIn, stored-add, record-done, stored-forget, stored-held}
+use Rattle.state.proofs.ByValue.{keyFor, key-by-value, key-saved, add-by-value, forget-by-value}
 
 -- one key
 module _ (state slots prompt : List ℕ) (byte : ℕ) (line screen : List ℕ) (told : Pressed) (state′ slots′ line′ screen′ : List ℕ)
@@ -81,11 +82,8 @@ module _ (state slots text : List ℕ) (told : Added) (state′ slots′ : List 
     -- what the bytes hold after it
     add-held : heldIn state′ slots′ ≡ stateOf (editorIn state) (recordBy told (historyIn state) (offered text (journalOf (historyIn state) slots))) slots′
     add-held =
-        let is = good-saved-parts state slots g in
-        let parts = state-parts (editorIn state) (historyIn state) slots (is .1) in
-        ap (λ (x : List ℕ). heldIn x slots′) (add-saved state slots text told state′ slots′ p (is .0) (parts .0))
-        ∙ held-saved (editorIn state) (recordBy told (historyIn state) (offered text (journalOf (historyIn state) slots))) slots′
-        (length-of (editorIn state) (good-line (editorIn state) (good-parts (editorIn state) (historyIn state) slots (is .1) .0)) .0)
+        stored-held state slots (isDone told) (offered text (journalOf (historyIn state) slots)) state′ slots′ (stored-add state slots text told state′ slots′ p) g
+        ∙ ap (λ (x : History). stateOf (editorIn state) x slots′) (sym (record-done told (historyIn state) (offered text (journalOf (historyIn state) slots))))
 
 -- the histories of two such states, and the states with others
 histories : (e : Editor) (h : History) (slots : List ℕ) (e₂ : Editor) (h₂ : History) (slots₂ : List ℕ) → SameBut (stateOf e h slots) (stateOf e₂ h₂ slots₂)
@@ -98,7 +96,7 @@ with-histories : (e : Editor) (h : History) (slots : List ℕ) (e₂ : Editor) (
 unfolding stateOf
 with-histories e h slots e₂ h₂ slots₂ r left r₂ left₂ a b = record { line = a .line; cursor = a .cursor; mode = a .mode; profile = a .profile; history = b }
 
--- two good states that differ in where their history begins and in nothing else: a key, and a text that is added
+-- two good states that differ in where their history begins and in nothing else: a key, a text that is added, and an entry that is forgotten
 module _ (state slots state₂ slots₂ : List ℕ) (g : goodSaved state slots ≡ true) (g₂ : goodSaved state₂ slots₂ ≡ true) (a : SameBut (heldIn state slots) (heldIn state₂ slots₂)) where
   pub record SameKey (told told₂ : Pressed) (state′ slots′ line′ screen′ state₂′ slots₂′ line₂′ screen₂′ : List ℕ) : Type 0 where
     pub answer : told₂ ≡ told
@@ -143,5 +141,24 @@ module _ (state slots state₂ slots₂ : List ℕ) (g : goodSaved state slots �
       in (
         both .0,
         rw (add-held state slots text told state′ slots′ p g, add-held state₂ slots₂ text told₂ state₂′ slots₂′ q g₂)
+            (with-histories (editorIn state) h slots (editorIn state₂) h₂ slots₂ _ slots′ _ slots₂′ a (both .1)),
+      )
+
+  pub forget-alike : (k : ℕ) (told told₂ : Forgot) (state′ slots′ state₂′ slots₂′ : List ℕ) → SavedForget state slots k told state′ slots′ → SavedForget state₂ slots₂ k told₂ state₂′ slots₂′
+      → (told₂ ≡ told) × SameBut (heldIn state′ slots′) (heldIn state₂′ slots₂′)
+  forget-alike k told told₂ state′ slots′ state₂′ slots₂′ p q =
+      let h : History = historyIn state in
+      let h₂ : History = historyIn state₂ in
+      let good = good-parts (editorIn state) h slots (good-saved-parts state slots g .1) .1 in
+      let good₂ = good-parts (editorIn state₂) h₂ slots₂ (good-saved-parts state₂ slots₂ g₂ .1) .1 in
+      let both =
+      forget-alike-by-value h slots h₂ slots₂ good good₂ (histories (editorIn state) h slots (editorIn state₂) h₂ slots₂ a) k _ _ told told₂ slots′ slots₂′
+      (forget-by-value state slots k told state′ slots′ p g) (forget-by-value state₂ slots₂ k told₂ state₂′ slots₂′ q g₂)
+      in (
+        both .0,
+        rw (
+          stored-held state slots (isGone told) (forgotten k (journalOf h slots)) state′ slots′ (stored-forget state slots k told state′ slots′ p) g,
+          stored-held state₂ slots₂ (isGone told₂) (forgotten k (journalOf h₂ slots₂)) state₂′ slots₂′ (stored-forget state₂ slots₂ k told₂ state₂′ slots₂′ q) g₂,
+        )
             (with-histories (editorIn state) h slots (editorIn state₂) h₂ slots₂ _ slots′ _ slots₂′ a (both .1)),
       )

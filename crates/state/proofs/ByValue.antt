@@ -3,19 +3,22 @@ use Prim.Native.Nat.{ℕ, _≤_}
 use mathlib.Core.Path.{_≡_, refl, sym, ap, _∙_}
 use mathlib.Core.Bool.{Bool, true, false, cond}
 use mathlib.Core.List.{List}
-use lib.ListN.{length}
+use lib.ListN.{length, take}
 use Rattle.buffer.proofs.Choices.{then-is, else-is}
-use Rattle.history.specs.Journal.{Journal, offered, journalOf, good}
+use Rattle.history.specs.Journal.{offered, recordOf, journalOf, good}
 use Rattle.history.specs.Answer.{addAnswer, recordBy, slotsBy, Addition}
 use Rattle.history.specs.declared.stepping.History.{History}
 use Rattle.history.specs.declared.adding.Added.{Added}
-use Rattle.history.specs.declared.adding.Added.the-variants.{Done, BadState, TooLong, IllFormed}
+use Rattle.history.specs.Forgotten.{forgotten, forgetAnswer, isGone, Forgets}
+use Rattle.history.specs.declared.forgetting.Forgot.{Forgot}
+use Rattle.history.proofs.Called.{isDone}
 use Rattle.keys.specs.declared.standing.Mode.the-variants.{Typing}
 use Rattle.editor.specs.declared.line.Editor.{Editor}
 use Rattle.editor.specs.declared.drawing.KeyAnswer.{KeyAnswer}
 use Rattle.editor.specs.declared.drawing.Pressed.{Pressed}
 use Rattle.editor.specs.declared.drawing.Pressed.the-variants.{Dropped}
 use Rattle.editor.specs.Line.{limit, goodEditor}
+use Rattle.editor.specs.Saved.{savedSize as editorSize}
 use Rattle.editor.specs.Turns.{State, Turn, turnOf}
 use Rattle.editor.specs.Answer.{stateOf, editorOf, historyOf, goodState, goodPrompt, keyAnswer, refused, Pressing}
 use Rattle.editor.proofs.Lines.{good-line, length-of}
@@ -23,8 +26,9 @@ use Rattle.editor.proofs.States.{good-parts}
 use Rattle.editor.proofs.Fine.{stays-good}
 use Rattle.editor.proofs.Called.{dropped, profile-kept}
 use Rattle.state.specs.State.{savedOf, editorIn, historyIn, goodSaved}
-use Rattle.state.specs.Calls.{turnIn, pressAnswer, savedAfter, SavedKey, savedAnswer, stateBy, SavedAdd}
-use Rattle.state.proofs.Savings.{editor-saved, IsState, good-as, good-saved-parts, saved-restored}
+use Rattle.state.specs.Calls.{turnIn, pressAnswer, savedAfter, SavedKey, savedAnswer, SavedAdd, forgetIn, SavedForget}
+use Rattle.state.proofs.Savings.{editor-saved, history-saved, IsState, good-as, good-saved-parts, saved-restored}
+use Rattle.state.proofs.Stored.{stored-add, record-done, stored-forget, stored-saved, editor-stays, same-editor}
 
 -- what `key` hands back for a turn from a saved state, with this answer
 abbrev pub keyFor : List ℕ → Turn → Pressed → KeyAnswer
@@ -76,13 +80,32 @@ module _ (state slots text : List ℕ) (told : Added) (state′ slots′ : List 
       }
 
   pub add-saved : state′ ≡ savedOf (editorIn state) (recordBy told (historyIn state) (offered text (journalOf (historyIn state) slots)))
-  add-saved = p .kept ∙ by told (offered text (journalOf (historyIn state) slots))
-    where
-      by : (x : Added) (j : Journal) → stateBy x state j ≡ savedOf (editorIn state) (recordBy x (historyIn state) j)
-      by Done j = refl
-      by BadState j = sym (saved-restored state is)
-      by (TooLong n) j = sym (saved-restored state is)
-      by (IllFormed n) j = sym (saved-restored state is)
+  add-saved =
+      stored-saved state slots (isDone told) (offered text (journalOf (historyIn state) slots)) state′ slots′ (stored-add state slots text told state′ slots′ p) is
+      ∙ ap (savedOf (editorIn state)) (sym (record-done told (historyIn state) (offered text (journalOf (historyIn state) slots))))
+
+-- what `forget` hands back for an entry of a saved state's history, with this answer
+abbrev pub forgetFor : List ℕ → List ℕ → ℕ → Forgot → History
+forgetFor state slots k told = cond (isGone told) (recordOf (forgotten k (journalOf (historyIn state) slots))) (historyIn state)
+
+pub forget-by-value : (state slots : List ℕ) (k : ℕ) (told : Forgot) (state′ slots′ : List ℕ) → SavedForget state slots k told state′ slots′ → goodSaved state slots ≡ true
+    → Forgets (historyIn state) slots k (forgetFor state slots k told) told slots′
+unfolding forgetIn
+forget-by-value state slots k told state′ slots′ p g =
+    let is = good-parts (editorIn state) (historyIn state) slots (good-saved-parts state slots g .1) .1 in
+    record {
+      answer = p .answer ∙ ap (λ (t : Bool). forgetAnswer t k (journalOf (historyIn state) slots .entries)) (g ∙ sym is);
+      state = refl;
+      bytes = p .held;
+    }
+
+pub forget-held : (state slots : List ℕ) (k : ℕ) (told : Forgot) (state′ slots′ : List ℕ) → SavedForget state slots k told state′ slots′ → goodSaved state slots ≡ true
+    → historyIn state′ ≡ forgetFor state slots k told
+forget-held state slots k told state′ slots′ p g =
+    let is = good-saved-parts state slots g in
+    let whole = length-of (editorIn state) (good-line (editorIn state) (good-parts (editorIn state) (historyIn state) slots (is .1) .0)) .0 in
+    ap historyIn (stored-saved state slots (isGone told) (forgotten k (journalOf (historyIn state) slots)) state′ slots′ (stored-forget state slots k told state′ slots′ p) (is .0))
+    ∙ history-saved (editorIn state) (forgetFor state slots k told) whole
 
 -- a byte typed into a full line is answered dropped, and nothing changes: not a byte of the state, nor of any buffer
 pub dropped-saved : (state slots prompt : List ℕ) (byte : ℕ) (line screen : List ℕ) (told : Pressed) (state′ slots′ line′ screen′ : List ℕ)
@@ -100,7 +123,7 @@ dropped-saved state slots prompt byte line screen told state′ slots′ line′
       d .5,
     )
 
--- no key changes the profile of a saved state, taken or refused, and no text that is added
+-- no key changes the profile of a saved state, taken or refused; a text that is added and an entry that is forgotten leave every byte of the editor
 module _ (state slots prompt : List ℕ) (byte : ℕ) (line screen : List ℕ) (told : Pressed) (state′ slots′ line′ screen′ : List ℕ)
     (p : SavedKey state slots prompt byte line screen told state′ slots′ line′ screen′) where
   kept-good : goodSaved state slots ≡ true → editorIn state′ .profile ≡ editorIn state .profile
@@ -122,20 +145,24 @@ module _ (state slots prompt : List ℕ) (byte : ℕ) (line screen : List ℕ) (
       by true g = kept-good g
       by false g = ap (λ (x : List ℕ). editorIn x .profile) (p .kept ∙ then-is _ _ _ (ap refused (p .answer ∙ else-is _ _ _ g)))
 
+pub add-keeps : (state slots text : List ℕ) (told : Added) (state′ slots′ : List ℕ) → SavedAdd state slots text told state′ slots′ → take editorSize state′ ≡ take editorSize state
+unfolding savedAnswer addAnswer
+add-keeps state slots text told state′ slots′ p =
+    editor-stays state slots (isDone told) (offered text (journalOf (historyIn state) slots)) state′ slots′ (stored-add state slots text told state′ slots′ p) (λ t. by (goodSaved state slots) refl t)
+  where
+    by : (b : Bool) → goodSaved state slots ≡ b → isDone told ≡ true → b ≡ true
+    by true g t = refl
+    by false g t = sym (ap isDone (p .answer ∙ else-is _ _ _ g)) ∙ t
+
 pub add-kept : (state slots text : List ℕ) (told : Added) (state′ slots′ : List ℕ) → SavedAdd state slots text told state′ slots′
     → editorIn state′ .profile ≡ editorIn state .profile
-unfolding savedAnswer addAnswer
-add-kept state slots text told state′ slots′ p = by (goodSaved state slots) refl
-  where
-    added : (x : Added) → goodSaved state slots ≡ true → editorIn (stateBy x state (offered text (journalOf (historyIn state) slots))) .profile ≡ editorIn state .profile
-    added Done g =
-        let is = good-saved-parts state slots g in
-        ap (λ (x : Editor). x .profile) (editor-saved (editorIn state) _ (length-of (editorIn state) (good-line (editorIn state) (good-parts (editorIn state) (historyIn state) slots (is .1) .0)) .0))
-    added BadState g = refl
-    added (TooLong n) g = refl
-    added (IllFormed n) g = refl
+add-kept state slots text told state′ slots′ p = ap (λ (x : Editor). x .profile) (same-editor state state′ (add-keeps state slots text told state′ slots′ p))
 
-    by : (t : Bool) → goodSaved state slots ≡ t → editorIn state′ .profile ≡ editorIn state .profile
-    by true g = ap (λ (x : List ℕ). editorIn x .profile) (p .kept) ∙ added told g
-    by false g =
-        ap (λ (x : List ℕ). editorIn x .profile) (p .kept ∙ ap (λ (x : Added). stateBy x state (offered text (journalOf (historyIn state) slots))) (p .answer ∙ else-is _ _ _ g))
+pub forget-keeps : (state slots : List ℕ) (k : ℕ) (told : Forgot) (state′ slots′ : List ℕ) → SavedForget state slots k told state′ slots′ → take editorSize state′ ≡ take editorSize state
+unfolding forgetIn forgetAnswer
+forget-keeps state slots k told state′ slots′ p =
+    editor-stays state slots (isGone told) (forgotten k (journalOf (historyIn state) slots)) state′ slots′ (stored-forget state slots k told state′ slots′ p) (λ t. by (goodSaved state slots) refl t)
+  where
+    by : (b : Bool) → goodSaved state slots ≡ b → isGone told ≡ true → b ≡ true
+    by true g t = refl
+    by false g t = sym (ap isGone (p .answer ∙ else-is _ _ _ g)) ∙ t

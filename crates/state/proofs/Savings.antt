@@ -47,7 +47,7 @@ unfolding editorSize
 editor-part e l = length-saved e l
 
 -- restoring what was saved gives it back
-front-saved : (e : Editor) (h : History) → length (e .line) ≡ 255 → take editorSize (savedOf e h) ≡ editorSaved e
+pub front-saved : (e : Editor) (h : History) → length (e .line) ≡ 255 → take editorSize (savedOf e h) ≡ editorSaved e
 unfolding savedOf
 front-saved e h l = take-at (editorSaved e) (historySaved h) editorSize (editor-part e l)
 

@@ -1,4 +1,4 @@
--- What the calls on a saved state answer and leave (STANDARD 3.6, 4.1, 4.3, 4.5, 10.15, 10.16, 10.23; 9 and 12 of 10.1).
+-- What the calls on a saved state answer and leave (STANDARD 3.6, 3.19, 4.1, 4.3, 4.5, 10.15, 10.16, 10.23, 10.24; 9 and 12 of 10.1).
 use Prim.Native.Nat.{ℕ}
 use mathlib.Core.Path.{_≡_}
 use mathlib.Core.Bool.{Bool, true, false, cond}
@@ -9,8 +9,10 @@ use Rattle.buffer.specs.Write.{over}
 use Rattle.history.specs.Slots.{slotsSize}
 use Rattle.history.specs.Journal.{Journal, noEntries, offered, recordOf, slotsOf as journalSlots, journalOf}
 use Rattle.history.specs.Answer.{addAnswer, slotsBy}
+use Rattle.history.specs.Forgotten.{forgotten, forgetAnswer, isGone}
 use Rattle.history.specs.declared.adding.Added.{Added}
 use Rattle.history.specs.declared.adding.Added.the-variants.{Done, BadState as BadHistory, TooLong, IllFormed}
+use Rattle.history.specs.declared.forgetting.Forgot.{Forgot}
 use Rattle.keys.specs.Modes.{isProfile, profileOf}
 use Rattle.editor.specs.declared.drawing.Pressed.{Pressed}
 use Rattle.editor.specs.Line.{freshEditor}
@@ -93,3 +95,13 @@ pub record SavedAdd (state slots text : List ℕ) (told : Added) (state′ slots
   pub answer : told ≡ savedAnswer state slots text
   pub kept : state′ ≡ stateBy told state (offered text (journalOf (historyIn state) slots))
   pub held : slots′ ≡ slotsBy told slots (offered text (journalOf (historyIn state) slots))
+
+-- an entry forgotten in the history of a saved state, of which all is to be good (10.24)
+unfoldable pub forgetIn : List ℕ → List ℕ → ℕ → Forgot
+forgetIn state slots k = forgetAnswer (goodSaved state slots) k (journalOf (historyIn state) slots .entries)
+
+-- a refusal keeps every byte; otherwise the history is saved (3.19, 4.1, 4.5)
+pub record SavedForget (state slots : List ℕ) (k : ℕ) (told : Forgot) (state′ slots′ : List ℕ) : Type 0 where
+  pub answer : told ≡ forgetIn state slots k
+  pub kept : state′ ≡ cond (isGone told) (savedOf (editorIn state) (recordOf (forgotten k (journalOf (historyIn state) slots)))) state
+  pub held : slots′ ≡ cond (isGone told) (journalSlots (forgotten k (journalOf (historyIn state) slots))) slots

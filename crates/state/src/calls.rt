@@ -1,6 +1,5 @@
-// The calls on a saved state: a fresh one, a key, a text added to its history.
-ghost use mathlib.Core.Path.{_≡_};
-ghost use Rattle.state.specs.Calls.{Beginning, SavedKey, SavedAdd};
+// The calls on a saved state: a fresh one, a key, a text added to its history, an entry of that forgotten.
+ghost use Rattle.state.specs.Calls.{Beginning, SavedKey, SavedAdd, SavedForget};
 use super::saving::SIZE;
 use super::saving::editor_in;
 use super::saving::history_in;
@@ -8,9 +7,11 @@ use super::saving::save;
 use editor::Editor;
 use editor::Pressed;
 use history::Added;
+use history::Forgot;
 use history::History;
 use history::Restored;
 use history::add_tested;
+use history::forget_tested;
 use keys::is_profile;
 use keys::profile_of;
 
@@ -93,6 +94,27 @@ pub fn add(state: &mut [u8], slots: &mut [u8], text: &[u8]) -> Added
     let told = adding.answer;
     if let Added::Done = told {
         save(editor, adding.history, state);
+    }
+    told
+}
+
+// An entry of the history forgotten, the oldest being 0; the editor stays as it is.
+pub fn forget(state: &mut [u8], slots: &mut [u8], k: usize) -> Forgot
+    ensures { λ r. ⌜ SavedForget (now (state .entry)) (now (slots .entry)) k r (now (state .exit)) (now (slots .exit)) ⌝ }
+{
+    let read = editor_in(state);
+    let editor = read.editor;
+    if !read.valid {
+        return Forgot::BadState;
+    }
+    let held = history_in(state, slots);
+    let Restored::Good(history) = held else {
+        return Forgot::BadState;
+    };
+    let forgetting = forget_tested(history, slots, k);
+    let told = forgetting.answer;
+    if let Forgot::Gone(_) = told {
+        save(editor, forgetting.history, state);
     }
     told
 }

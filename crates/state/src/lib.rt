@@ -5,4 +5,5 @@ mod saving;
 pub use calls::Begun;
 pub use calls::add;
 pub use calls::begin;
+pub use calls::forget;
 pub use calls::press;

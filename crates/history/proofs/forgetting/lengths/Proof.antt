@@ -1,9 +1,8 @@
 -- `history::forgetting::lengths` meets its contract. The sum is that of the entries from start up to i.
 use native.Mathlib.Omega.{arith}
 use borrow.Author.Needs.{needs}
-use Prim.Native.Nat.{ℕ, _+_, _-_, _≤_}
-use mathlib.Core.Path.{_≡_, refl, sym, ap, _∙_}
-use mathlib.Core.List.{List}
+use Prim.Native.Nat.{ℕ, _-_, _≤_}
+use mathlib.Core.Path.{_≡_, ap, _∙_}
 use lib.ListN.{length, take, drop}
 use Rattle.history.specs.Entries.{total}
 use Rattle.history.specs.Journal.{journalOf}

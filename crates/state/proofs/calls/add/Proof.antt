@@ -49,7 +49,7 @@ add-tested-requires c κs =
     let if1 = c .before .before .before .before .before .before .before .if1 in
     let history-in = c .before .before .before .before .history-in in
     let read = both-read (a .state .now) (a .slots .now) (editor-in .result) (editor-in .ensures) (not-false (editor-in .result .valid) (if1 .left)) _ _ (history-in .ensures) (c .before .before .held .given .1) in
-    history-good (a .state .now) (a .slots .now) (a .text .now) _ _ read
+    history-good _ _ (a .state .now) (a .slots .now) read
 
 enum-told-2 : tie.Need-enum-told-2
 enum-told-2 c = search needs
