@@ -15,7 +15,7 @@ use Rattle.history.specs.Entries.{total}
 use Rattle.history.specs.Slots.{slotAfter, ChangesOnly}
 use Rattle.history.specs.Journal.{offered, journalOf}
 use Rattle.history.specs.Answer.{recordBy, Addition, number as addNumber, value as addValue}
-use Rattle.history.specs.Forgotten.{Forgets, number as forgetNumber, value as forgetValue}
+use Rattle.history.specs.Forgotten.{without, Forgets, number as forgetNumber, value as forgetValue}
 use Rattle.history.specs.declared.stepping.History.{History}
 use Rattle.history.specs.declared.adding.Added.{Added}
 use Rattle.history.specs.declared.adding.Added.the-variants.{Done, BadState as BadHistory, TooLong, IllFormed}
@@ -73,7 +73,7 @@ use Rattle.promises.proofs.KeyAnswers.{Keyed, keyed, pressTable, press-
 use Rattle.promises.proofs.Lasting.{never-bad, full-line-saved}
 use Rattle.promises.proofs.BytesInUse.{inUse, in-bytes}
 use Rattle.promises.proofs.FirstSlot.{firstByte, in-bytes as first-in-bytes, saved-key-changes-one, saved-add-changes-one, same-saved-key, same-saved-add, same-saved-forget}
-use Rattle.promises.proofs.Forgetting.{editor-stays, as-by-value}
+use Rattle.promises.proofs.Forgetting.{editor-stays, as-by-value, no-trace-saved}
 use Rattle.promises.proofs.SameAsRust.{words, key, add-command, forget}
 use Rattle.promises.proofs.OtherCommands.{named, Agree, parse-alone, help-alone, run-alone}
 
@@ -264,6 +264,17 @@ forgets-by-calls state slots k p state′ slots′ c zero =
       b .2 ∙ ap (λ (r : Forgot). plain (forgetNumber r) (forgetValue r)) (g .1),
       as-by-value state slots k (Gone (g .0)) state′ slots′ made (gone-has (goodSaved state slots) k (journalOf (historyIn state) slots .entries) (g .0) (made .answer) .0),
     )
+
+pub no-trace-by-calls : (state slots state₂ slots₂ : List ℕ) (k : ℕ) → goodSaved state slots ≡ true → goodSaved state₂ slots₂ ≡ true → k < historyIn state .count → k < historyIn state₂ .count
+    → take 261 state₂ ≡ take 261 state → historyIn state₂ .first ≡ historyIn state .first
+    → without k (journalOf (historyIn state₂) slots₂ .entries) ≡ without k (journalOf (historyIn state) slots .entries)
+    → (p q : ℕ) (state′ slots′ state₂′ slots₂′ : List ℕ) → ForgetCall state slots k p state′ slots′ → ForgetCall state₂ slots₂ k q state₂′ slots₂′
+    → (q ≡ p) × (state₂′ ≡ state′) × (slots₂′ ≡ slots′)
+no-trace-by-calls state slots state₂ slots₂ k g g₂ l l₂ e f w p q state′ slots′ state₂′ slots₂′ c d =
+    let x = forget-packs state slots k p state′ slots′ c in
+    let y = forget-packs state₂ slots₂ k q state₂′ slots₂′ d in
+    let s = no-trace-saved state slots state₂ slots₂ k g g₂ l l₂ e f w (x .0) (y .0) state′ slots′ state₂′ slots₂′ (x .1) (y .1) in
+    (y .2 ∙ ap (λ (r : Forgot). plain (forgetNumber r) (forgetValue r)) (s .0) ∙ sym (x .2), s .1, s .2)
 
 pub full-line : (state slots prompt : List ℕ) (byte : ℕ) (line screen : List ℕ) (p : ℕ) (state′ slots′ line′ screen′ : List ℕ)
     → KeyCall state slots prompt byte line screen p state′ slots′ line′ screen′ → goodSaved state slots ≡ true → goodPrompt prompt ≡ true → limit ≤ length line

@@ -24,9 +24,12 @@ use Rattle.history.proofs.States.{good-has}
 use Rattle.history.proofs.Shortened.{gone-has, was-there, so-many, forget-after, gone-good, forget-first, no-trace as no-trace-by-value}
 use Rattle.history.proofs.Begun.{add-with-room}
 use Rattle.editor.specs.Saved.{savedSize as editorSize}
-use Rattle.state.specs.State.{historyIn, goodSaved}
+use Rattle.editor.proofs.States.{state-parts}
+use Rattle.state.specs.State.{savedOf, editorIn, historyIn, goodSaved}
 use Rattle.state.specs.Calls.{SavedForget}
-use Rattle.state.proofs.ByValue.{forget-keeps, forget-held, forget-by-value}
+use Rattle.state.proofs.Savings.{good-saved-parts}
+use Rattle.state.proofs.Stored.{same-editor}
+use Rattle.state.proofs.ByValue.{same-saved, forget-saved, forget-held, forget-by-value, forget-keeps}
 use Rattle.promises.proofs.FirstSlot.{entry-in-slot, zeros-in-slot}
 
 -- ONE REMOVAL MORE IS ALWAYS ENOUGH: entries of which each differs from the one before it are such again, whichever of them is forgotten
@@ -133,3 +136,29 @@ editor-stays = forget-keeps
 pub as-by-value : (state slots : List ℕ) (k : ℕ) (told : Forgot) (state′ slots′ : List ℕ) → SavedForget state slots k told state′ slots′ → goodSaved state slots ≡ true
     → Forgets (historyIn state) slots k (historyIn state′) told slots′
 as-by-value state slots k told state′ slots′ p g = rw (forget-held state slots k told state′ slots′ p g) (forget-by-value state slots k told state′ slots′ p g)
+
+-- NO TRACE in the state either: two good saved states with the same editor's bytes and first slot, which differ in entry k alone, are the same once it is forgotten
+pub no-trace-saved : (state slots state₂ slots₂ : List ℕ) (k : ℕ) → goodSaved state slots ≡ true → goodSaved state₂ slots₂ ≡ true → k < historyIn state .count → k < historyIn state₂ .count
+    → take 261 state₂ ≡ take 261 state → historyIn state₂ .first ≡ historyIn state .first
+    → without k (journalOf (historyIn state₂) slots₂ .entries) ≡ without k (journalOf (historyIn state) slots .entries)
+    → (told told₂ : Forgot) (state′ slots′ state₂′ slots₂′ : List ℕ) → SavedForget state slots k told state′ slots′ → SavedForget state₂ slots₂ k told₂ state₂′ slots₂′
+    → (told₂ ≡ told) × (state₂′ ≡ state′) × (slots₂′ ≡ slots′)
+unfolding editorSize
+no-trace-saved state slots state₂ slots₂ k g g₂ l l₂ e f w told told₂ state′ slots′ state₂′ slots₂′ p q =
+    let same =
+    no-trace (historyIn state) slots (historyIn state₂) slots₂ k (history-good state slots g) (history-good state₂ slots₂ g₂) l l₂ f w (historyIn state′) (historyIn state₂′) told told₂ slots′ slots₂′
+    (as-by-value state slots k told state′ slots′ p g)
+    (as-by-value state₂ slots₂ k told₂ state₂′ slots₂′ q g₂)
+    in (
+      same .0,
+      saved-so state₂ slots₂ told₂ state₂′ slots₂′ q g₂ ∙ same-saved (same-editor state state₂ e) (same .1) ∙ sym (saved-so state slots told state′ slots′ p g),
+      same .2,
+    )
+  where
+    history-good : (state slots : List ℕ) → goodSaved state slots ≡ true → good (historyIn state) slots ≡ true
+    history-good state slots g = state-parts (editorIn state) (historyIn state) slots (good-saved-parts state slots g .1) .1
+
+    saved-so : (state slots : List ℕ) (told : Forgot) (state′ slots′ : List ℕ) → SavedForget state slots k told state′ slots′ → goodSaved state slots ≡ true
+        → state′ ≡ savedOf (editorIn state) (historyIn state′)
+    saved-so state slots told state′ slots′ p g =
+        forget-saved state slots k told state′ slots′ p g ∙ ap (savedOf (editorIn state)) (sym (forget-held state slots k told state′ slots′ p g))

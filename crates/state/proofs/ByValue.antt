@@ -39,7 +39,7 @@ keyFor state t told =
       answer = told;
     }
 
-same-saved : {e e′ : Editor} {h h′ : History} → e ≡ e′ → h ≡ h′ → savedOf e h ≡ savedOf e′ h′
+pub same-saved : {e e′ : Editor} {h h′ : History} → e ≡ e′ → h ≡ h′ → savedOf e h ≡ savedOf e′ h′
 same-saved p q = cc
 
 module _ (state slots prompt : List ℕ) (byte : ℕ) (line screen : List ℕ) (told : Pressed) (state′ slots′ line′ screen′ : List ℕ)
@@ -99,13 +99,16 @@ forget-by-value state slots k told state′ slots′ p g =
       bytes = p .held;
     }
 
-pub forget-held : (state slots : List ℕ) (k : ℕ) (told : Forgot) (state′ slots′ : List ℕ) → SavedForget state slots k told state′ slots′ → goodSaved state slots ≡ true
-    → historyIn state′ ≡ forgetFor state slots k told
-forget-held state slots k told state′ slots′ p g =
-    let is = good-saved-parts state slots g in
-    let whole = length-of (editorIn state) (good-line (editorIn state) (good-parts (editorIn state) (historyIn state) slots (is .1) .0)) .0 in
-    ap historyIn (stored-saved state slots (isGone told) (forgotten k (journalOf (historyIn state) slots)) state′ slots′ (stored-forget state slots k told state′ slots′ p) (is .0))
-    ∙ history-saved (editorIn state) (forgetFor state slots k told) whole
+module _ (state slots : List ℕ) (k : ℕ) (told : Forgot) (state′ slots′ : List ℕ) (p : SavedForget state slots k told state′ slots′) (g : goodSaved state slots ≡ true) where
+  pub forget-saved : state′ ≡ savedOf (editorIn state) (forgetFor state slots k told)
+  forget-saved =
+      stored-saved state slots (isGone told) (forgotten k (journalOf (historyIn state) slots)) state′ slots′ (stored-forget state slots k told state′ slots′ p) (good-saved-parts state slots g .0)
+
+  pub forget-held : historyIn state′ ≡ forgetFor state slots k told
+  forget-held =
+      let is = good-saved-parts state slots g in
+      let whole = length-of (editorIn state) (good-line (editorIn state) (good-parts (editorIn state) (historyIn state) slots (is .1) .0)) .0 in
+      ap historyIn forget-saved ∙ history-saved (editorIn state) (forgetFor state slots k told) whole
 
 -- a byte typed into a full line is answered dropped, and nothing changes: not a byte of the state, nor of any buffer
 pub dropped-saved : (state slots prompt : List ℕ) (byte : ℕ) (line screen : List ℕ) (told : Pressed) (state′ slots′ line′ screen′ : List ℕ)

@@ -16,7 +16,11 @@ returns c =
     forgets-past (args .history) (args .slots .now) (args .k) (c .before .before .before .pre) (let l = c .if1 .taken in omega arith)
 
 add-next : tie.Need-add-next
-add-next c = search needs
+add-next c =
+    let args = c .before .before .before .args in
+    let few = good-has (args .history) (args .slots .now) (c .before .before .before .pre) .counted in
+    let l = c .if1 .left in
+    omega arith
 
 is-between-requires : tie.Need-is-between-requires
 is-between-requires c κs =
