@@ -1,5 +1,5 @@
--- Where a history begins: a key changes the bytes of one slot at most, and in two good states that differ in nothing else it answers, shows and submits the same, and leaves two such states.
-use Prim.Native.Nat.{ℕ}
+-- Where a history begins: a key changes the bytes of one slot at most and drops no entry where there is room; and in two good states that differ in nothing else it answers, shows and submits the same, and leaves two such states.
+use Prim.Native.Nat.{ℕ, _<_}
 use mathlib.Core.Path.{_≡_, refl, sym, ap, _∙_}
 use mathlib.Core.Bool.{Bool, true, false, cond}
 use mathlib.Core.List.{List, [], _∷_, _++_}
@@ -9,9 +9,10 @@ use lib.ListN.{length}
 use Rattle.buffer.specs.Write.{over}
 use Rattle.buffer.proofs.Choices.{then-is, else-is}
 use Rattle.history.specs.Slots.{slotAfter, ChangesOnly}
-use Rattle.history.specs.Journal.{count, journalOf, slotsOf as journalSlots}
+use Rattle.history.specs.Journal.{Journal, count, offered, Longer, journalOf, slotsOf as journalSlots}
 use Rattle.history.specs.declared.stepping.History.{History}
-use Rattle.history.proofs.Journals.{slots-held, count-held}
+use Rattle.history.proofs.Journals.{count-held, same-held, slots-held}
+use Rattle.history.proofs.Called.{longer-same, offered-longer}
 use Rattle.history.proofs.Begun.{changes-none, offered-changes}
 use Rattle.keys.specs.declared.standing.Profile.{Profile}
 use Rattle.keys.specs.declared.standing.Mode.{Mode}
@@ -19,7 +20,6 @@ use Rattle.keys.specs.declared.standing.Action.{Action}
 use Rattle.keys.specs.declared.standing.Action.the-variants.{Nothing, Enter, Erase, Insert, Up, Down, Right, Left, Home, End, Delete}
 use Rattle.keys.specs.declared.meaning.Meaning.{Meaning}
 use Rattle.keys.specs.Keys.{meaning}
-use Rattle.keys.proofs.Awaiting.{mode-kept}
 use Rattle.editor.specs.declared.line.Editor.{Editor}
 use Rattle.editor.specs.declared.drawing.KeyAnswer.{KeyAnswer}
 use Rattle.editor.specs.declared.drawing.Pressed.{Pressed}
@@ -29,8 +29,8 @@ use Rattle.editor.specs.Turns.{State, SameBut, Kind, shows, enters, drop
 use Rattle.editor.specs.Answer.{stateOf, slotsOf, goodState, goodPrompt, taken, turnAnswer, keyAnswer, refused, Pressing}
 use Rattle.editor.proofs.Lines.{content-short}
 use Rattle.editor.proofs.States.{good-parts}
-use Rattle.editor.proofs.Fine.{Fine, fine-of, other-mode}
-use Rattle.editor.proofs.Called.{key-good, state-after}
+use Rattle.editor.proofs.Fine.{Fine, fine-of}
+use Rattle.editor.proofs.Called.{same-state, key-good, state-after}
 
 -- two turns that show and submit the same, and lead to two such states
 record AlikeTurns (t u : Turn) : Type 0 where
@@ -117,46 +117,68 @@ keys-alike prompt s t (byte ∷ keys) a =
     joined : {x y u v : List ℕ} → x ≡ y → u ≡ v → x ++ u ≡ y ++ v
     joined p q = cc
 
--- what an action leaves in the slots
-Writes : State → Turn → Type 0
-Writes s t = ChangesOnly (slotAfter (s .history .first) (count (s .history))) (slotsOf s) (slotsOf (t .after))
+-- what an action makes of the history: the same entries in the same slots, or those after the line's content was offered
+data Became (line : List ℕ) (j k : Journal) : Type 0 where
+  the-same : k .entries ≡ j .entries → k .first ≡ j .first → Became line j k
+  with-line : k ≡ offered (content line) j → Became line j k
 
-chosen : (s : State) (b : Bool) (t u : Turn) → Writes s t → Writes s u → Writes s (cond b t u)
+Makes : State → Turn → Type 0
+Makes s t = Became (s .line) (s .history) (t .after .history)
+
+chosen : (s : State) (b : Bool) (t u : Turn) → Makes s t → Makes s u → Makes s (cond b t u)
 chosen s true t u p q = p
 chosen s false t u p q = q
 
-module _ (prompt : List ℕ) (s : State) (f : Fine s) where
-  -- the same entries in the same slots
-  nothing : (t : Turn) → slotsOf (t .after) ≡ slotsOf s → Writes s t
-  unfolding Writes
-  nothing t e = changes-none _ _ _ e
+module _ (prompt : List ℕ) (s : State) where
+  stays : (t : Turn) → t .after .history .entries ≡ s .history .entries → t .after .history .first ≡ s .history .first → Makes s t
+  unfolding Makes
+  stays t e f = the-same e f
 
-  entered : Writes s (entering (afterEnter s) (s .line))
-  unfolding Writes
-  entered = offered-changes (content (s .line)) (s .history) (f .fair) (let a = content-short (s .line) in let b = f .short in omega arith)
+  entered : Makes s (entering (afterEnter s) (s .line))
+  unfolding Makes
+  entered = with-line refl
 
-  action-writes : (a : Action) → Writes s (turnBy prompt s a)
-  unfolding enter erase insert up down right left goTo delete journalSlots
-  action-writes Nothing = nothing _ refl
-  action-writes Enter = chosen s (eqb (length (s .line)) 0) _ _ (nothing _ refl) entered
-  action-writes Erase = chosen s (eqb (s .cursor) 0) _ _ (nothing _ refl) (nothing _ refl)
-  action-writes (Insert b) = chosen s (ltb (length (s .line)) limit) _ _ (nothing _ refl) (nothing _ refl)
-  action-writes Up = chosen s (eqb (s .history .place) 0) _ _ (nothing _ refl) (nothing _ refl)
-  action-writes Down = chosen s (ltb (onPlace (s .history)) (count (s .history))) _ _ (nothing _ refl) (nothing _ refl)
-  action-writes Right = chosen s (ltb (s .cursor) (length (s .line))) _ _ (nothing _ refl) (nothing _ refl)
-  action-writes Left = chosen s (eqb (s .cursor) 0) _ _ (nothing _ refl) (nothing _ refl)
-  action-writes Home = chosen s (eqb (s .cursor) 0) _ _ (nothing _ refl) (nothing _ refl)
-  action-writes End = chosen s (eqb (s .cursor) (length (s .line))) _ _ (nothing _ refl) (nothing _ refl)
-  action-writes Delete = chosen s (ltb (s .cursor) (length (s .line))) _ _ (nothing _ refl) (nothing _ refl)
+  action-makes : (a : Action) → Makes s (turnBy prompt s a)
+  unfolding enter erase insert up down right left goTo delete
+  action-makes Nothing = stays _ refl refl
+  action-makes Enter = chosen s (eqb (length (s .line)) 0) _ _ (stays _ refl refl) entered
+  action-makes Erase = chosen s (eqb (s .cursor) 0) _ _ (stays _ refl refl) (stays _ refl refl)
+  action-makes (Insert b) = chosen s (ltb (length (s .line)) limit) _ _ (stays _ refl refl) (stays _ refl refl)
+  action-makes Up = chosen s (eqb (s .history .place) 0) _ _ (stays _ refl refl) (stays _ refl refl)
+  action-makes Down = chosen s (ltb (onPlace (s .history)) (count (s .history))) _ _ (stays _ refl refl) (stays _ refl refl)
+  action-makes Right = chosen s (ltb (s .cursor) (length (s .line))) _ _ (stays _ refl refl) (stays _ refl refl)
+  action-makes Left = chosen s (eqb (s .cursor) 0) _ _ (stays _ refl refl) (stays _ refl refl)
+  action-makes Home = chosen s (eqb (s .cursor) 0) _ _ (stays _ refl refl) (stays _ refl refl)
+  action-makes End = chosen s (eqb (s .cursor) (length (s .line))) _ _ (stays _ refl refl) (stays _ refl refl)
+  action-makes Delete = chosen s (ltb (s .cursor) (length (s .line))) _ _ (stays _ refl refl) (stays _ refl refl)
 
+turn-makes : (prompt : List ℕ) (s : State) (byte : ℕ) → Became (s .line) (s .history) (turnOf prompt s byte .after .history)
+unfolding turnOf Makes
+turn-makes prompt s byte =
+    let m : Meaning = meaning (s .profile) (s .mode) byte in action-makes prompt (inMode s (m .mode)) (m .action)
+
+-- so a turn writes one slot at most, and where there is room it drops no entry
 turn-writes : (prompt : List ℕ) (s : State) (byte : ℕ) → Fine s
     → ChangesOnly (slotAfter (s .history .first) (count (s .history))) (slotsOf s) (slotsOf (turnOf prompt s byte .after))
-unfolding turnOf Writes
-turn-writes prompt s byte f =
-    let m : Meaning = meaning (s .profile) (s .mode) byte in
-    action-writes prompt (inMode s (m .mode)) (other-mode prompt s f (m .mode) (mode-kept (s .profile) (s .mode) byte (f .led))) (m .action)
+unfolding journalSlots
+turn-writes prompt s byte f = by (turnOf prompt s byte .after .history) (turn-makes prompt s byte)
+  where
+    same-slots : (j k : Journal) → k .entries ≡ j .entries → k .first ≡ j .first → journalSlots k ≡ journalSlots j
+    same-slots j k e d = cc
 
--- one key, as it is called: no byte but those of the slot after the newest entry changes, whatever the answer
+    by : (k : Journal) → Became (s .line) (s .history) k → ChangesOnly (slotAfter (s .history .first) (count (s .history))) (journalSlots (s .history)) (journalSlots k)
+    by k (the-same e d) = changes-none _ _ _ (same-slots (s .history) k e d)
+    by k (with-line e) =
+        rw e (offered-changes (content (s .line)) (s .history) (f .fair) (let a = content-short (s .line) in let b = f .short in omega arith))
+
+turn-longer : (prompt : List ℕ) (s : State) (byte : ℕ) → count (s .history) < 100 → Longer (s .history) (turnOf prompt s byte .after .history)
+turn-longer prompt s byte room = by (turnOf prompt s byte .after .history) (turn-makes prompt s byte)
+  where
+    by : (k : Journal) → Became (s .line) (s .history) k → Longer (s .history) k
+    by k (the-same e f) = longer-same (s .history) k e f
+    by k (with-line e) = rw e (offered-longer (content (s .line)) (s .history) room)
+
+-- one key, as it is called, whatever the answer: no byte but those of the slot after the newest entry changes, and where there is room no entry is dropped
 module _ (e : Editor) (h : History) (slots prompt : List ℕ) (byte : ℕ) (line screen : List ℕ) (k : KeyAnswer) (slots′ line′ screen′ : List ℕ)
     (p : Pressing e h slots prompt byte line screen k slots′ line′ screen′) where
   pub key-changes : ChangesOnly (slotAfter (h .first) (h .count)) slots slots′
@@ -175,6 +197,19 @@ module _ (e : Editor) (h : History) (slots prompt : List ℕ) (byte : ℕ) (line
           let left : slotsOf (turnOf prompt s byte .after) ≡ slots′ = sym (p .held ∙ else-is _ _ _ t) in
           rw (same, slots-held h slots (good-parts e h slots g .1), left) at c
 
+  pub key-longer : h .count < 100 → Longer (journalOf h slots) (journalOf (k .history) slots′)
+  unfolding stateOf
+  key-longer room = by (refused (k .answer)) refl
+    where
+      by : (r : Bool) → refused (k .answer) ≡ r → Longer (journalOf h slots) (journalOf (k .history) slots′)
+      by true t =
+          let e = same-held (p .history ∙ then-is _ _ _ t) (p .held ∙ then-is _ _ _ t) in
+          rw e (longer-same (journalOf h slots) (journalOf h slots) refl refl)
+      by false t =
+          let g = key-good e h slots prompt byte line screen k slots′ line′ screen′ p t in
+          let after = ap (λ (s : State). s .history) (state-after e h slots prompt byte line screen k slots′ line′ screen′ p t g) in
+          rw after (turn-longer prompt (stateOf e h slots) byte (let n = count-held h slots in omega arith))
+
 -- and in two good states that differ in where their history begins and in nothing else
 taken-alike : (t u : Turn) (c : Kind) → u .screen ≡ t .screen → u .submitted ≡ t .submitted → taken u c ≡ taken t c
 taken-alike t u shows q r = ap (λ (x : List ℕ). Shown (length x)) q
@@ -190,9 +225,6 @@ answer-alike prompt t u line screen p q r = by q (ap (taken u) p ∙ taken-alike
         → cond (goodPrompt prompt) (cond (ltb line limit) (NoRoom limit) (cond (ltb screen (length a)) (NoRoom (length a)) x)) (BadPrompt (length prompt))
         ≡ cond (goodPrompt prompt) (cond (ltb line limit) (NoRoom limit) (cond (ltb screen (length b)) (NoRoom (length b)) y)) (BadPrompt (length prompt))
     by v w = cc
-
-same-state : {e e′ : Editor} {h h′ : History} {s s′ : List ℕ} → e ≡ e′ → h ≡ h′ → s ≡ s′ → stateOf e h s ≡ stateOf e′ h′ s′
-same-state p q r = cc
 
 module _ (e : Editor) (h : History) (slots : List ℕ) (e₂ : Editor) (h₂ : History) (slots₂ : List ℕ)
     (g : goodState e h slots ≡ true) (g₂ : goodState e₂ h₂ slots₂ ≡ true) (a : SameBut (stateOf e h slots) (stateOf e₂ h₂ slots₂))

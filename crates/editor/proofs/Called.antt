@@ -46,7 +46,7 @@ held-state s f = parts (line-held (s .line) (s .cursor) (s .mode) (s .profile)) 
 same-good : {e e′ : Editor} {h h′ : History} {slots slots′ : List ℕ} → e ≡ e′ → h ≡ h′ → slots ≡ slots′ → goodState e h slots ≡ goodState e′ h′ slots′
 same-good p q r = cc
 
-same-state : {e e′ : Editor} {h h′ : History} {slots slots′ : List ℕ} → e ≡ e′ → h ≡ h′ → slots ≡ slots′ → stateOf e h slots ≡ stateOf e′ h′ slots′
+pub same-state : {e e′ : Editor} {h h′ : History} {slots slots′ : List ℕ} → e ≡ e′ → h ≡ h′ → slots ≡ slots′ → stateOf e h slots ≡ stateOf e′ h′ slots′
 same-state p q r = cc
 
 -- what is not refused is taken

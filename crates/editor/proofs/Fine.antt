@@ -83,7 +83,7 @@ content-formed l = by (wellFormed l) refl
 
 module _ (prompt : List ℕ) (s : State) (f : Fine s) where
   -- a state in another mode
-  pub other-mode : (m : Mode) → goodMode (s .profile) m ≡ true → Fine (inMode s m)
+  other-mode : (m : Mode) → goodMode (s .profile) m ≡ true → Fine (inMode s m)
   other-mode m g = record { short = f .short; within = f .within; led = g; fair = f .fair }
 
   -- another line, and another place

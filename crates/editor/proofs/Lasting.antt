@@ -18,8 +18,7 @@ use Rattle.history.specs.declared.forgetting.Forgot.{Forgot}
 use Rattle.history.specs.declared.saving.Restored.{Restored as RestoredHistory}
 use Rattle.history.specs.declared.saving.Restored.the-variants.{Good}
 use Rattle.history.proofs.Journals.{back-good, onward-good}
-use Rattle.history.proofs.Lasting.{emptied-good, offered-good, added-good}
-use Rattle.history.proofs.Shortened.{forgets-good}
+use Rattle.history.proofs.Lasting.{emptied-good, offered-good, added-good, forgets-good}
 use Rattle.history.proofs.Saved.{restored-good as restored-history-good}
 use Rattle.keys.specs.declared.standing.Profile.{Profile}
 use Rattle.editor.specs.declared.line.Editor.{Editor}

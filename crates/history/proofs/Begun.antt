@@ -2,13 +2,12 @@
 use Prim.Native.Nat.{ℕ, _+_, _*_, _<_, _≤_}
 use mathlib.Core.Path.{_≡_, refl, sym, ap, _∙_}
 use mathlib.Core.Bool.{Bool, true, false, cond}
-use mathlib.Core.List.{List, [], _∷_, _++_, append-nil}
+use mathlib.Core.List.{List, [], _∷_, _++_}
 use native.Mathlib.Omega.{arith}
 use lib.Dec.{ltb}
 use lib.ListN.{length, take, drop}
 use lib.Seq.{take-at, length-take-le}
-use borrow.Author.Tests.{lt-ltb, ltb-true, ltb-false}
-use Rattle.buffer.proofs.Choices.{true-is-not-false}
+use borrow.Author.Tests.{ltb-true, ltb-false}
 use Rattle.buffer.specs.Lend.{zeros}
 use Rattle.buffer.specs.Write.{over, overAt}
 use Rattle.buffer.proofs.Lending.{length-overAt, overAt-past}
@@ -141,25 +140,6 @@ add-alike h slots h₂ slots₂ g g₂ a text r r₂ told told₂ left left₂ p
     by : (t : Bool) → Alike (cond t (offered text (journalOf h slots)) (journalOf h slots)) (cond t (offered text (journalOf h₂ slots₂)) (journalOf h₂ slots₂))
     by true = offered-alike text (journalOf h slots) (journalOf h₂ slots₂) a
     by false = a
-
--- with room no entry is dropped: those that were there stay in front, and in their slots
-offered-more : (text : List ℕ) (j : Journal) → count j < 100 → (t : Bool) → let k : Journal = cond t (offered text j) j in (more : List (List ℕ)) × (k .entries ≡ j .entries ++ more) × (k .first ≡ j .first)
-unfolding added withRoom firstAfter mostEntries
-offered-more text j room false = ([], sym (append-nil (j .entries)), refl)
-offered-more text j room true = by (isNew text (j .entries)) (ltb (count j) 100) (lt-ltb (count j) 100 room)
-  where
-    by : (n r : Bool) → r ≡ true
-        → (more : List (List ℕ)) × (cond n (cond r (j .entries) (drop 1 (j .entries)) ++ (text ∷ [])) (j .entries) ≡ j .entries ++ more) × (cond n (cond r (j .first) (slotAfter (j .first) 1)) (j .first) ≡ j .first)
-    by false r e = ([], sym (append-nil (j .entries)), refl)
-    by true true e = (text ∷ [], refl, refl)
-    by true false e = absurd (true-is-not-false (sym e))
-
-pub add-with-room : (h : History) (slots text : List ℕ) (r : History) (told : Added) (left : List ℕ) → h .count < 100 → Addition h slots text r told left
-    → (more : List (List ℕ)) × (journalOf r left .entries ≡ journalOf h slots .entries ++ more) × (r .first ≡ h .first)
-add-with-room h slots text r told left room a =
-    let e = add-leaves h slots text r told left a in
-    let m = offered-more text (journalOf h slots) (let n = count-held h slots in omega arith) (isDone told) in
-    (m .0, ap (λ (j : Journal). j .entries) e ∙ m .1, sym (first-held r left) ∙ ap (λ (j : Journal). j .first) e ∙ m .2 ∙ first-held h slots)
 
 -- the numbers of two such states
 pub numbers-alike : (h : History) (slots : List ℕ) (h₂ : History) (slots₂ : List ℕ) → good h slots ≡ true → good h₂ slots₂ ≡ true → Alike (journalOf h slots) (journalOf h₂ slots₂)

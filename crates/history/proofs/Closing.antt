@@ -17,8 +17,7 @@ use Rattle.buffer.specs.Lend.{zeros}
 use Rattle.history.specs.Slots.{slotAfter, run, inOrder, turned, layout, slotAt}
 use Rattle.history.specs.Inner.{cutOut}
 use Rattle.history.proofs.Turned.{turned-back, slot-turned, write-turned, after-below}
-use Rattle.history.proofs.Layouts.{Short, length-run, run-append, length-in-order, in-order-rest, layout-turned, zeros-both}
-use Rattle.history.proofs.Kept.{short-take, short-drop}
+use Rattle.history.proofs.Layouts.{Short, short-take, short-drop, length-run, run-append, length-in-order, in-order-rest, layout-turned, zeros-both}
 use Rattle.history.proofs.Forgotten.{length-cut}
 
 -- a slot has 256 bytes

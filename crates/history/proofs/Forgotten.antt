@@ -14,11 +14,11 @@ use Rattle.buffer.specs.Compare.{sameBytes}
 use Rattle.history.specs.Entries.{usable, sound, total}
 use Rattle.history.specs.Forgotten.{without, repeats, remaining, gone}
 use Rattle.history.specs.Inner.{cutOut}
-use Rattle.history.proofs.Layouts.{Short}
+use Rattle.history.proofs.Layouts.{Short, short-append, short-take, short-drop}
 use Rattle.history.proofs.Judging.{usable-some}
 use Rattle.history.proofs.States.{holds, refutes}
 use Rattle.history.proofs.Totals.{total-append}
-use Rattle.history.proofs.Kept.{Entries, short-append, short-take, short-drop}
+use Rattle.history.proofs.Kept.{Entries, usable-at, sound-from}
 
 -- entries cut out from one number up to another: how many are left, that they are short, and their total
 pub length-cut : (s t : ℕ) (es : List (List ℕ)) → s ≤ t → t ≤ length es → length (cutOut s t es) ≡ length es - (t - s)
@@ -28,7 +28,7 @@ length-cut s t es h k =
     let c = length-drop t es in
     omega arith
 
-pub short-cut : (s t : ℕ) (es : List (List ℕ)) → Short es → Short (cutOut s t es)
+short-cut : (s t : ℕ) (es : List (List ℕ)) → Short es → Short (cutOut s t es)
 short-cut s t es h = short-append (take s es) (drop t es) (short-take s es h) (short-drop t es h)
 
 pub total-cut : (s t : ℕ) (es : List (List ℕ)) → s ≤ t → total (cutOut s t es) + total (take (t - s) (drop s es)) ≡ total es
@@ -42,13 +42,7 @@ total-cut s t es h =
     let c = total-append (take s es) (drop t es) in
     omega arith
 
--- entries that follow another are usable, and each differs from the one before it
-usable-at : (before : List ℕ) (es : List (List ℕ)) (i : ℕ) → i < length es → sound before es ≡ true → usable (getD es i []) ≡ true
-unfolding sound
-usable-at before [] i l s = absurd (omega arith)
-usable-at before (e ∷ es) zero l s = holds (usable e) _ s .0
-usable-at before (e ∷ es) (suc i) l s = usable-at e es i (omega arith) (refutes (sameBytes before e) _ (holds (usable e) _ s .1) .1)
-
+-- of entries that follow another each differs from the one before it
 differs-at : (before : List ℕ) (es : List (List ℕ)) (i : ℕ) → i < length es → sound before es ≡ true → sameBytes (getD (before ∷ es) i []) (getD es i []) ≡ false
 unfolding sound
 differs-at before [] i l s = absurd (omega arith)
@@ -61,18 +55,7 @@ neighbours es i l s e =
     let d = ap (λ (n : ℕ). sameBytes (getD ([] ∷ es) n []) (getD es (i + 1) [])) (sym on) ∙ differs-at [] es (i + 1) l s in
     true-is-not-false (sym (is-same (getD es i []) (getD es (i + 1) []) e) ∙ d)
 
--- entries from a number on are sound after another that differs from the first of them
-sound-from : (before other : List ℕ) (es : List (List ℕ)) (t : ℕ) → sound before es ≡ true → (t < length es → sameBytes other (getD es t []) ≡ false) → sound other (drop t es) ≡ true
-unfolding sound
-sound-from before other [] zero s d = refl
-sound-from before other [] (suc t) s d = refl
-sound-from before other (e ∷ es) zero s d =
-    let a = holds (usable e) _ s in
-    then-is _ _ _ (a .0) ∙ else-is _ _ _ (d (omega arith)) ∙ refutes (sameBytes before e) _ (a .1) .1
-sound-from before other (e ∷ es) (suc t) s d =
-    sound-from e other es t (refutes (sameBytes before e) _ (holds (usable e) _ s .1) .1) (λ l. d (omega arith))
-
--- and entries cut out leave sound ones where those that come together differ
+-- entries cut out leave sound ones where those that come together differ
 sound-cut : (before : List ℕ) (es : List (List ℕ)) (s t : ℕ) → s ≤ t → sound before es ≡ true → (t < length es → sameBytes (getD (before ∷ es) s []) (getD es t []) ≡ false)
     → sound before (cutOut s t es) ≡ true
 unfolding sound
@@ -93,6 +76,14 @@ module _ (k : ℕ) (es : List (List ℕ)) where
   pub first-alone : k ≡ 0 → repeats k (without k es) ≡ false
   unfolding repeats
   first-alone e = else-is _ _ _ (le-ltb 0 k (omega arith))
+
+  pub one-goes : repeats k (without k es) ≡ false → gone k es ≡ 1
+  unfolding gone
+  one-goes r = else-is _ _ _ r
+
+  pub two-gone : repeats k (without k es) ≡ true → gone k es ≡ 2
+  unfolding gone
+  two-gone r = then-is _ _ _ r
 
   module _ (there : k < length es) where
     front : length (take k es) ≡ k
@@ -145,23 +136,21 @@ module _ (k : ℕ) (es : List (List ℕ)) where
             (a, b, same-is _ _ (sym (come-together a b) ∙ r))
 
     -- what remains, as entries cut out
-    pub cut-one : repeats k (without k es) ≡ false → (remaining k es ≡ cutOut k (k + 1) es) × (gone k es ≡ 1)
-    unfolding remaining without gone
-    cut-one r = (else-is _ _ _ r, else-is _ _ _ r)
+    cut-one : repeats k (without k es) ≡ false → remaining k es ≡ cutOut k (k + 1) es
+    unfolding remaining without
+    cut-one r = else-is _ _ _ r
 
-    pub cut-two : repeats k (without k es) ≡ true → (remaining k es ≡ cutOut (k - 1) (k + 1) es) × (gone k es ≡ 2)
-    unfolding remaining without gone
+    cut-two : repeats k (without k es) ≡ true → remaining k es ≡ cutOut (k - 1) (k + 1) es
+    unfolding remaining without
     cut-two r =
         let p = together r .0 in
         let f = front in
-        let on : k - 1 + 1 ≡ k = omega arith in (
-          then-is _ _ _ r
-              ∙ ap (λ (l : List (List ℕ)). l ++ drop (k - 1 + 1) (take k es ++ drop (k + 1) es))
-              (take-append-le (k - 1) (take k es) (drop (k + 1) es) (omega arith) ∙ take-take (k - 1) k es (omega arith))
-              ∙ ap (λ (n : ℕ). take (k - 1) es ++ drop n (take k es ++ drop (k + 1) es)) on
-              ∙ ap (λ (l : List (List ℕ)). take (k - 1) es ++ l) (drop-at (take k es) (drop (k + 1) es) k front),
-          then-is _ _ _ r,
-        )
+        let on : k - 1 + 1 ≡ k = omega arith in
+        then-is _ _ _ r
+        ∙ ap (λ (l : List (List ℕ)). l ++ drop (k - 1 + 1) (take k es ++ drop (k + 1) es))
+        (take-append-le (k - 1) (take k es) (drop (k + 1) es) (omega arith) ∙ take-take (k - 1) k es (omega arith))
+        ∙ ap (λ (n : ℕ). take (k - 1) es ++ drop n (take k es ++ drop (k + 1) es)) on
+        ∙ ap (λ (l : List (List ℕ)). take (k - 1) es ++ l) (drop-at (take k es) (drop (k + 1) es) k front)
 
     -- two go exactly there
     pub two-go : gone k es ≡ 2 → (0 < k) × (k + 1 < length es) × (getD es (k - 1) [] ≡ getD es (k + 1) [])
@@ -169,18 +158,18 @@ module _ (k : ℕ) (es : List (List ℕ)) where
       where
         by : (t : Bool) → repeats k (without k es) ≡ t → (0 < k) × (k + 1 < length es) × (getD es (k - 1) [] ≡ getD es (k + 1) [])
         by true r = together r
-        by false r = absurd (let n = cut-one r .1 in omega arith)
+        by false r = absurd (let n = one-goes r in omega arith)
 
     pub then-two : 0 < k → k + 1 < length es → getD es (k - 1) [] ≡ getD es (k + 1) [] → gone k es ≡ 2
-    then-two p l e = cut-two (come-together p l ∙ is-same (getD es (k - 1) []) (getD es (k + 1) []) e) .1
+    then-two p l e = two-gone (come-together p l ∙ is-same (getD es (k - 1) []) (getD es (k + 1) []) e)
 
     -- one or two go, and what remains are those before them and those after entry k, in their order
     pub gone-few : (1 ≤ gone k es) × (gone k es ≤ 2) × (gone k es ≤ k + 1)
     gone-few = by (repeats k (without k es)) refl
       where
         by : (t : Bool) → repeats k (without k es) ≡ t → (1 ≤ gone k es) × (gone k es ≤ 2) × (gone k es ≤ k + 1)
-        by true r = let p = together r .0 in let e = cut-two r .1 in (omega arith, omega arith, omega arith)
-        by false r = let e = cut-one r .1 in (omega arith, omega arith, omega arith)
+        by true r = let p = together r .0 in let e = two-gone r in (omega arith, omega arith, omega arith)
+        by false r = let e = one-goes r in (omega arith, omega arith, omega arith)
 
     pub remaining-cut : remaining k es ≡ cutOut (k + 1 - gone k es) (k + 1) es
     remaining-cut = by (repeats k (without k es)) refl
@@ -189,8 +178,8 @@ module _ (k : ℕ) (es : List (List ℕ)) where
         cut start e = ap (λ (i : ℕ). cutOut i (k + 1) es) e
 
         by : (t : Bool) → repeats k (without k es) ≡ t → remaining k es ≡ cutOut (k + 1 - gone k es) (k + 1) es
-        by true r = let p = together r .0 in let e = cut-two r .1 in cut-two r .0 ∙ cut (k - 1) (omega arith)
-        by false r = let e = cut-one r .1 in cut-one r .0 ∙ cut k (omega arith)
+        by true r = let p = together r .0 in let e = two-gone r in cut-two r ∙ cut (k - 1) (omega arith)
+        by false r = let e = one-goes r in cut-one r ∙ cut k (omega arith)
 
     pub length-remaining : length (remaining k es) + gone k es ≡ length es
     length-remaining =
@@ -216,10 +205,10 @@ module _ (k : ℕ) (es : List (List ℕ)) where
         by true r =
             let a = together r in
             let b = a .1 in
-            ap (sound []) (cut-two r .0)
+            ap (sound []) (cut-two r)
             ∙ sound-cut [] es (k - 1) (k + 1) (omega arith) s
             (λ l. ap (sameBytes (getD ([] ∷ es) (k - 1) [])) (sym (a .2)) ∙ differs-at [] es (k - 1) (omega arith) s)
-        by false r = ap (sound []) (cut-one r .0) ∙ sound-cut [] es k (k + 1) (omega arith) s (λ l. apart (ltb 0 k) refl l)
+        by false r = ap (sound []) (cut-one r) ∙ sound-cut [] es k (k + 1) (omega arith) s (λ l. apart (ltb 0 k) refl l)
           where
             apart : (t : Bool) → ltb 0 k ≡ t → k + 1 < length es → sameBytes (getD ([] ∷ es) k []) (getD es (k + 1) []) ≡ false
             apart false p l =

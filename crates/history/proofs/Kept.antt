@@ -5,7 +5,7 @@ use mathlib.Core.Bool.{Bool, true, false, cond, not}
 use mathlib.Core.List.{List, [], _∷_, _++_}
 use native.Mathlib.Omega.{arith}
 use lib.Dec.{ltb}
-use lib.ListN.{length, take, drop, length-append}
+use lib.ListN.{length, drop, getD, length-append}
 use borrow.Author.Tests.{eq-eqb, le-leb, lt-ltb, ltb-true, ltb-false}
 use Rattle.buffer.proofs.Choices.{then-is, else-is}
 use Rattle.buffer.proofs.Ordering.{is-same}
@@ -15,7 +15,7 @@ use Rattle.text.specs.Decoding.{wellFormed}
 use Rattle.history.specs.Entries.{mostEntries, newestIs, isNew, withRoom, added, usable, sound}
 use Rattle.history.specs.Journal.{slotsOf, journalOf, good}
 use Rattle.history.specs.declared.stepping.History.{History}
-use Rattle.history.proofs.Layouts.{Short, none, more}
+use Rattle.history.proofs.Layouts.{Short, none, more, short-append, short-drop}
 use Rattle.history.proofs.Judging.{usable-some}
 use Rattle.history.proofs.States.{holds, refutes, Good}
 
@@ -56,29 +56,27 @@ sound-more before (e ∷ es) t s u n =
     let b = refutes (sameBytes before e) _ (a .1) in
     then-is _ _ _ (a .0) ∙ else-is _ _ _ (b .0) ∙ sound-more e es t (b .1) u n
 
--- without the oldest
-sound-drop : (e : List ℕ) (es : List (List ℕ)) → sound [] (e ∷ es) ≡ true → sound [] es ≡ true
+-- entries that follow another are usable
+pub usable-at : (before : List ℕ) (es : List (List ℕ)) (i : ℕ) → i < length es → sound before es ≡ true → usable (getD es i []) ≡ true
 unfolding sound
-sound-drop e [] s = refl
-sound-drop e (d ∷ es) s =
+usable-at before [] i l s = absurd (omega arith)
+usable-at before (e ∷ es) zero l s = holds (usable e) _ s .0
+usable-at before (e ∷ es) (suc i) l s = usable-at e es i (omega arith) (refutes (sameBytes before e) _ (holds (usable e) _ s .1) .1)
+
+-- entries from a number on are sound after another that differs from the first of them
+pub sound-from : (before other : List ℕ) (es : List (List ℕ)) (t : ℕ) → sound before es ≡ true → (t < length es → sameBytes other (getD es t []) ≡ false) → sound other (drop t es) ≡ true
+unfolding sound
+sound-from before other [] zero s d = refl
+sound-from before other [] (suc t) s d = refl
+sound-from before other (e ∷ es) zero s d =
     let a = holds (usable e) _ s in
-    let b = holds (usable d) _ (refutes (sameBytes [] e) _ (a .1) .1) in
-    then-is _ _ _ (b .0) ∙ else-is _ _ _ (usable-some d (b .0)) ∙ refutes (sameBytes e d) _ (b .1) .1
+    then-is _ _ _ (a .0) ∙ else-is _ _ _ (d (omega arith)) ∙ refutes (sameBytes before e) _ (a .1) .1
+sound-from before other (e ∷ es) (suc t) s d =
+    sound-from e other es t (refutes (sameBytes before e) _ (holds (usable e) _ s .1) .1) (λ l. d (omega arith))
 
--- entries one after the other, the first of them, and those from a number on
-pub short-append : (es fs : List (List ℕ)) → Short es → Short fs → Short (es ++ fs)
-short-append [] fs none k = k
-short-append (e ∷ es) fs (more h hs) k = more h (short-append es fs hs k)
-
-pub short-take : (n : ℕ) (es : List (List ℕ)) → Short es → Short (take n es)
-short-take zero es h = none
-short-take (suc n) [] none = none
-short-take (suc n) (e ∷ es) (more h hs) = more h (short-take n es hs)
-
-pub short-drop : (n : ℕ) (es : List (List ℕ)) → Short es → Short (drop n es)
-short-drop zero es h = h
-short-drop (suc n) [] none = none
-short-drop (suc n) (e ∷ es) (more h hs) = short-drop n es hs
+-- so they are without the oldest
+sound-drop : (e : List ℕ) (es : List (List ℕ)) → sound [] (e ∷ es) ≡ true → sound [] es ≡ true
+sound-drop e es s = sound-from [] [] (e ∷ es) 1 s (λ l. usable-some (getD es 0 []) (usable-at [] (e ∷ es) 1 l s))
 
 -- after entries that have room for it
 one-more : (es : List (List ℕ)) (t : List ℕ) → Short es → length es < 100 → sound [] es ≡ true → length t ≤ 255 → usable t ≡ true

@@ -1,4 +1,4 @@
--- No call on a history leads from a good state to a bad one (for the steps through it: Journals, `back-good` and `onward-good`; for forgetting: Shortened, `forgets-good`).
+-- No call on a history leads from a good state to a bad one (for the steps through it: Journals, `back-good` and `onward-good`).
 use Prim.Native.Nat.{ℕ}
 use mathlib.Core.Path.{_≡_, refl, _∙_}
 use mathlib.Core.Bool.{true}
@@ -9,7 +9,11 @@ use Rattle.history.specs.declared.stepping.History.{History}
 use Rattle.history.specs.declared.adding.Added.{Added}
 use Rattle.history.specs.declared.adding.Added.the-variants.{Done, BadState, TooLong, IllFormed}
 use Rattle.history.proofs.Journals.{Fair, same-good, fair-good, fair-none}
+use Rattle.history.specs.Forgotten.{Forgets}
+use Rattle.history.specs.declared.forgetting.Forgot.{Forgot}
+use Rattle.history.specs.declared.forgetting.Forgot.the-variants.{Gone, BadState as NoHistory, NoEntry}
 use Rattle.history.proofs.Called.{Taken, done-has, taken-fair}
+use Rattle.history.proofs.Shortened.{gone-good}
 
 -- what holds a history within the rules
 pub holds-good : (j : Journal) (r : History) (left : List ℕ) → Fair j → Holds j r left → good r left ≡ true
@@ -34,3 +38,9 @@ added-good h slots text r told left g a = by (addAnswer (good h slots) text) ref
     by BadState d p q = same-good p q ∙ g
     by (TooLong n) d p q = same-good p q ∙ g
     by (IllFormed n) d p q = same-good p q ∙ g
+
+-- an entry that is forgotten, whatever the answer
+pub forgets-good : (h : History) (slots : List ℕ) (k : ℕ) (r : History) (told : Forgot) (left : List ℕ) → good h slots ≡ true → Forgets h slots k r told left → good r left ≡ true
+forgets-good h slots k r (Gone n) left g a = gone-good h slots k r n left a
+forgets-good h slots k r NoHistory left g a = same-good (a .state) (a .bytes) ∙ g
+forgets-good h slots k r (NoEntry m) left g a = same-good (a .state) (a .bytes) ∙ g

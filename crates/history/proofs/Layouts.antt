@@ -42,6 +42,21 @@ pub data Short : List (List ℕ) → Type 0 where
   none : Short []
   more : {e : List ℕ} {es : List (List ℕ)} → length e ≤ 255 → Short es → Short (e ∷ es)
 
+-- entries one after the other, the first of them, and those from a number on
+pub short-append : (es fs : List (List ℕ)) → Short es → Short fs → Short (es ++ fs)
+short-append [] fs none k = k
+short-append (e ∷ es) fs (more h hs) k = more h (short-append es fs hs k)
+
+pub short-take : (n : ℕ) (es : List (List ℕ)) → Short es → Short (take n es)
+short-take zero es h = none
+short-take (suc n) [] none = none
+short-take (suc n) (e ∷ es) (more h hs) = more h (short-take n es hs)
+
+pub short-drop : (n : ℕ) (es : List (List ℕ)) → Short es → Short (drop n es)
+short-drop zero es h = h
+short-drop (suc n) [] none = none
+short-drop (suc n) (e ∷ es) (more h hs) = short-drop n es hs
+
 pub length-run : (es : List (List ℕ)) → Short es → length (run es) ≡ 256 * length es
 unfolding run
 length-run [] none = refl

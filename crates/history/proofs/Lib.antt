@@ -15,6 +15,6 @@ pub mod Journals
 pub mod Saved
 pub mod Called
 pub mod Begun
-pub mod Lasting
 pub mod Shortened
+pub mod Lasting
 pub mod Examples

@@ -1,4 +1,4 @@
--- Laws of forgetting over record and slots: entries cut out of a good state, which answer comes when and that there is one only, what is held after it, and that a good state stays good.
+-- Laws of forgetting over record and slots: entries cut out of a good state, which answer comes when and that there is one only, what is held after it, and that no trace of what went is left.
 use Prim.Native.Nat.{ℕ, _+_, _-_, _*_, _<_, _≤_}
 use mathlib.Core.Path.{_≡_, refl, sym, ap, _∙_}
 use mathlib.Core.Bool.{Bool, true, false, cond}
@@ -14,14 +14,14 @@ use Rattle.history.specs.Entries.{total}
 use Rattle.history.specs.Slots.{turned, entriesFrom}
 use Rattle.history.specs.Journal.{Journal, count, Alike, recordOf, slotsOf, journalOf, good}
 use Rattle.history.specs.Answer.{Holds}
-use Rattle.history.specs.Forgotten.{without, repeats, remaining, gone, forgotten, forgetAnswer, isGone, Forgets, value}
+use Rattle.history.specs.Forgotten.{without, repeats, remaining, gone, forgotten, forgetAnswer, isGone, recordLeft, slotsLeft, Forgets, value}
 use Rattle.history.specs.Inner.{cutOut, cutFrom}
 use Rattle.history.specs.declared.stepping.History.{History}
 use Rattle.history.specs.declared.forgetting.Forgot.{Forgot}
 use Rattle.history.specs.declared.forgetting.Forgot.the-variants.{Gone, BadState, NoEntry}
 use Rattle.history.proofs.Steps.{same-numbers}
 use Rattle.history.proofs.Journals.{Fair, count-held, first-held, same-held, same-good, good-fair, slots-held, fair-held, fair-good, good-total}
-use Rattle.history.proofs.Forgotten.{length-cut, total-cut, cut-one, cut-two, total-remaining, entries-remaining}
+use Rattle.history.proofs.Forgotten.{length-cut, total-cut, remaining-cut, total-remaining, entries-remaining}
 use Rattle.history.proofs.Closing.{layout-cut}
 
 -- entries cut out of a good state
@@ -86,17 +86,11 @@ module _ (h : History) (slots : List ℕ) (k : ℕ) where
     among : k < count (journalOf h slots)
     among = let n = count-held h slots in omega arith
 
-    forgets : (start n : ℕ) → (remaining k (journalOf h slots .entries) ≡ cutOut start (k + 1) (journalOf h slots .entries)) × (gone k (journalOf h slots .entries) ≡ n)
-        → Holds (cutFrom start (k + 1) (journalOf h slots)) r left → Forgets h slots k r (Gone n) left
-    forgets start n c o =
-        let p = holds-remaining (journalOf h slots) k start r left (c .0) o in
-        record { answer = ap Gone (sym (c .1)) ∙ sym (answer-gone is there); state = p .state; bytes = p .bytes }
-
-    pub forgets-one : repeats k (without k (journalOf h slots .entries)) ≡ false → Holds (cutFrom k (k + 1) (journalOf h slots)) r left → Forgets h slots k r (Gone 1) left
-    forgets-one e = forgets k 1 (cut-one k (journalOf h slots .entries) among e)
-
-    pub forgets-two : repeats k (without k (journalOf h slots .entries)) ≡ true → Holds (cutFrom (k - 1) (k + 1) (journalOf h slots)) r left → Forgets h slots k r (Gone 2) left
-    forgets-two e = forgets (k - 1) 2 (cut-two k (journalOf h slots .entries) among e)
+    pub forgets-gone : (n : ℕ) → n ≡ gone k (journalOf h slots .entries) → Holds (cutFrom (k + 1 - n) (k + 1) (journalOf h slots)) r left → Forgets h slots k r (Gone n) left
+    forgets-gone n e o =
+        let es : List (List ℕ) = journalOf h slots .entries in
+        let p = holds-remaining (journalOf h slots) k (k + 1 - n) r left (remaining-cut k es among ∙ ap (λ (m : ℕ). cutOut (k + 1 - m) (k + 1) es) (sym e)) o in
+        record { answer = ap Gone e ∙ sym (answer-gone is there); state = p .state; bytes = p .bytes }
 
   -- no second answer, state or buffer satisfies it
   pub one-forget : (r r′ : History) (told told′ : Forgot) (left left′ : List ℕ) → Forgets h slots k r told left → Forgets h slots k r′ told′ left′
@@ -104,8 +98,8 @@ module _ (h : History) (slots : List ℕ) (k : ℕ) where
   one-forget r r′ told told′ left left′ a b =
       let e : told ≡ told′ = a .answer ∙ sym (b .answer) in (
         e,
-        a .state ∙ ap (λ (x : Forgot). cond (isGone x) (recordOf (forgotten k (journalOf h slots))) h) e ∙ sym (b .state),
-        a .bytes ∙ ap (λ (x : Forgot). cond (isGone x) (slotsOf (forgotten k (journalOf h slots))) slots) e ∙ sym (b .bytes),
+        a .state ∙ ap (λ (x : Forgot). recordLeft x h (forgotten k (journalOf h slots))) e ∙ sym (b .state),
+        a .bytes ∙ ap (λ (x : Forgot). slotsLeft x slots (forgotten k (journalOf h slots))) e ∙ sym (b .bytes),
       )
 
 -- an entry goes only of a good state, and if it is there
@@ -152,13 +146,13 @@ module _ (h : History) (slots : List ℕ) (k : ℕ) (r : History) (n : ℕ) (lef
       ∙ sym (good-total h slots was-good .0)
 
 -- an entry that is there goes, of a good state
-pub forgets-it : (h : History) (slots : List ℕ) (k : ℕ) (r : History) (told : Forgot) (left : List ℕ) → good h slots ≡ true → k < h .count → Forgets h slots k r told left
+forgets-it : (h : History) (slots : List ℕ) (k : ℕ) (r : History) (told : Forgot) (left : List ℕ) → good h slots ≡ true → k < h .count → Forgets h slots k r told left
     → (told ≡ Gone (gone k (journalOf h slots .entries))) × (r ≡ recordOf (forgotten k (journalOf h slots))) × (left ≡ slotsOf (forgotten k (journalOf h slots)))
 forgets-it h slots k r told left g l a =
     let e : told ≡ Gone (gone k (journalOf h slots .entries)) = a .answer ∙ answer-gone h slots k g l in (
       e,
-      a .state ∙ ap (λ (x : Forgot). cond (isGone x) (recordOf (forgotten k (journalOf h slots))) h) e,
-      a .bytes ∙ ap (λ (x : Forgot). cond (isGone x) (slotsOf (forgotten k (journalOf h slots))) slots) e,
+      a .state ∙ ap (λ (x : Forgot). recordLeft x h (forgotten k (journalOf h slots))) e,
+      a .bytes ∙ ap (λ (x : Forgot). slotsLeft x slots (forgotten k (journalOf h slots))) e,
     )
 
 -- NO TRACE of it is left: two good states that begin in one slot and differ in entry k alone are the same after it went, in the answer, in the record and in every byte
@@ -182,13 +176,7 @@ no-trace h slots h₂ slots₂ k g g₂ l l₂ f e r r₂ told told₂ left left
         → _≡_ {A = Journal} (record { entries = es; place = length es; first = m }) (record { entries = fs; place = length fs; first = n })
     after u v = cc
 
--- whatever it answers, a good state stays good
-pub forgets-good : (h : History) (slots : List ℕ) (k : ℕ) (r : History) (told : Forgot) (left : List ℕ) → good h slots ≡ true → Forgets h slots k r told left → good r left ≡ true
-forgets-good h slots k r (Gone n) left g a = gone-good h slots k r n left a
-forgets-good h slots k r BadState left g a = same-good (a .state) (a .bytes) ∙ g
-forgets-good h slots k r (NoEntry m) left g a = same-good (a .state) (a .bytes) ∙ g
-
--- and the first slot stays
+-- whatever it answers, the first slot stays
 pub forget-first : (h : History) (slots : List ℕ) (k : ℕ) (r : History) (told : Forgot) (left : List ℕ) → Forgets h slots k r told left → r .first ≡ h .first
 unfolding recordOf journalOf
 forget-first h slots k r told left a = ap (λ (x : History). x .first) (a .state) ∙ by (isGone told)
@@ -198,7 +186,7 @@ forget-first h slots k r told left a = ap (λ (x : History). x .first) (a .state
     by false = refl
 
 -- entries and place after it are the same wherever the entries lie
-pub forgotten-alike : (k : ℕ) (i j : Journal) → Alike i j → Alike (forgotten k i) (forgotten k j)
+forgotten-alike : (k : ℕ) (i j : Journal) → Alike i j → Alike (forgotten k i) (forgotten k j)
 forgotten-alike k i j a =
     record {
       entries = ap (remaining k) (a .entries);

@@ -40,11 +40,18 @@ isGone (Gone n) = true
 isGone BadState = false
 isGone (NoEntry k) = false
 
--- a refusal keeps the state and every byte (3.19, 4.5)
+-- a refusal keeps the record and every byte (3.19, 4.5)
+abbrev pub recordLeft : Forgot → History → Journal → History
+recordLeft told h j = cond (isGone told) (recordOf j) h
+
+abbrev pub slotsLeft : Forgot → List ℕ → Journal → List ℕ
+slotsLeft told slots j = cond (isGone told) (slotsOf j) slots
+
+-- (3.19)
 pub record Forgets (h : History) (slots : List ℕ) (k : ℕ) (r : History) (told : Forgot) (left : List ℕ) : Type 0 where
   pub answer : told ≡ forgetAnswer (good h slots) k (journalOf h slots .entries)
-  pub state : r ≡ cond (isGone told) (recordOf (forgotten k (journalOf h slots))) h
-  pub bytes : left ≡ cond (isGone told) (slotsOf (forgotten k (journalOf h slots))) slots
+  pub state : r ≡ recordLeft told h (forgotten k (journalOf h slots))
+  pub bytes : left ≡ slotsLeft told slots (forgotten k (journalOf h slots))
 
 -- the refusal's number (STANDARD 10.1; 0: none), and the value that goes with it
 abbrev pub number : Forgot → ℕ

@@ -43,9 +43,10 @@ judged before (suc n) bytes =
 unfoldable pub tallied : ℕ → ℕ → List ℕ → Bool
 tallied n sum bytes = cond (judged [] n bytes) (eqb sum (total (entriesOf n bytes))) false
 
--- a history without the entries from one number up to another, at the place that is the count then
+-- entries without those from one number up to another
 abbrev pub cutOut : ℕ → ℕ → List (List ℕ) → List (List ℕ)
 cutOut start end es = take start es ++ drop end es
 
+-- a history without them, at the place that is the count then
 abbrev pub cutFrom : ℕ → ℕ → Journal → Journal
 cutFrom start end j = record { entries = cutOut start end (j .entries); place = length (cutOut start end (j .entries)); first = j .first }

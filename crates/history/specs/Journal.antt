@@ -3,7 +3,7 @@
 use Prim.Native.Nat.{ℕ}
 use mathlib.Core.Path.{_≡_}
 use mathlib.Core.Bool.{Bool, false, cond}
-use mathlib.Core.List.{List, []}
+use mathlib.Core.List.{List, [], _++_}
 use lib.Dec.{ltb, leb, eqb}
 use lib.ListN.{length, getD}
 use Rattle.buffer.specs.Compare.{sameBytes}
@@ -50,6 +50,12 @@ atPlace j place = record { entries = j .entries; place = place; first = j .first
 pub record Alike (j k : Journal) : Type 0 where
   pub entries : k .entries ≡ j .entries
   pub place : k .place ≡ j .place
+
+-- a history that has all entries of another in front, in the same slots (3.21)
+pub record Longer (j k : Journal) : Type 0 where
+  pub more : List (List ℕ)
+  pub entries : k .entries ≡ j .entries ++ more
+  pub first : k .first ≡ j .first
 
 -- the record and the slots that hold a history, and the history that they hold (3.12, 3.15, 3.16, 4.3)
 unfoldable pub recordOf : Journal → History

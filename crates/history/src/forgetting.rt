@@ -9,7 +9,7 @@ ghost use Rattle.history.specs.Entries.{total};
 ghost use Rattle.history.specs.Slots.{slotSize, slotCount, slotsSize, turned};
 ghost use Rattle.history.specs.Journal.{journalOf, good};
 ghost use Rattle.history.specs.Answer.{Holds};
-ghost use Rattle.history.specs.Forgotten.{without, repeats, Forgets};
+ghost use Rattle.history.specs.Forgotten.{gone, Forgets};
 ghost use Rattle.history.specs.Inner.{cutFrom};
 use super::slots::clear;
 use super::slots::copy_slot;
@@ -34,23 +34,26 @@ pub struct Forgetting {
     pub answer: Forgot,
 }
 
-// Whether entry k stands between two equal entries, which would come together without it.
-fn is_between(history: History, slots: &[u8], k: usize) -> bool
+// How many entries go with entry k: itself, and the older of two equal ones that would come together without it.
+fn how_many_go(history: History, slots: &[u8], k: usize) -> usize
     requires { ⌜ (k < history .count) × (history .count ≤ slotCount) ⌝ }
-    ensures { λ r. ⌜ r ≡ repeats k (without k (journalOf history (now (slots .entry)) .entries)) ⌝ }
+    ensures { λ r. ⌜ r ≡ gone k (journalOf history (now (slots .entry)) .entries) ⌝ }
 {
     let next = k + 1;
     if k == 0 {
-        return false;
+        return 1;
     }
     if history.count <= next {
-        return false;
+        return 1;
     }
-    same(history.recall(slots, k - 1), history.recall(slots, next))
+    if same(history.recall(slots, k - 1), history.recall(slots, next)) {
+        return 2;
+    }
+    1
 }
 
 // How many bytes the entries have together from one number up to another.
-fn lengths(history: History, slots: &[u8], start: usize, end: usize) -> usize
+fn total_of(history: History, slots: &[u8], start: usize, end: usize) -> usize
     requires { ⌜ (good history (now slots) ≡ true) × (start ≤ end) × (end ≤ history .count) ⌝ }
     ensures { λ r. ⌜ r ≡ total (take (end - start) (drop start (journalOf history (now (slots .entry)) .entries))) ⌝ }
 {
@@ -63,7 +66,7 @@ fn lengths(history: History, slots: &[u8], start: usize, end: usize) -> usize
     sum
 }
 
-// Moves the entries from one number up to the count down to another number.
+// Moves the entries from number `end` up to the count down to number `start`.
 fn close_up(slots: &mut [u8], first: usize, start: usize, end: usize, count: usize)
     requires { ⌜ (length (now slots) ≡ slotsSize) × (first < slotCount) × (start ≤ end) × (end ≤ count) × (count ≤ slotCount) ⌝ }
     ensures { λ _. ⌜ turned first (now (slots .exit)) ≡ overAt (take (slotSize * (count - end)) (drop (slotSize * end) (turned first (now (slots .entry))))) (turned first (now (slots .entry))) (slotSize * start) ⌝ }
@@ -77,7 +80,7 @@ fn close_up(slots: &mut [u8], first: usize, start: usize, end: usize, count: usi
     }
 }
 
-// Writes zeros into the slots of the entries from one number up to another.
+// Writes zeros into the slots of entries, from one number up to another.
 fn clear_slots(slots: &mut [u8], first: usize, start: usize, end: usize)
     requires { ⌜ (length (now slots) ≡ slotsSize) × (first < slotCount) × (start ≤ end) × (end ≤ slotCount) ⌝ }
     ensures { λ _. ⌜ turned first (now (slots .exit)) ≡ overAt (zeros (slotSize * (end - start))) (turned first (now (slots .entry))) (slotSize * start) ⌝ }
@@ -98,7 +101,7 @@ fn cut(history: History, slots: &mut [u8], start: usize, end: usize) -> History
 {
     let first = history.first;
     let count = history.count;
-    let total = history.total - lengths(history, slots, start, end);
+    let total = history.total - total_of(history, slots, start, end);
     let left = count - (end - start);
     close_up(slots, first, start, end, count);
     clear_slots(slots, first, left, count);
@@ -121,16 +124,12 @@ pub fn forget_tested(history: History, slots: &mut [u8], k: usize) -> Forgetting
             answer: Forgot::NoEntry(k),
         };
     }
-    let next = k + 1;
-    if is_between(history, slots, k) {
-        return Forgetting {
-            history: cut(history, slots, k - 1, next),
-            answer: Forgot::Gone(2),
-        };
-    }
+    let gone = how_many_go(history, slots, k);
+    let end = k + 1;
+    let start = end - gone;
     Forgetting {
-        history: cut(history, slots, k, next),
-        answer: Forgot::Gone(1),
+        history: cut(history, slots, start, end),
+        answer: Forgot::Gone(gone),
     }
 }
 

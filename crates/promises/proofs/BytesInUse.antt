@@ -34,7 +34,7 @@ use Rattle.editor.proofs.Lasting.{Reached as ReachedByValue}
 use Rattle.state.specs.State.{historyIn, goodSaved}
 use Rattle.state.specs.Calls.{freshSaved, SavedKey, SavedAdd, SavedForget}
 use Rattle.state.proofs.Lasting.{Reached}
-use Rattle.state.proofs.Savings.{good-saved-parts, saved-total, fresh-saved}
+use Rattle.state.proofs.Savings.{good-saved-parts, good-history, saved-total, fresh-saved}
 use Rattle.rust.specs.Same.{original}
 use Rattle.session.specs.declared.standing.Session.{Session}
 use Rattle.promises.proofs.Tables.{told}
@@ -61,7 +61,7 @@ unfolding inUse
 saved-right state slots g =
     let k = good-saved-parts state slots g in
     let t : getD state 263 0 * 256 + getD state 264 0 ≡ historyIn state .total = saved-total state (k .0) in
-    let r = good-total (historyIn state) slots (state-parts _ _ slots (k .1) .1) in
+    let r = good-total (historyIn state) slots (good-history state slots g) in
     (t ∙ r .0, rw t (r .1))
 
 pub in-bytes : (state slots : List ℕ) → Reached state slots → (inUse state ≡ total (journalOf (historyIn state) slots .entries)) × (inUse state ≤ 25500)

@@ -13,7 +13,7 @@ use Rattle.words.specs.declared.tokenizer.Tokens.{Tokens}
 use Rattle.words.specs.Answer.{number as wordsNumber, value as wordsValue}
 use Rattle.history.specs.Entries.{total}
 use Rattle.history.specs.Slots.{slotAfter, ChangesOnly}
-use Rattle.history.specs.Journal.{offered, journalOf}
+use Rattle.history.specs.Journal.{offered, Longer, journalOf}
 use Rattle.history.specs.Answer.{recordBy, Addition, number as addNumber, value as addValue}
 use Rattle.history.specs.Forgotten.{without, Forgets, number as forgetNumber, value as forgetValue}
 use Rattle.history.specs.declared.stepping.History.{History}
@@ -36,7 +36,7 @@ use Rattle.editor.proofs.Lines.{good-line, length-of}
 use Rattle.editor.proofs.States.{good-parts, editor-parts, state-parts}
 use Rattle.editor.proofs.Fine.{stays-good}
 use Rattle.state.specs.State.{savedOf, editorIn, historyIn, goodSaved}
-use Rattle.state.specs.Calls.{Beginning, turnIn, forgetIn, SavedForget, number as begunNumber, value as begunValue}
+use Rattle.state.specs.Calls.{Beginning, turnIn, savedForgetAnswer, SavedForget, number as begunNumber, value as begunValue}
 use Rattle.state.specs.declared.calls.Begun.{Begun}
 use Rattle.state.specs.declared.calls.Begun.the-variants.{Ready, NoRoom as NoSpace, BadState as NoState}
 use Rattle.state.proofs.Savings.{held-saved, history-saved, good-saved-parts}
@@ -73,7 +73,7 @@ use Rattle.promises.proofs.KeyAnswers.{Keyed, keyed, pressTable, press-
 use Rattle.promises.proofs.Lasting.{never-bad, full-line-saved}
 use Rattle.promises.proofs.BytesInUse.{inUse, in-bytes}
 use Rattle.promises.proofs.FirstSlot.{firstByte, in-bytes as first-in-bytes, saved-key-changes-one, saved-add-changes-one, same-saved-key, same-saved-add, same-saved-forget}
-use Rattle.promises.proofs.Forgetting.{editor-stays, as-by-value, no-trace-saved}
+use Rattle.promises.proofs.Forgetting.{editor-stays, as-by-value, no-trace-saved, GoesOnSaved, no-call as not-on, by-add as on-by-add, by-key as on-by-key, drops-none-saved}
 use Rattle.promises.proofs.SameAsRust.{words, key, add-command, forget}
 use Rattle.promises.proofs.OtherCommands.{named, Agree, parse-alone, help-alone, run-alone}
 
@@ -214,7 +214,8 @@ pub add-changes-by-calls : (state slots text : List ℕ) (p : ℕ) (state′ slo
 add-changes-by-calls state slots text p state′ slots′ c =
     let b = add-packs state slots text p state′ slots′ c in saved-add-changes-one state slots text (b .0) state′ slots′ (b .1)
 
--- and answer the same 64 bits in two good states that differ in where their history begins and in nothing else, with the same bytes in both buffers, and leave two such states
+-- a key, an add and an entry forgotten answer the same 64 bits in two good states that differ in where their history begins and in nothing else, with the same bytes in line and screen,
+-- and leave two such states
 module _ (state slots state₂ slots₂ : List ℕ) (g : goodSaved state slots ≡ true) (g₂ : goodSaved state₂ slots₂ ≡ true) (a : SameBut (heldIn state slots) (heldIn state₂ slots₂)) where
   pub same-key-by-calls : (prompt : List ℕ) (byte : ℕ) (line screen : List ℕ) (p q : ℕ) (state′ slots′ line′ screen′ state₂′ slots₂′ line₂′ screen₂′ : List ℕ)
       → KeyCall state slots prompt byte line screen p state′ slots′ line′ screen′ → KeyCall state₂ slots₂ prompt byte line screen q state₂′ slots₂′ line₂′ screen₂′
@@ -255,7 +256,7 @@ gone-so (NoEntry n) p e z = absurd (omega arith)
 
 pub forgets-by-calls : (state slots : List ℕ) (k p : ℕ) (state′ slots′ : List ℕ) → ForgetCall state slots k p state′ slots′ → numberIn p ≡ 0
     → (n : ℕ) × (p ≡ plain 0 n) × Forgets (historyIn state) slots k (historyIn state′) (Gone n) slots′
-unfolding forgetIn
+unfolding savedForgetAnswer
 forgets-by-calls state slots k p state′ slots′ c zero =
     let b = forget-packs state slots k p state′ slots′ c in
     let g = gone-so (b .0) p (b .2) zero in
@@ -265,6 +266,7 @@ forgets-by-calls state slots k p state′ slots′ c zero =
       as-by-value state slots k (Gone (g .0)) state′ slots′ made (gone-has (goodSaved state slots) k (journalOf (historyIn state) slots .entries) (g .0) (made .answer) .0),
     )
 
+-- no trace of it is left in the history's bytes and in the slots (the line stays, also where it was recalled from that entry)
 pub no-trace-by-calls : (state slots state₂ slots₂ : List ℕ) (k : ℕ) → goodSaved state slots ≡ true → goodSaved state₂ slots₂ ≡ true → k < historyIn state .count → k < historyIn state₂ .count
     → take 261 state₂ ≡ take 261 state → historyIn state₂ .first ≡ historyIn state .first
     → without k (journalOf (historyIn state₂) slots₂ .entries) ≡ without k (journalOf (historyIn state) slots .entries)
@@ -275,6 +277,24 @@ no-trace-by-calls state slots state₂ slots₂ k g g₂ l l₂ e f w p q state�
     let y = forget-packs state₂ slots₂ k q state₂′ slots₂′ d in
     let s = no-trace-saved state slots state₂ slots₂ k g g₂ l l₂ e f w (x .0) (y .0) state′ slots′ state₂′ slots₂′ (x .1) (y .1) in
     (y .2 ∙ ap (λ (r : Forgot). plain (forgetNumber r) (forgetValue r)) (s .0) ∙ sym (x .2), s .1, s .2)
+
+-- and its room is given back: keys and adds to a history that has not 100 entries again drop none of those that remained
+pub data GoesOnByCalls (state slots : List ℕ) : List ℕ → List ℕ → Type 0 where
+  no-call : GoesOnByCalls state slots state slots
+  by-add : {mid held text state′ slots′ : List ℕ} {p : ℕ} → GoesOnByCalls state slots mid held → historyIn mid .count < 100 → AddCall mid held text p state′ slots′
+      → GoesOnByCalls state slots state′ slots′
+  by-key : {mid held prompt line screen state′ slots′ line′ screen′ : List ℕ} {byte p : ℕ} → GoesOnByCalls state slots mid held → historyIn mid .count < 100
+      → KeyCall mid held prompt byte line screen p state′ slots′ line′ screen′ → GoesOnByCalls state slots state′ slots′
+
+goes-on : {state slots state′ slots′ : List ℕ} → GoesOnByCalls state slots state′ slots′ → GoesOnSaved state slots state′ slots′
+goes-on no-call = not-on
+goes-on (by-add {mid} {held} {text} {state′} {slots′} {p} m room c) = on-by-add (goes-on m) room (add-packs mid held text p state′ slots′ c .1)
+goes-on (by-key {mid} {held} {prompt} {line} {screen} {state′} {slots′} {line′} {screen′} {byte} {p} m room c) =
+    on-by-key (goes-on m) room (key-packs mid held prompt byte line screen p state′ slots′ line′ screen′ c .1)
+
+pub drops-none-by-calls : (state slots state′ slots′ : List ℕ) → goodSaved state slots ≡ true → GoesOnByCalls state slots state′ slots′
+    → (goodSaved state′ slots′ ≡ true) × Longer (journalOf (historyIn state) slots) (journalOf (historyIn state′) slots′)
+drops-none-by-calls state slots state′ slots′ g m = drops-none-saved state slots state′ slots′ g (goes-on m)
 
 pub full-line : (state slots prompt : List ℕ) (byte : ℕ) (line screen : List ℕ) (p : ℕ) (state′ slots′ line′ screen′ : List ℕ)
     → KeyCall state slots prompt byte line screen p state′ slots′ line′ screen′ → goodSaved state slots ≡ true → goodPrompt prompt ≡ true → limit ≤ length line

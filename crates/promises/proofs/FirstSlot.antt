@@ -1,5 +1,5 @@
 -- Where a history begins: the record holds the slot of the oldest entry, 0 to 99, and the others follow round the end. An add and a key change the bytes of one slot at most; and what is
--- answered, shown, submitted and held after every key and add is the same wherever the entries lie. (The same of the calls for Rust and C: Exported. What a history is: SameAsRust.)
+-- answered, shown, submitted and held after every key, add and entry that is forgotten is the same wherever the entries lie. (The same of the calls for Rust and C: Exported. What a history is: SameAsRust.)
 use Prim.Native.Nat.{ℕ, _<_, _≤_}
 use mathlib.Core.Path.{_≡_, refl, ap, _∙_}
 use mathlib.Core.Bool.{Bool, true, false, cond}
@@ -21,9 +21,9 @@ use Rattle.history.proofs.Steps.{back-placed, onward-placed, same-steps}
 use Rattle.history.proofs.States.{good-has}
 use Rattle.history.proofs.Journals.{Fair, good-fair, fair-held, fair-good, count-held, slots-held}
 use Rattle.history.proofs.Called.{add-after}
-use Rattle.history.proofs.Lasting.{added-good}
+use Rattle.history.proofs.Lasting.{added-good, forgets-good}
 use Rattle.history.proofs.Begun.{entry-lies, zeros-lie, add-changes, numbers-alike, add-alike as add-alike-by-value}
-use Rattle.history.proofs.Shortened.{forget-first, forgets-good, forget-alike as forget-alike-by-value}
+use Rattle.history.proofs.Shortened.{forget-first, forget-alike as forget-alike-by-value}
 use Rattle.keys.specs.declared.standing.Profile.{Profile}
 use Rattle.keys.specs.Modes.{profileNumber}
 use Rattle.editor.specs.declared.line.Editor.{Editor}
@@ -40,7 +40,7 @@ use Rattle.state.specs.State.{historyIn, goodSaved}
 use Rattle.state.specs.Calls.{freshSaved, SavedKey, SavedAdd, SavedForget}
 use Rattle.state.proofs.Stored.{heldIn}
 use Rattle.state.proofs.Lasting.{Reached, key-stays, add-stays, forget-stays}
-use Rattle.state.proofs.Savings.{good-saved-parts, saved-first, fresh-saved}
+use Rattle.state.proofs.Savings.{good-history, saved-first, fresh-saved}
 use Rattle.state.proofs.Begun.{key-changes-saved, add-changes-saved, key-alike, add-alike, forget-alike}
 use Rattle.session.specs.declared.standing.Session.{Session}
 use Rattle.promises.proofs.Tables.{told}
@@ -71,7 +71,7 @@ abbrev pub firstByte : List ℕ → ℕ
 firstByte state = getD state 265 0
 
 first-below : (state slots : List ℕ) → goodSaved state slots ≡ true → firstByte state < 100
-first-below state slots g = rw (saved-first state) (good-has (historyIn state) slots (state-parts _ _ slots (good-saved-parts state slots g .1) .1) .begins)
+first-below state slots g = rw (saved-first state) (good-has (historyIn state) slots (good-history state slots g) .begins)
 
 pub in-bytes : (state slots : List ℕ) → Reached state slots → (firstByte state ≡ historyIn state .first) × (firstByte state < 100)
 in-bytes state slots r = (saved-first state, first-below state slots (never-bad state slots r))

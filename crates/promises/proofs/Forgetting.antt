@@ -1,9 +1,9 @@
--- Forgetting an entry: which go, what remains of the entries, of the buffer and of the state, that no trace of what went is left, and that its room is given back. (What is answered and
--- refused: KeyAnswers. The total: BytesInUse. The first slot: FirstSlot. The Rust's history with the shortened list: SameAsRust. The calls for Rust and C: Exported.)
+-- Forgetting an entry: which go, what remains of the entries, of the buffer and of the state, that the history keeps no trace of what went, and that its room is given back. (What is
+-- answered and refused: KeyAnswers. The total: BytesInUse. The first slot: FirstSlot. The Rust's history with the shortened list: SameAsRust. The calls for Rust and C: Exported.)
 use Prim.Native.Nat.{ℕ, _+_, _-_, _<_, _≤_}
 use mathlib.Core.Path.{_≡_, refl, sym, ap, _∙_}
 use mathlib.Core.Bool.{Bool, true, false, cond}
-use mathlib.Core.List.{List, [], _++_, append-nil, append-assoc}
+use mathlib.Core.List.{List, [], _++_}
 use native.Mathlib.Omega.{arith}
 use lib.Dec.{ltb}
 use lib.ListN.{length, take, drop}
@@ -11,25 +11,31 @@ use borrow.Author.Tests.{ltb-true, ltb-false}
 use Rattle.buffer.specs.Lend.{zeros}
 use Rattle.history.specs.Entries.{sound}
 use Rattle.history.specs.Slots.{slotAfter, slot, slotAt}
-use Rattle.history.specs.Journal.{Journal, entryOf, journalOf, good}
+use Rattle.history.specs.Journal.{Journal, entryOf, Longer, slotsOf, journalOf, good}
 use Rattle.history.specs.Answer.{Addition}
 use Rattle.history.specs.Forgotten.{without, remaining, Forgets}
 use Rattle.history.specs.declared.stepping.History.{History}
 use Rattle.history.specs.declared.adding.Added.{Added}
 use Rattle.history.specs.declared.forgetting.Forgot.{Forgot}
 use Rattle.history.specs.declared.forgetting.Forgot.the-variants.{Gone}
-use Rattle.history.proofs.Journals.{count-held, place-held, good-fair}
+use Rattle.history.proofs.Journals.{count-held, place-held, good-fair, slots-held}
 use Rattle.history.proofs.Forgotten.{gone-few, two-go, then-two, remaining-cut, length-remaining, sound-remaining, neighbours}
 use Rattle.history.proofs.States.{good-has}
 use Rattle.history.proofs.Shortened.{gone-has, was-there, so-many, forget-after, gone-good, forget-first, no-trace as no-trace-by-value}
-use Rattle.history.proofs.Begun.{add-with-room}
+use Rattle.history.proofs.Called.{longer-same, longer-on, add-longer}
 use Rattle.editor.specs.Saved.{savedSize as editorSize}
-use Rattle.editor.proofs.States.{state-parts}
-use Rattle.state.specs.State.{savedOf, editorIn, historyIn, goodSaved}
-use Rattle.state.specs.Calls.{SavedForget}
-use Rattle.state.proofs.Savings.{good-saved-parts}
+use Rattle.editor.specs.declared.line.Editor.{Editor}
+use Rattle.editor.specs.declared.drawing.KeyAnswer.{KeyAnswer}
+use Rattle.editor.specs.declared.drawing.Pressed.{Pressed}
+use Rattle.editor.specs.Answer.{Pressing}
+use Rattle.editor.proofs.Begun.{key-longer}
+use Rattle.state.specs.State.{historyIn, goodSaved}
+use Rattle.state.specs.Calls.{SavedKey, SavedAdd, SavedForget}
+use Rattle.state.proofs.Savings.{good-history}
 use Rattle.state.proofs.Stored.{same-editor}
-use Rattle.state.proofs.ByValue.{same-saved, forget-saved, forget-held, forget-by-value, forget-keeps}
+use Rattle.state.proofs.ByValue.{same-saved, forget-by-value, forget-saved, forget-keeps}
+use Rattle.state.proofs.Lasting.{key-stays, add-stays}
+use Rattle.state.proofs.Begun.{key-longer-saved, add-longer-saved}
 use Rattle.promises.proofs.FirstSlot.{entry-in-slot, zeros-in-slot}
 
 -- ONE REMOVAL MORE IS ALWAYS ENOUGH: entries of which each differs from the one before it are such again, whichever of them is forgotten
@@ -87,7 +93,10 @@ module _ (h : History) (slots : List ℕ) (k : ℕ) (r : History) (n : ℕ) (lef
   pub still-good : good r left ≡ true
   still-good = gone-good h slots k r n left a
 
-  -- THE BUFFER holds the entries that remain, each in its slot, and zeros in all other slots: nothing else
+  -- THE BUFFER is what holds the entries that remain: each in its slot, and zeros in all other slots
+  pub whole : left ≡ slotsOf (journalOf r left)
+  whole = sym (slots-held r left still-good)
+
   pub every-slot : (i : ℕ) → i < 100 → slotAt (slotAfter (h .first) i) left ≡ cond (ltb i (r .count)) (slot (entryOf (journalOf r left) i)) (zeros 256)
   every-slot i l = ap (λ (f : ℕ). slotAt (slotAfter f i) left) (sym (numbers .2)) ∙ by (ltb i (r .count)) refl
     where
@@ -101,24 +110,21 @@ pub no-trace : (h : History) (slots : List ℕ) (h₂ : History) (slots₂ : Lis
     → (r r₂ : History) (x x₂ : Forgot) (left left₂ : List ℕ) → Forgets h slots k r x left → Forgets h₂ slots₂ k r₂ x₂ left₂ → (x₂ ≡ x) × (r₂ ≡ r) × (left₂ ≡ left)
 no-trace = no-trace-by-value
 
--- THE ROOM IS GIVEN BACK: adds in any number, whatever each answers, each to a history that has not 100 entries again, drop none of those that remained, nor move one from its slot
-pub data AddsOn (h : History) (slots : List ℕ) : History → List ℕ → Type 0 where
-  no-add : AddsOn h slots h slots
-  one-more : {i r : History} {held text left : List ℕ} {told : Added} → AddsOn h slots i held → i .count < 100 → Addition i held text r told left → AddsOn h slots r left
+-- THE ROOM IS GIVEN BACK: keys and adds in any number, whatever each is answered, each to a history that has not 100 entries again, drop none of those that remained, nor move one from
+-- its slot (`Longer`)
+pub data GoesOn (e : Editor) (h : History) (slots : List ℕ) : Editor → History → List ℕ → Type 0 where
+  no-call : GoesOn e h slots e h slots
+  by-add : {d : Editor} {i r : History} {held text left : List ℕ} {told : Added} → GoesOn e h slots d i held → i .count < 100 → Addition i held text r told left → GoesOn e h slots d r left
+  by-key : {d : Editor} {i : History} {held prompt line screen held′ line′ screen′ : List ℕ} {byte : ℕ} {k : KeyAnswer} → GoesOn e h slots d i held → i .count < 100
+      → Pressing d i held prompt byte line screen k held′ line′ screen′ → GoesOn e h slots (k .editor) (k .history) held′
 
-pub adds-drop-none : (h : History) (slots : List ℕ) (r : History) (left : List ℕ) → AddsOn h slots r left
-    → (more : List (List ℕ)) × (journalOf r left .entries ≡ journalOf h slots .entries ++ more) × (r .first ≡ h .first)
-adds-drop-none h slots _ _ no-add = ([], sym (append-nil (journalOf h slots .entries)), refl)
-adds-drop-none h slots r left (one-more {i} {held = held} {text = text} {told = told} m room b) = on (adds-drop-none h slots i held m) (add-with-room i held text r told left room b)
-  where
-    on : ((more : List (List ℕ)) × (journalOf i held .entries ≡ journalOf h slots .entries ++ more) × (i .first ≡ h .first))
-        → ((more : List (List ℕ)) × (journalOf r left .entries ≡ journalOf i held .entries ++ more) × (r .first ≡ i .first))
-        → (more : List (List ℕ)) × (journalOf r left .entries ≡ journalOf h slots .entries ++ more) × (r .first ≡ h .first)
-    on p q = (
-      p .0 ++ q .0,
-      q .1 ∙ ap (λ (es : List (List ℕ)). es ++ q .0) (p .1) ∙ append-assoc (journalOf h slots .entries) (p .0) (q .0),
-      q .2 ∙ p .2,
-    )
+pub drops-none : (e : Editor) (h : History) (slots : List ℕ) (d : Editor) (r : History) (left : List ℕ) → GoesOn e h slots d r left → Longer (journalOf h slots) (journalOf r left)
+drops-none e h slots _ _ _ no-call = longer-same (journalOf h slots) (journalOf h slots) refl refl
+drops-none e h slots d r left (by-add {i = i} {held = held} {text = text} {told = told} m room a) =
+    longer-on (journalOf h slots) (journalOf i held) (journalOf r left) (drops-none e h slots d i held m) (add-longer i held text r told left room a)
+drops-none e h slots _ _ left (by-key {d} {i} {held} {prompt} {line} {screen} {line′ = line′} {screen′ = screen′} {byte = byte} {k = k} m room p) =
+    longer-on (journalOf h slots) (journalOf i held) (journalOf (k .history) left) (drops-none e h slots d i held m)
+    (key-longer d i held prompt byte line screen k left line′ screen′ p room)
 
 -- and there is room, after an entry went
 pub room-after : (h : History) (slots : List ℕ) (k : ℕ) (r : History) (n : ℕ) (left : List ℕ) → Forgets h slots k r (Gone n) left → r .count < 100
@@ -128,6 +134,29 @@ room-after h slots k r n left a =
     let most = good-has h slots (gone-has (good h slots) k (journalOf h slots .entries) n (a .answer) .0) .counted in
     omega arith
 
+-- of saved states, from a good one on
+pub data GoesOnSaved (state slots : List ℕ) : List ℕ → List ℕ → Type 0 where
+  no-call : GoesOnSaved state slots state slots
+  by-add : {mid held text state′ slots′ : List ℕ} {told : Added} → GoesOnSaved state slots mid held → historyIn mid .count < 100 → SavedAdd mid held text told state′ slots′
+      → GoesOnSaved state slots state′ slots′
+  by-key : {mid held prompt line screen state′ slots′ line′ screen′ : List ℕ} {byte : ℕ} {told : Pressed} → GoesOnSaved state slots mid held → historyIn mid .count < 100
+      → SavedKey mid held prompt byte line screen told state′ slots′ line′ screen′ → GoesOnSaved state slots state′ slots′
+
+pub drops-none-saved : (state slots state′ slots′ : List ℕ) → goodSaved state slots ≡ true → GoesOnSaved state slots state′ slots′
+    → (goodSaved state′ slots′ ≡ true) × Longer (journalOf (historyIn state) slots) (journalOf (historyIn state′) slots′)
+drops-none-saved state slots _ _ g no-call = (g, longer-same _ _ refl refl)
+drops-none-saved state slots state′ slots′ g (by-add {mid} {held} {text} {told = told} m room a) =
+    let b = drops-none-saved state slots mid held g m in (
+      add-stays mid held text told state′ slots′ (b .0) a,
+      longer-on (journalOf (historyIn state) slots) (journalOf (historyIn mid) held) (journalOf (historyIn state′) slots′) (b .1) (add-longer-saved mid held text told state′ slots′ a (b .0) room),
+    )
+drops-none-saved state slots state′ slots′ g (by-key {mid} {held} {prompt} {line} {screen} {line′ = line′} {screen′ = screen′} {byte = byte} {told = told} m room p) =
+    let b = drops-none-saved state slots mid held g m in (
+      key-stays mid held prompt byte line screen told state′ slots′ line′ screen′ (b .0) p,
+      longer-on (journalOf (historyIn state) slots) (journalOf (historyIn mid) held) (journalOf (historyIn state′) slots′) (b .1)
+      (key-longer-saved mid held prompt byte line screen told state′ slots′ line′ screen′ p (b .0) room),
+    )
+
 -- A SAVED STATE: the editor's 261 bytes stay, line, cursor, mode, sequence and profile, whatever is answered; and what is forgotten of a good one is forgotten as above
 pub editor-stays : (state slots : List ℕ) (k : ℕ) (told : Forgot) (state′ slots′ : List ℕ) → SavedForget state slots k told state′ slots′ → take 261 state′ ≡ take 261 state
 unfolding editorSize
@@ -135,9 +164,10 @@ editor-stays = forget-keeps
 
 pub as-by-value : (state slots : List ℕ) (k : ℕ) (told : Forgot) (state′ slots′ : List ℕ) → SavedForget state slots k told state′ slots′ → goodSaved state slots ≡ true
     → Forgets (historyIn state) slots k (historyIn state′) told slots′
-as-by-value state slots k told state′ slots′ p g = rw (forget-held state slots k told state′ slots′ p g) (forget-by-value state slots k told state′ slots′ p g)
+as-by-value = forget-by-value
 
--- NO TRACE in the state either: two good saved states with the same editor's bytes and first slot, which differ in entry k alone, are the same once it is forgotten
+-- NO TRACE of it in the five bytes of the history either: two good saved states with the same editor's bytes and first slot, which differ in entry k alone, are the same once it is forgotten.
+-- (The line stays, also where it was recalled from that entry.)
 pub no-trace-saved : (state slots state₂ slots₂ : List ℕ) (k : ℕ) → goodSaved state slots ≡ true → goodSaved state₂ slots₂ ≡ true → k < historyIn state .count → k < historyIn state₂ .count
     → take 261 state₂ ≡ take 261 state → historyIn state₂ .first ≡ historyIn state .first
     → without k (journalOf (historyIn state₂) slots₂ .entries) ≡ without k (journalOf (historyIn state) slots .entries)
@@ -146,19 +176,11 @@ pub no-trace-saved : (state slots state₂ slots₂ : List ℕ) (k : ℕ) → go
 unfolding editorSize
 no-trace-saved state slots state₂ slots₂ k g g₂ l l₂ e f w told told₂ state′ slots′ state₂′ slots₂′ p q =
     let same =
-    no-trace (historyIn state) slots (historyIn state₂) slots₂ k (history-good state slots g) (history-good state₂ slots₂ g₂) l l₂ f w (historyIn state′) (historyIn state₂′) told told₂ slots′ slots₂′
-    (as-by-value state slots k told state′ slots′ p g)
-    (as-by-value state₂ slots₂ k told₂ state₂′ slots₂′ q g₂)
+    no-trace (historyIn state) slots (historyIn state₂) slots₂ k (good-history state slots g) (good-history state₂ slots₂ g₂) l l₂ f w (historyIn state′) (historyIn state₂′) told told₂ slots′ slots₂′
+    (forget-by-value state slots k told state′ slots′ p g)
+    (forget-by-value state₂ slots₂ k told₂ state₂′ slots₂′ q g₂)
     in (
       same .0,
-      saved-so state₂ slots₂ told₂ state₂′ slots₂′ q g₂ ∙ same-saved (same-editor state state₂ e) (same .1) ∙ sym (saved-so state slots told state′ slots′ p g),
+      forget-saved state₂ slots₂ k told₂ state₂′ slots₂′ q g₂ ∙ same-saved (same-editor state state₂ e) (same .1) ∙ sym (forget-saved state slots k told state′ slots′ p g),
       same .2,
     )
-  where
-    history-good : (state slots : List ℕ) → goodSaved state slots ≡ true → good (historyIn state) slots ≡ true
-    history-good state slots g = state-parts (editorIn state) (historyIn state) slots (good-saved-parts state slots g .1) .1
-
-    saved-so : (state slots : List ℕ) (told : Forgot) (state′ slots′ : List ℕ) → SavedForget state slots k told state′ slots′ → goodSaved state slots ≡ true
-        → state′ ≡ savedOf (editorIn state) (historyIn state′)
-    saved-so state slots told state′ slots′ p g =
-        forget-saved state slots k told state′ slots′ p g ∙ ap (savedOf (editorIn state)) (sym (forget-held state slots k told state′ slots′ p g))

@@ -31,7 +31,7 @@ use Rattle.editor.specs.Turns.{Kind, shows, enters, drops, Turn, turnOf}
 use Rattle.editor.specs.Answer.{stateOf, editorOf, historyOf, slotsOf, goodState, goodPrompt, taken, turnAnswer, keyAnswer, refused, Pressing, number as pressedNumber, value as pressedValue, kindNumber, kind as pressedKind, beside as pressedBeside}
 use Rattle.editor.proofs.Called.{counted}
 use Rattle.state.specs.State.{stateSize, savedOf, editorIn, historyIn, goodSaved}
-use Rattle.state.specs.Calls.{beginAnswer, isReady, freshSaved, Beginning, turnIn, pressAnswer, savedAfter, SavedKey, savedAnswer, stateBy, SavedAdd, forgetIn, SavedForget, number as begunNumber, value as begunValue}
+use Rattle.state.specs.Calls.{beginAnswer, isReady, freshSaved, Beginning, turnIn, pressAnswer, savedAfter, SavedKey, savedAnswer, stateBy, SavedAdd, savedForgetAnswer, SavedForget, number as begunNumber, value as begunValue}
 use Rattle.state.specs.declared.calls.Begun.{Begun}
 use Rattle.promises.proofs.Tables.{Answered, told, Row, row, first, lacks, either, split, telling, pair, chosen-pair}
 
@@ -231,7 +231,7 @@ saved-add-tells state slots text r state′ slots′ p =
 
 -- FORGET: 12, 18. The value is how many entries went; a refusal keeps the record and the slots.
 unfoldable pub forgetRows : {L : Type 0} → Bool → ℕ → List (List ℕ) → L → L → Answered L
-forgetRows good k es kept left = first (row 12 (not good) 0 kept ∷ row 18 (not (ltb k (length es))) k kept ∷ []) (told 0 (gone k es) left)
+forgetRows is k es kept left = first (row 12 (not is) 0 kept ∷ row 18 (not (ltb k (length es))) k kept ∷ []) (told 0 (gone k es) left)
 
 forget-rows : {L M : Type 0} (is : Bool) (k : ℕ) (es : List (List ℕ)) (kept left : L × M) (x : Forgot) {l : L} {m : M} → x ≡ forgetAnswer is k es
     → l ≡ cond (isGone x) (left .0) (kept .0) → m ≡ cond (isGone x) (left .1) (kept .1) → told (forgotNumber x) (forgotValue x) (l, m) ≡ forgetRows is k es kept left
@@ -266,7 +266,7 @@ savedForgetTable state slots k =
 
 pub saved-forget-tells : (state slots : List ℕ) (k : ℕ) (r : Forgot) (state′ slots′ : List ℕ) → SavedForget state slots k r state′ slots′
     → told (forgotNumber r) (forgotValue r) (state′, slots′) ≡ savedForgetTable state slots k
-unfolding savedForgetTable forgetIn
+unfolding savedForgetTable savedForgetAnswer
 saved-forget-tells state slots k r state′ slots′ p =
     let j : Journal = journalOf (historyIn state) slots in
     forget-rows (goodSaved state slots) k (j .entries) (state, slots) (savedOf (editorIn state) (recordOf (forgotten k j)), journalSlots (forgotten k j)) r (p .answer) (p .kept) (p .held)

@@ -1,4 +1,4 @@
--- The key profiles: one is chosen at the fresh state and kept by every key; in the profile of ECMA-48 a whole control sequence does what the grammar says of it, and
+-- The key profiles: one is chosen at the fresh state and kept by every key and every other call; in the profile of ECMA-48 a whole control sequence does what the grammar says of it, and
 -- the state of a sequence is refused exactly if no bytes lead to it. (What brings typing back is in Lasting, the original's profile in SameAsRust.)
 use Prim.Native.Nat.{ℕ, _+_, _≤_}
 use mathlib.Core.Path.{_≡_}
@@ -8,6 +8,7 @@ use lib.ListN.{length}
 use Rattle.buffer.specs.Lend.{zeros}
 use Rattle.history.specs.declared.stepping.History.{History}
 use Rattle.history.specs.declared.adding.Added.{Added}
+use Rattle.history.specs.declared.forgetting.Forgot.{Forgot}
 use Rattle.keys.specs.declared.standing.Profile.{Profile}
 use Rattle.keys.specs.declared.standing.Profile.the-variants.{Ecma48}
 use Rattle.keys.specs.declared.standing.Mode.{Mode}
@@ -27,15 +28,15 @@ use Rattle.editor.specs.Answer.{Pressing}
 use Rattle.editor.proofs.Called.{profile-kept}
 use Rattle.editor.proofs.Sequences.{KeysDo, sequence-does}
 use Rattle.state.specs.State.{editorIn}
-use Rattle.state.specs.Calls.{freshSaved, SavedKey, SavedAdd}
+use Rattle.state.specs.Calls.{freshSaved, SavedKey, SavedAdd, SavedForget}
 use Rattle.state.proofs.Savings.{fresh-saved}
-use Rattle.state.proofs.ByValue.{kept-saved, add-kept}
+use Rattle.state.proofs.ByValue.{kept-saved, add-kept, forget-kept}
 
 -- CHOSEN: a fresh session's state has the number of its profile in byte 258, and zeros elsewhere
 pub chosen : (p : Profile) → freshSaved (profileNumber p) ≡ zeros 258 ++ (profileNumber p ∷ zeros 7)
 chosen = fresh-saved
 
--- KEPT: a key hands back the profile that it was given, whatever it is, does and answers; and leaves it in a saved state, as does a text that is added
+-- KEPT: a key hands back the profile that it was given, whatever it is, does and answers; and leaves it in a saved state, as do a text that is added and an entry that is forgotten
 pub kept : (e : Editor) (h : History) (slots prompt : List ℕ) (byte : ℕ) (line screen : List ℕ) (k : KeyAnswer) (slots′ line′ screen′ : List ℕ)
     → Pressing e h slots prompt byte line screen k slots′ line′ screen′ → k .editor .profile ≡ e .profile
 kept = profile-kept
@@ -47,6 +48,10 @@ kept-in-bytes = kept-saved
 pub kept-by-add : (state slots text : List ℕ) (told : Added) (state′ slots′ : List ℕ) → SavedAdd state slots text told state′ slots′
     → editorIn state′ .profile ≡ editorIn state .profile
 kept-by-add = add-kept
+
+pub kept-by-forget : (state slots : List ℕ) (k : ℕ) (told : Forgot) (state′ slots′ : List ℕ) → SavedForget state slots k told state′ slots′
+    → editorIn state′ .profile ≡ editorIn state .profile
+kept-by-forget = forget-kept
 
 -- SEQUENCES: while typing in the profile of ECMA-48, the keys of a whole control sequence, of at most fifteen bytes between ESC `[` and its final one, leave and show what the one action
 -- leaves and shows that the table of ECMA-48's sequences has for it; nothing if it has none

@@ -14,9 +14,9 @@ use Rattle.words.proofs.Answers.{one-answer as one-tokenize}
 use Rattle.quote.specs.Answer.{Quotation}
 use Rattle.quote.specs.declared.quoter.Quoted.{Quoted}
 use Rattle.quote.proofs.Answers.{one-answer as one-quote}
-use Rattle.history.specs.Journal.{Journal, noEntries, offered, recordOf, journalOf, slotsOf as journalSlots}
+use Rattle.history.specs.Journal.{Journal, noEntries, offered, journalOf, slotsOf as journalSlots}
 use Rattle.history.specs.Answer.{slotsBy, Addition}
-use Rattle.history.specs.Forgotten.{forgotten, isGone, Forgets}
+use Rattle.history.specs.Forgotten.{forgotten, slotsLeft, Forgets}
 use Rattle.history.specs.declared.stepping.History.{History}
 use Rattle.history.specs.declared.adding.Added.{Added}
 use Rattle.history.specs.declared.forgetting.Forgot.{Forgot}
@@ -32,8 +32,8 @@ use Rattle.editor.specs.Answer.{refused, Pressing}
 use Rattle.editor.proofs.Always.{one-answer as one-key}
 use Rattle.keys.specs.declared.standing.Profile.the-variants.{Rust}
 use Rattle.keys.specs.Modes.{profileNumber}
-use Rattle.state.specs.State.{savedOf, editorIn, historyIn}
-use Rattle.state.specs.Calls.{isReady, freshSaved, Beginning, SavedKey, stateBy, SavedAdd, SavedForget}
+use Rattle.state.specs.State.{historyIn}
+use Rattle.state.specs.Calls.{isReady, freshSaved, Beginning, SavedKey, stateBy, SavedAdd, stateLeft, SavedForget}
 use Rattle.state.specs.declared.calls.Begun.{Begun}
 use Rattle.parse.specs.Answer.{Parsing}
 use Rattle.parse.specs.declared.answer.Parsed.{Parsed}
@@ -147,8 +147,8 @@ module _ (state slots : List ℕ) (state₁ slots₁ state₂ slots₂ : List �
       let j : Journal = forgotten k (journalOf (historyIn state) slots) in
       let e = one r q _ (a .answer) (b .answer) in (
         e,
-        a .kept ∙ ap (λ (x : Forgot). cond (isGone x) (savedOf (editorIn state) (recordOf j)) state) e ∙ sym (b .kept),
-        a .held ∙ ap (λ (x : Forgot). cond (isGone x) (journalSlots j) slots) e ∙ sym (b .held),
+        a .kept ∙ ap (λ (x : Forgot). stateLeft x state j) e ∙ sym (b .kept),
+        a .held ∙ ap (λ (x : Forgot). slotsLeft x slots j) e ∙ sym (b .held),
       )
 
   -- (`rissemat_fresh` is this with the number of the original's profile)

@@ -8,15 +8,15 @@ use Rattle.words.specs.Answer.{Tokenized, number, value}
 use Rattle.quote.specs.declared.quoter.Quoted.{Quoted}
 use Rattle.quote.specs.Answer.{Quotation, number as quoteNumber, value as quoteValue}
 use Rattle.buffer.specs.Write.{over}
-use Rattle.history.specs.Journal.{noEntries, offered, recordOf, slotsOf as journalSlots, journalOf}
+use Rattle.history.specs.Journal.{noEntries, offered, slotsOf as journalSlots, journalOf}
 use Rattle.history.specs.Answer.{slotsBy, number as addNumber, value as addValue}
-use Rattle.history.specs.Forgotten.{forgotten, isGone, number as forgetNumber, value as forgetValue}
+use Rattle.history.specs.Forgotten.{forgotten, slotsLeft, number as forgetNumber, value as forgetValue}
 use Rattle.history.specs.declared.adding.Added.{Added}
 use Rattle.history.specs.declared.forgetting.Forgot.{Forgot}
 use Rattle.editor.specs.declared.drawing.Pressed.{Pressed}
 use Rattle.editor.specs.Answer.{slotsOf, refused, number as keyNumber, value as keyValue, kind as keyKind, beside as keyBeside}
-use Rattle.state.specs.State.{savedOf, editorIn, historyIn}
-use Rattle.state.specs.Calls.{freshSaved, Beginning, isReady, turnIn, savedAfter, SavedKey, stateBy, SavedAdd, SavedForget, number as beginNumber, value as beginValue}
+use Rattle.state.specs.State.{historyIn}
+use Rattle.state.specs.Calls.{freshSaved, Beginning, isReady, turnIn, savedAfter, SavedKey, stateBy, SavedAdd, stateLeft, SavedForget, number as beginNumber, value as beginValue}
 use Rattle.state.specs.declared.calls.Begun.{Begun}
 use Rattle.tree.specs.declared.check.Checked.{Checked}
 use Rattle.tree.specs.Rules.{checkTree}
@@ -81,8 +81,8 @@ pub forget-call : {state slots state′ slots′ : List ℕ} {k : ℕ} {r : Forg
 forget-call {state} {slots} {k = k} q p h t f =
     record {
       answer = sealed q p _ _ 0 0 t f ∙ ap (λ (x : Forgot). plain (forgetNumber x) (forgetValue x)) (h .answer);
-      kept = h .kept ∙ ap (λ (x : Forgot). cond (isGone x) (savedOf (editorIn state) (recordOf (forgotten k (journalOf (historyIn state) slots)))) state) (h .answer);
-      held = h .held ∙ ap (λ (x : Forgot). cond (isGone x) (journalSlots (forgotten k (journalOf (historyIn state) slots))) slots) (h .answer);
+      kept = h .kept ∙ ap (λ (x : Forgot). stateLeft x state (forgotten k (journalOf (historyIn state) slots))) (h .answer);
+      held = h .held ∙ ap (λ (x : Forgot). slotsLeft x slots (forgotten k (journalOf (historyIn state) slots))) (h .answer);
     }
 
 pub tree-call : {image : List ℕ} {r : Checked} (q : Parts) (p : ℕ) → r ≡ checkTree image → Tells q (treeNumber r) (treeValue r) 0 0 → p ≡ answered (q .0) (q .1) (q .2) (q .3) → TreeCall image p

@@ -12,7 +12,7 @@ use Rattle.history.specs.declared.forgetting.Forgot.{Forgot}
 use Rattle.history.specs.Answer.{number as addNumber, value as addValue}
 use Rattle.history.specs.Forgotten.{number as forgetNumber, value as forgetValue}
 use Rattle.editor.specs.declared.drawing.Pressed.{Pressed}
-use Rattle.state.specs.Calls.{beginAnswer, Beginning, pressAnswer, SavedKey, savedAnswer, SavedAdd, forgetIn, SavedForget, number as beginNumber, value as beginValue}
+use Rattle.state.specs.Calls.{beginAnswer, Beginning, pressAnswer, SavedKey, savedAnswer, SavedAdd, savedForgetAnswer, SavedForget, number as beginNumber, value as beginValue}
 use Rattle.state.specs.declared.calls.Begun.{Begun}
 use Rattle.tree.specs.declared.check.Checked.{Checked}
 use Rattle.tree.specs.Rules.{checkTree}
@@ -51,7 +51,7 @@ add-packs state slots text p state′ slots′ h = (savedAnswer state slots text
 
 pub forget-packs : (state slots : List ℕ) (k p : ℕ) (state′ slots′ : List ℕ) → ForgetCall state slots k p state′ slots′
     → (r : Forgot) × SavedForget state slots k r state′ slots′ × (p ≡ plain (forgetNumber r) (forgetValue r))
-forget-packs state slots k p state′ slots′ h = (forgetIn state slots k, record { answer = refl; kept = h .kept; held = h .held }, h .answer)
+forget-packs state slots k p state′ slots′ h = (savedForgetAnswer state slots k, record { answer = refl; kept = h .kept; held = h .held }, h .answer)
 
 pub tree-packs : (image : List ℕ) (p : ℕ) → TreeCall image p → (r : Checked) × (r ≡ checkTree image) × (p ≡ plain (treeNumber r) (treeValue r))
 tree-packs image p h = (checkTree image, refl, h .answer)

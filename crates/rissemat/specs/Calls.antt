@@ -9,15 +9,15 @@ use lib.ListN.{length}
 use Rattle.buffer.specs.Write.{over}
 use Rattle.words.specs.Answer.{answerFor, leavesFor, number, value}
 use Rattle.quote.specs.Answer.{quoteAnswer, quoteLeaves, number as quoteNumber, value as quoteValue}
-use Rattle.history.specs.Journal.{noEntries, offered, recordOf, slotsOf as journalSlots, journalOf}
+use Rattle.history.specs.Journal.{noEntries, offered, slotsOf as journalSlots, journalOf}
 use Rattle.history.specs.Answer.{slotsBy, number as addNumber, value as addValue}
-use Rattle.history.specs.Forgotten.{forgotten, isGone, number as forgetNumber, value as forgetValue}
+use Rattle.history.specs.Forgotten.{forgotten, slotsLeft, number as forgetNumber, value as forgetValue}
 use Rattle.editor.specs.declared.drawing.Pressed.{Pressed}
 use Rattle.keys.specs.declared.standing.Profile.the-variants.{Rust}
 use Rattle.keys.specs.Modes.{profileNumber}
 use Rattle.editor.specs.Answer.{slotsOf, refused, number as keyNumber, value as keyValue, kind as keyKind, beside as keyBeside}
-use Rattle.state.specs.State.{savedOf, editorIn, historyIn}
-use Rattle.state.specs.Calls.{beginAnswer, isReady, freshSaved, turnIn, pressAnswer, savedAfter, savedAnswer, stateBy, forgetIn, number as beginNumber, value as beginValue}
+use Rattle.state.specs.State.{historyIn}
+use Rattle.state.specs.Calls.{beginAnswer, isReady, freshSaved, turnIn, pressAnswer, savedAfter, savedAnswer, stateBy, savedForgetAnswer, stateLeft, number as beginNumber, value as beginValue}
 use Rattle.tree.specs.Rules.{checkTree}
 use Rattle.tree.specs.Answer.{number as treeNumber, value as treeValue}
 use Rattle.parse.specs.Answer.{parseAnswer, parseLeaves, number as parseNumber, value as parseValue}
@@ -65,9 +65,9 @@ pub record AddCall (state slots text : List ℕ) (r : ℕ) (state′ slots′ : 
 
 -- (10.24)
 pub record ForgetCall (state slots : List ℕ) (k r : ℕ) (state′ slots′ : List ℕ) : Type 0 where
-  pub answer : r ≡ plain (forgetNumber (forgetIn state slots k)) (forgetValue (forgetIn state slots k))
-  pub kept : state′ ≡ cond (isGone (forgetIn state slots k)) (savedOf (editorIn state) (recordOf (forgotten k (journalOf (historyIn state) slots)))) state
-  pub held : slots′ ≡ cond (isGone (forgetIn state slots k)) (journalSlots (forgotten k (journalOf (historyIn state) slots))) slots
+  pub answer : r ≡ plain (forgetNumber (savedForgetAnswer state slots k)) (forgetValue (savedForgetAnswer state slots k))
+  pub kept : state′ ≡ stateLeft (savedForgetAnswer state slots k) state (forgotten k (journalOf (historyIn state) slots))
+  pub held : slots′ ≡ slotsLeft (savedForgetAnswer state slots k) slots (forgotten k (journalOf (historyIn state) slots))
 
 pub record TreeCall (image : List ℕ) (r : ℕ) : Type 0 where
   pub answer : r ≡ plain (treeNumber (checkTree image)) (treeValue (checkTree image))

@@ -16,7 +16,7 @@ use Rattle.text.proofs.WhiteRuns.{some-bytes}
 use Rattle.history.specs.Entries.{mostEntries, newestIs, isNew, withRoom, added}
 use Rattle.history.specs.Journal.{Journal, noEntries, count, entryOf, offered, atPlace, journalOf, good}
 use Rattle.history.specs.Answer.{Addition}
-use Rattle.history.specs.Forgotten.{without, repeats, remaining, forgotten as forgottenIn, Forgets}
+use Rattle.history.specs.Forgotten.{without, repeats, remaining, forgotten, Forgets}
 use Rattle.history.specs.Steps.{placedAt, back, recalledAt, onward}
 use Rattle.history.specs.declared.stepping.History.{History}
 use Rattle.history.specs.declared.stepping.Recalled.the-variants.{Entry, Nothing}
@@ -27,7 +27,7 @@ use Rattle.history.proofs.Journals.{good-fair, count-held, place-held}
 use Rattle.history.proofs.Called.{add-after}
 use Rattle.history.proofs.Shortened.{forget-after}
 use Rattle.rust.specs.Std.{isEmpty}
-use Rattle.rust.specs.History.{new, last, isSome, pushed, kept, addCommand, removed, isRepeated, forgotten, shortened, Stepped, previous, next}
+use Rattle.rust.specs.History.{new, last, isSome, pushed, kept, addCommand, removed, meet, shortenedList, shortened, Stepped, previous, next}
 use Rattle.rust.specs.Same.{original, stepIn}
 
 -- `trim().is_empty()` is blank
@@ -99,15 +99,15 @@ removed-is (suc k) (e ∷ es) =
     let on : suc (k + 1) ≡ suc k + 1 = omega arith in
     ap (λ (l : List (List ℕ)). e ∷ l) (removed-is k es ∙ ap (λ (n : ℕ). take k es ++ drop n (e ∷ es)) on)
 
-forgotten-is : (k : ℕ) (es : List (List ℕ)) → forgotten k es ≡ remaining k es
-unfolding forgotten remaining isRepeated repeats
-forgotten-is k es =
-    ap (λ (l : List (List ℕ)). cond (isRepeated k l) (removed (k - 1) l) l) (removed-is k es)
-    ∙ ap (λ (l : List (List ℕ)). cond (isRepeated k (without k es)) l (without k es)) (removed-is (k - 1) (without k es))
+list-is : (k : ℕ) (es : List (List ℕ)) → shortenedList k es ≡ remaining k es
+unfolding shortenedList remaining meet repeats
+list-is k es =
+    ap (λ (l : List (List ℕ)). cond (meet k l) (removed (k - 1) l) l) (removed-is k es)
+    ∙ ap (λ (l : List (List ℕ)). cond (meet k (without k es)) l (without k es)) (removed-is (k - 1) (without k es))
 
-pub shortened-is : (k : ℕ) (j : Journal) → shortened k (original j) ≡ original (forgottenIn k j)
+shortened-is : (k : ℕ) (j : Journal) → shortened k (original j) ≡ original (forgotten k j)
 unfolding shortened
-shortened-is k j = ap (λ (l : List (List ℕ)). record { history = l; index = length l; size = 100 }) (forgotten-is k (j .entries))
+shortened-is k j = ap (λ (l : List (List ℕ)). record { history = l; index = length l; size = 100 }) (list-is k (j .entries))
 
 -- an entry that is there
 found : (es : List (List ℕ)) (n : ℕ) → n < length es → getElem? es n ≡ some (getD es n [])

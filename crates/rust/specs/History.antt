@@ -43,23 +43,21 @@ unfoldable pub addCommand : CommandHistory → List ℕ → CommandHistory
 addCommand h cmd =
     record { history = kept (h .size) (h .history) cmd; index = length (kept (h .size) (h .history) cmd); size = h .size }
 
--- Vec::remove
+-- The Rust has no call that takes an entry out. What follows has no line in history.rs: it is the Rust's history with the list shortened by Vec::remove, of entry k, and of the one
+-- before it where entries k - 1 and k of what is left are equal; the index is the length, as after every add_command (3.19)
 unfoldable pub removed : ℕ → List (List ℕ) → List (List ℕ)
 removed i [] = []
 removed zero (e ∷ es) = es
 removed (suc i) (e ∷ es) = e ∷ removed i es
 
--- k > 0 && k < self.history.len() && self.history[k - 1] == self.history[k]
-unfoldable pub isRepeated : ℕ → List (List ℕ) → Bool
-isRepeated k es = cond (ltb 0 k) (cond (ltb k (length es)) (sameBytes (getD es (k - 1) []) (getD es k [])) false) false
+unfoldable pub meet : ℕ → List (List ℕ) → Bool
+meet k es = cond (ltb 0 k) (cond (ltb k (length es)) (sameBytes (getD es (k - 1) []) (getD es k [])) false) false
 
--- self.history.remove(k), then self.history.remove(k - 1) where that has brought two equal entries together
-unfoldable pub forgotten : ℕ → List (List ℕ) → List (List ℕ)
-forgotten k es = cond (isRepeated k (removed k es)) (removed (k - 1) (removed k es)) (removed k es)
+unfoldable pub shortenedList : ℕ → List (List ℕ) → List (List ℕ)
+shortenedList k es = cond (meet k (removed k es)) (removed (k - 1) (removed k es)) (removed k es)
 
--- The Rust has no call that takes an entry out: this is its history with the shortened list, at the place after the newest (3.19)
 unfoldable pub shortened : ℕ → CommandHistory → CommandHistory
-shortened k h = record { history = forgotten k (h .history); index = length (forgotten k (h .history)); size = h .size }
+shortened k h = record { history = shortenedList k (h .history); index = length (shortenedList k (h .history)); size = h .size }
 
 -- what a step gives back: the history after it, and the text
 pub record Stepped : Type 0 where

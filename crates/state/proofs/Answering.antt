@@ -16,13 +16,12 @@ use Rattle.history.specs.Answer.{Emptied, addAnswer, recordBy, slotsBy, Additio
 use Rattle.history.specs.declared.stepping.History.{History}
 use Rattle.history.specs.declared.adding.Added.{Added}
 use Rattle.history.specs.declared.adding.Added.the-variants.{Done, BadState as BadHistory, TooLong, IllFormed}
-use Rattle.history.specs.Forgotten.{forgotten, forgetAnswer, isGone, Forgets}
+use Rattle.history.specs.Forgotten.{forgotten, forgetAnswer, recordLeft, Forgets}
 use Rattle.history.specs.declared.forgetting.Forgot.{Forgot}
 use Rattle.history.specs.declared.forgetting.Forgot.the-variants.{Gone, BadState as NoHistory, NoEntry}
 use Rattle.history.proofs.adding.Added.{the-type}
 use Rattle.history.proofs.forgetting.Forgot.{the-type as forgot-type}
-use Rattle.history.proofs.Lasting.{added-good}
-use Rattle.history.proofs.Shortened.{forgets-good}
+use Rattle.history.proofs.Lasting.{added-good, forgets-good}
 use Rattle.editor.proofs.States.{good-parts, state-parts, good-state}
 use Rattle.editor.proofs.Fine.{stays-good}
 use Rattle.keys.specs.declared.standing.Profile.{Profile}
@@ -34,7 +33,7 @@ use Rattle.editor.specs.Line.{freshEditor}
 use Rattle.editor.specs.Turns.{turnOf}
 use Rattle.editor.specs.Answer.{stateOf, editorOf, historyOf, goodState, keyAnswer, refused, Pressing}
 use Rattle.state.specs.State.{stateSize, savedOf, editorIn, historyIn, goodSaved}
-use Rattle.state.specs.Calls.{beginAnswer, freshSaved, Beginning, turnIn, pressAnswer, savedAfter, SavedKey, savedAnswer, stateBy, SavedAdd, forgetIn, SavedForget}
+use Rattle.state.specs.Calls.{beginAnswer, freshSaved, Beginning, turnIn, pressAnswer, savedAfter, SavedKey, savedAnswer, stateBy, SavedAdd, savedForgetAnswer, stateLeft, SavedForget}
 use Rattle.state.specs.declared.calls.Begun.the-variants.{Ready, NoRoom, BadState as NoState}
 use Rattle.state.proofs.Savings.{size-is, good-saved-parts, Fits, good-fits, Read, read-good}
 
@@ -150,15 +149,15 @@ module _ (state slots text : List ℕ) where
 -- an entry forgotten
 module _ (state slots : List ℕ) (k : ℕ) where
   pub forget-other : goodSaved state slots ≡ false → SavedForget state slots k NoHistory state slots
-  unfolding forgetIn forgetAnswer
+  unfolding savedForgetAnswer forgetAnswer
   forget-other h = record { answer = sym (else-is _ _ _ h); kept = refl; held = refl }
 
   module _ (e : Editor) (h : History) (read : Read e h state slots) (r : History) (told : Forgot) (left : List ℕ) (b : Forgets h slots k r told left) where
     f : Forgets (historyIn state) slots k r told left
     f = rw (read .history) at b
 
-    forgot-so : told ≡ forgetIn state slots k
-    unfolding forgetIn
+    forgot-so : told ≡ savedForgetAnswer state slots k
+    unfolding savedForgetAnswer
     forgot-so =
         f .answer
         ∙ ap (λ (t : Bool). forgetAnswer t k (journalOf (historyIn state) slots .entries))
@@ -172,8 +171,8 @@ module _ (state slots : List ℕ) (k : ℕ) where
           kept =
               w
               ∙ ap (λ (x : Editor). savedOf x r) (read .editor)
-              ∙ ap (savedOf (editorIn state)) (f .state ∙ ap (λ (x : Forgot). cond (isGone x) (recordOf j) (historyIn state)) d)
-              ∙ ap (λ (x : Forgot). cond (isGone x) (savedOf (editorIn state) (recordOf j)) state) (sym d);
+              ∙ ap (savedOf (editorIn state)) (f .state ∙ ap (λ (x : Forgot). recordLeft x (historyIn state) j) d)
+              ∙ ap (λ (x : Forgot). stateLeft x state j) (sym d);
           held = f .bytes;
         }
 
@@ -185,7 +184,7 @@ module _ (state slots : List ℕ) (k : ℕ) where
     pub forget-refused : OneOf (1 ∷ 2 ∷ []) (tagOf forgot-type told) → SavedForget state slots k told state left
     forget-refused m = record { answer = forgot-so; kept = sym (stays told m); held = f .bytes }
       where
-        stays : (x : Forgot) → OneOf (1 ∷ 2 ∷ []) (tagOf forgot-type x) → cond (isGone x) (savedOf (editorIn state) (recordOf (forgotten k (journalOf (historyIn state) slots)))) state ≡ state
+        stays : (x : Forgot) → OneOf (1 ∷ 2 ∷ []) (tagOf forgot-type x) → stateLeft x state (forgotten k (journalOf (historyIn state) slots)) ≡ state
         stays (Gone n) m = absurd (miss (1 ∷ 2 ∷ []) 0 tt m)
         stays NoHistory m = refl
         stays (NoEntry n) m = refl

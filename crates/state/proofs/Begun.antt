@@ -1,33 +1,33 @@
--- Where a history begins, of saved states: a call changes the bytes of one slot at most, and in two good states that differ in nothing else it answers the same and leaves two such states.
-use Prim.Native.Nat.{ℕ}
+-- Where a history begins, of saved states: a key and an add change the bytes of one slot at most and drop no entry where there is room; and in two good states that differ in nothing else
+-- every call answers the same and leaves two such states.
+use Prim.Native.Nat.{ℕ, _<_}
 use mathlib.Core.Path.{_≡_, refl, sym, ap, _∙_}
 use mathlib.Core.Bool.{Bool, true, false}
 use mathlib.Core.List.{List}
 use Rattle.buffer.proofs.Choices.{else-is, then-is}
 use Rattle.history.specs.Slots.{slotAfter, ChangesOnly}
-use Rattle.history.specs.Journal.{Journal, offered, Alike, journalOf}
+use Rattle.history.specs.Journal.{Journal, offered, Alike, Longer, journalOf}
 use Rattle.history.specs.Answer.{addAnswer, slotsBy, recordBy, Addition}
 use Rattle.history.specs.declared.stepping.History.{History}
 use Rattle.history.specs.declared.adding.Added.{Added}
-use Rattle.history.specs.Forgotten.{forgotten, isGone}
 use Rattle.history.specs.declared.forgetting.Forgot.{Forgot}
-use Rattle.history.proofs.Called.{isDone}
+use Rattle.history.proofs.Called.{isDone, add-longer}
 use Rattle.history.proofs.Begun.{changes-none, add-changes, add-alike as add-alike-by-value}
 use Rattle.history.proofs.Shortened.{forget-alike as forget-alike-by-value}
 use Rattle.editor.specs.declared.line.Editor.{Editor}
 use Rattle.editor.specs.declared.drawing.KeyAnswer.{KeyAnswer}
 use Rattle.editor.specs.declared.drawing.Pressed.{Pressed}
-use Rattle.editor.specs.Turns.{SameBut}
+use Rattle.editor.specs.Turns.{State, SameBut}
 use Rattle.editor.specs.Answer.{stateOf, keyAnswer, refused, Pressing}
 use Rattle.editor.proofs.Lines.{good-line, length-of}
 use Rattle.editor.proofs.States.{good-parts, state-parts}
 use Rattle.editor.proofs.Fine.{stays-good}
-use Rattle.editor.proofs.Begun.{key-changes, same-answer, same-given, same-shown, alike-after}
+use Rattle.editor.proofs.Begun.{key-changes, key-longer, same-answer, same-given, same-shown, alike-after}
 use Rattle.state.specs.State.{editorIn, historyIn, goodSaved}
 use Rattle.state.specs.Calls.{turnIn, pressAnswer, SavedKey, savedAnswer, SavedAdd, SavedForget}
-use Rattle.state.proofs.Savings.{good-saved-parts, held-saved}
-use Rattle.state.proofs.Stored.{heldIn, stored-add, record-done, stored-forget, stored-held}
-use Rattle.state.proofs.ByValue.{keyFor, key-by-value, key-saved, add-by-value, forget-by-value}
+use Rattle.state.proofs.Savings.{held-saved, good-saved-parts, good-history}
+use Rattle.state.proofs.Stored.{heldIn, stored-add, record-done, stored-held, same-editor}
+use Rattle.state.proofs.ByValue.{keyFor, key-by-value, key-saved, add-by-value, forget-by-value, forget-keeps}
 
 -- one key
 module _ (state slots prompt : List ℕ) (byte : ℕ) (line screen : List ℕ) (told : Pressed) (state′ slots′ line′ screen′ : List ℕ)
@@ -57,6 +57,11 @@ module _ (state slots prompt : List ℕ) (byte : ℕ) (line screen : List ℕ) (
         ap (λ (x : List ℕ). heldIn x slots′) (key-saved state slots prompt byte line screen told state′ slots′ line′ screen′ p (is .0))
         ∙ held-saved (key .editor) (key .history) slots′ (length-of (key .editor) (good-line (key .editor) (good-parts (key .editor) (key .history) slots′ stays .0)) .0)
 
+    pub key-longer-saved : historyIn state .count < 100 → Longer (journalOf (historyIn state) slots) (journalOf (historyIn state′) slots′)
+    unfolding stateOf
+    key-longer-saved room =
+        rw (ap (λ (s : State). s .history) key-held) (key-longer (editorIn state) (historyIn state) slots prompt byte line screen key slots′ line′ screen′ key-pressing room)
+
 -- a text that is added
 module _ (state slots text : List ℕ) (told : Added) (state′ slots′ : List ℕ) (p : SavedAdd state slots text told state′ slots′) where
   pub add-changes-saved : ChangesOnly (slotAfter (historyIn state .first) (historyIn state .count)) slots slots′
@@ -84,6 +89,11 @@ module _ (state slots text : List ℕ) (told : Added) (state′ slots′ : List 
     add-held =
         stored-held state slots (isDone told) (offered text (journalOf (historyIn state) slots)) state′ slots′ (stored-add state slots text told state′ slots′ p) g
         ∙ ap (λ (x : History). stateOf (editorIn state) x slots′) (sym (record-done told (historyIn state) (offered text (journalOf (historyIn state) slots))))
+
+    pub add-longer-saved : historyIn state .count < 100 → Longer (journalOf (historyIn state) slots) (journalOf (historyIn state′) slots′)
+    unfolding stateOf
+    add-longer-saved room =
+        rw (ap (λ (s : State). s .history) add-held) (add-longer (historyIn state) slots text (recordBy told (historyIn state) (offered text (journalOf (historyIn state) slots))) told slots′ room adds)
 
 -- the histories of two such states, and the states with others
 histories : (e : Editor) (h : History) (slots : List ℕ) (e₂ : Editor) (h₂ : History) (slots₂ : List ℕ) → SameBut (stateOf e h slots) (stateOf e₂ h₂ slots₂)
@@ -133,8 +143,8 @@ module _ (state slots state₂ slots₂ : List ℕ) (g : goodSaved state slots �
   add-alike text told told₂ state′ slots′ state₂′ slots₂′ p q =
       let h : History = historyIn state in
       let h₂ : History = historyIn state₂ in
-      let good = good-parts (editorIn state) h slots (good-saved-parts state slots g .1) .1 in
-      let good₂ = good-parts (editorIn state₂) h₂ slots₂ (good-saved-parts state₂ slots₂ g₂ .1) .1 in
+      let good = good-history state slots g in
+      let good₂ = good-history state₂ slots₂ g₂ in
       let both =
       add-alike-by-value h slots h₂ slots₂ good good₂ (histories (editorIn state) h slots (editorIn state₂) h₂ slots₂ a) text _ _ told told₂ slots′ slots₂′
       (adds state slots text told state′ slots′ p g) (adds state₂ slots₂ text told₂ state₂′ slots₂′ q g₂)
@@ -149,16 +159,17 @@ module _ (state slots state₂ slots₂ : List ℕ) (g : goodSaved state slots �
   forget-alike k told told₂ state′ slots′ state₂′ slots₂′ p q =
       let h : History = historyIn state in
       let h₂ : History = historyIn state₂ in
-      let good = good-parts (editorIn state) h slots (good-saved-parts state slots g .1) .1 in
-      let good₂ = good-parts (editorIn state₂) h₂ slots₂ (good-saved-parts state₂ slots₂ g₂ .1) .1 in
       let both =
-      forget-alike-by-value h slots h₂ slots₂ good good₂ (histories (editorIn state) h slots (editorIn state₂) h₂ slots₂ a) k _ _ told told₂ slots′ slots₂′
-      (forget-by-value state slots k told state′ slots′ p g) (forget-by-value state₂ slots₂ k told₂ state₂′ slots₂′ q g₂)
+      forget-alike-by-value h slots h₂ slots₂ (good-history state slots g) (good-history state₂ slots₂ g₂) (histories (editorIn state) h slots (editorIn state₂) h₂ slots₂ a) k (historyIn state′)
+      (historyIn state₂′)
+      told
+      told₂
+      slots′
+      slots₂′
+      (forget-by-value state slots k told state′ slots′ p g)
+      (forget-by-value state₂ slots₂ k told₂ state₂′ slots₂′ q g₂)
       in (
         both .0,
-        rw (
-          stored-held state slots (isGone told) (forgotten k (journalOf h slots)) state′ slots′ (stored-forget state slots k told state′ slots′ p) g,
-          stored-held state₂ slots₂ (isGone told₂) (forgotten k (journalOf h₂ slots₂)) state₂′ slots₂′ (stored-forget state₂ slots₂ k told₂ state₂′ slots₂′ q) g₂,
-        )
-            (with-histories (editorIn state) h slots (editorIn state₂) h₂ slots₂ _ slots′ _ slots₂′ a (both .1)),
+        rw (same-editor state state′ (forget-keeps state slots k told state′ slots′ p), same-editor state₂ state₂′ (forget-keeps state₂ slots₂ k told₂ state₂′ slots₂′ q))
+            (with-histories (editorIn state) h slots (editorIn state₂) h₂ slots₂ (historyIn state′) slots′ (historyIn state₂′) slots₂′ a (both .1)),
       )

@@ -5,11 +5,11 @@ use mathlib.Core.Bool.{Bool, true, false, cond}
 use mathlib.Core.List.{List}
 use lib.ListN.{length, take}
 use Rattle.buffer.proofs.Choices.{then-is, else-is}
-use Rattle.history.specs.Journal.{offered, recordOf, journalOf, good}
+use Rattle.history.specs.Journal.{offered, journalOf, good}
 use Rattle.history.specs.Answer.{addAnswer, recordBy, slotsBy, Addition}
 use Rattle.history.specs.declared.stepping.History.{History}
 use Rattle.history.specs.declared.adding.Added.{Added}
-use Rattle.history.specs.Forgotten.{forgotten, forgetAnswer, isGone, Forgets}
+use Rattle.history.specs.Forgotten.{forgotten, forgetAnswer, isGone, recordLeft, Forgets}
 use Rattle.history.specs.declared.forgetting.Forgot.{Forgot}
 use Rattle.history.proofs.Called.{isDone}
 use Rattle.keys.specs.declared.standing.Mode.the-variants.{Typing}
@@ -26,8 +26,8 @@ use Rattle.editor.proofs.States.{good-parts}
 use Rattle.editor.proofs.Fine.{stays-good}
 use Rattle.editor.proofs.Called.{dropped, profile-kept}
 use Rattle.state.specs.State.{savedOf, editorIn, historyIn, goodSaved}
-use Rattle.state.specs.Calls.{turnIn, pressAnswer, savedAfter, SavedKey, savedAnswer, SavedAdd, forgetIn, SavedForget}
-use Rattle.state.proofs.Savings.{editor-saved, history-saved, IsState, good-as, good-saved-parts, saved-restored}
+use Rattle.state.specs.Calls.{turnIn, pressAnswer, savedAfter, SavedKey, savedAnswer, SavedAdd, savedForgetAnswer, SavedForget}
+use Rattle.state.proofs.Savings.{editor-saved, history-saved, IsState, good-as, good-saved-parts, good-history, good-whole, saved-restored}
 use Rattle.state.proofs.Stored.{stored-add, record-done, stored-forget, stored-saved, editor-stays, same-editor}
 
 -- what `key` hands back for a turn from a saved state, with this answer
@@ -85,30 +85,28 @@ module _ (state slots text : List ℕ) (told : Added) (state′ slots′ : List 
       ∙ ap (savedOf (editorIn state)) (sym (record-done told (historyIn state) (offered text (journalOf (historyIn state) slots))))
 
 -- what `forget` hands back for an entry of a saved state's history, with this answer
-abbrev pub forgetFor : List ℕ → List ℕ → ℕ → Forgot → History
-forgetFor state slots k told = cond (isGone told) (recordOf (forgotten k (journalOf (historyIn state) slots))) (historyIn state)
-
-pub forget-by-value : (state slots : List ℕ) (k : ℕ) (told : Forgot) (state′ slots′ : List ℕ) → SavedForget state slots k told state′ slots′ → goodSaved state slots ≡ true
-    → Forgets (historyIn state) slots k (forgetFor state slots k told) told slots′
-unfolding forgetIn
-forget-by-value state slots k told state′ slots′ p g =
-    let is = good-parts (editorIn state) (historyIn state) slots (good-saved-parts state slots g .1) .1 in
-    record {
-      answer = p .answer ∙ ap (λ (t : Bool). forgetAnswer t k (journalOf (historyIn state) slots .entries)) (g ∙ sym is);
-      state = refl;
-      bytes = p .held;
-    }
+abbrev forgetFor : List ℕ → List ℕ → ℕ → Forgot → History
+forgetFor state slots k told = recordLeft told (historyIn state) (forgotten k (journalOf (historyIn state) slots))
 
 module _ (state slots : List ℕ) (k : ℕ) (told : Forgot) (state′ slots′ : List ℕ) (p : SavedForget state slots k told state′ slots′) (g : goodSaved state slots ≡ true) where
-  pub forget-saved : state′ ≡ savedOf (editorIn state) (forgetFor state slots k told)
-  forget-saved =
+  saved-for : state′ ≡ savedOf (editorIn state) (forgetFor state slots k told)
+  saved-for =
       stored-saved state slots (isGone told) (forgotten k (journalOf (historyIn state) slots)) state′ slots′ (stored-forget state slots k told state′ slots′ p) (good-saved-parts state slots g .0)
 
-  pub forget-held : historyIn state′ ≡ forgetFor state slots k told
-  forget-held =
-      let is = good-saved-parts state slots g in
-      let whole = length-of (editorIn state) (good-line (editorIn state) (good-parts (editorIn state) (historyIn state) slots (is .1) .0)) .0 in
-      ap historyIn forget-saved ∙ history-saved (editorIn state) (forgetFor state slots k told) whole
+  held-for : historyIn state′ ≡ forgetFor state slots k told
+  held-for = ap historyIn saved-for ∙ history-saved (editorIn state) (forgetFor state slots k told) (good-whole state slots g)
+
+  pub forget-by-value : Forgets (historyIn state) slots k (historyIn state′) told slots′
+  unfolding savedForgetAnswer
+  forget-by-value =
+      record {
+        answer = p .answer ∙ ap (λ (t : Bool). forgetAnswer t k (journalOf (historyIn state) slots .entries)) (g ∙ sym (good-history state slots g));
+        state = held-for;
+        bytes = p .held;
+      }
+
+  pub forget-saved : state′ ≡ savedOf (editorIn state) (historyIn state′)
+  forget-saved = saved-for ∙ ap (savedOf (editorIn state)) (sym held-for)
 
 -- a byte typed into a full line is answered dropped, and nothing changes: not a byte of the state, nor of any buffer
 pub dropped-saved : (state slots prompt : List ℕ) (byte : ℕ) (line screen : List ℕ) (told : Pressed) (state′ slots′ line′ screen′ : List ℕ)
@@ -148,7 +146,7 @@ module _ (state slots prompt : List ℕ) (byte : ℕ) (line screen : List ℕ) (
       by true g = kept-good g
       by false g = ap (λ (x : List ℕ). editorIn x .profile) (p .kept ∙ then-is _ _ _ (ap refused (p .answer ∙ else-is _ _ _ g)))
 
-pub add-keeps : (state slots text : List ℕ) (told : Added) (state′ slots′ : List ℕ) → SavedAdd state slots text told state′ slots′ → take editorSize state′ ≡ take editorSize state
+add-keeps : (state slots text : List ℕ) (told : Added) (state′ slots′ : List ℕ) → SavedAdd state slots text told state′ slots′ → take editorSize state′ ≡ take editorSize state
 unfolding savedAnswer addAnswer
 add-keeps state slots text told state′ slots′ p =
     editor-stays state slots (isDone told) (offered text (journalOf (historyIn state) slots)) state′ slots′ (stored-add state slots text told state′ slots′ p) (λ t. by (goodSaved state slots) refl t)
@@ -162,10 +160,14 @@ pub add-kept : (state slots text : List ℕ) (told : Added) (state′ slots′ :
 add-kept state slots text told state′ slots′ p = ap (λ (x : Editor). x .profile) (same-editor state state′ (add-keeps state slots text told state′ slots′ p))
 
 pub forget-keeps : (state slots : List ℕ) (k : ℕ) (told : Forgot) (state′ slots′ : List ℕ) → SavedForget state slots k told state′ slots′ → take editorSize state′ ≡ take editorSize state
-unfolding forgetIn forgetAnswer
+unfolding savedForgetAnswer forgetAnswer
 forget-keeps state slots k told state′ slots′ p =
     editor-stays state slots (isGone told) (forgotten k (journalOf (historyIn state) slots)) state′ slots′ (stored-forget state slots k told state′ slots′ p) (λ t. by (goodSaved state slots) refl t)
   where
     by : (b : Bool) → goodSaved state slots ≡ b → isGone told ≡ true → b ≡ true
     by true g t = refl
     by false g t = sym (ap isGone (p .answer ∙ else-is _ _ _ g)) ∙ t
+
+pub forget-kept : (state slots : List ℕ) (k : ℕ) (told : Forgot) (state′ slots′ : List ℕ) → SavedForget state slots k told state′ slots′
+    → editorIn state′ .profile ≡ editorIn state .profile
+forget-kept state slots k told state′ slots′ p = ap (λ (x : Editor). x .profile) (same-editor state state′ (forget-keeps state slots k told state′ slots′ p))

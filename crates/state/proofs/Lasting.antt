@@ -19,12 +19,11 @@ use Rattle.editor.specs.declared.drawing.Pressed.{Pressed}
 use Rattle.editor.specs.Line.{holding, freshEditor}
 use Rattle.editor.specs.Turns.{State, turnOf, afterKeys}
 use Rattle.editor.specs.Answer.{stateOf, editorOf, historyOf, slotsOf, refused}
-use Rattle.editor.proofs.States.{good-parts}
 use Rattle.editor.proofs.Fine.{fine-of, fine-good, turn-fine, never-bad}
 use Rattle.state.specs.State.{savedOf, editorIn, historyIn, goodSaved}
-use Rattle.state.specs.Calls.{freshSaved, Beginning, turnIn, savedAfter, SavedKey, savedAnswer, SavedAdd, forgetIn, SavedForget}
+use Rattle.state.specs.Calls.{freshSaved, Beginning, turnIn, savedAfter, SavedKey, savedAnswer, SavedAdd, savedForgetAnswer, SavedForget}
 use Rattle.state.specs.declared.calls.Begun.the-variants.{Ready}
-use Rattle.state.proofs.Savings.{good-saved-parts}
+use Rattle.state.proofs.Savings.{good-saved-parts, good-history}
 use Rattle.state.proofs.Stored.{saved-good, stored-add, stored-forget, stored-stays}
 
 pub fresh-good : (number : ℕ) → goodSaved (freshSaved number) (journalSlots noEntries) ≡ true
@@ -50,8 +49,7 @@ done-fair : (state slots text : List ℕ) (told : Added) → goodSaved state slo
     → Fair (offered text (journalOf (historyIn state) slots))
 unfolding savedAnswer
 done-fair state slots text Done g a t =
-    let p = good-parts (editorIn state) (historyIn state) slots (good-saved-parts state slots g .1) in
-    taken-fair (historyIn state) slots text (done-has (historyIn state) slots text (ap (λ (t : Bool). addAnswer t text) (p .1 ∙ sym g) ∙ sym a))
+    taken-fair (historyIn state) slots text (done-has (historyIn state) slots text (ap (λ (t : Bool). addAnswer t text) (good-history state slots g ∙ sym g) ∙ sym a))
 done-fair state slots text BadHistory g a t = absurd (true-is-not-false (sym t))
 done-fair state slots text (TooLong n) g a t = absurd (true-is-not-false (sym t))
 done-fair state slots text (IllFormed n) g a t = absurd (true-is-not-false (sym t))
@@ -62,12 +60,11 @@ add-stays state slots text told state′ slots′ g k =
     stored-stays state slots (isDone told) (offered text (journalOf (historyIn state) slots)) state′ slots′ (stored-add state slots text told state′ slots′ k) g
     (done-fair state slots text told g (k .answer))
 
-gone-fair : (state slots : List ℕ) (k : ℕ) (told : Forgot) → goodSaved state slots ≡ true → told ≡ forgetIn state slots k → isGone told ≡ true
+gone-fair : (state slots : List ℕ) (k : ℕ) (told : Forgot) → goodSaved state slots ≡ true → told ≡ savedForgetAnswer state slots k → isGone told ≡ true
     → Fair (forgotten k (journalOf (historyIn state) slots))
-unfolding forgetIn
+unfolding savedForgetAnswer
 gone-fair state slots k (Gone n) g a t =
-    let p = good-parts (editorIn state) (historyIn state) slots (good-saved-parts state slots g .1) in
-    fair-forgotten k (journalOf (historyIn state) slots) (gone-has (goodSaved state slots) k (journalOf (historyIn state) slots .entries) n a .1) (good-fair (historyIn state) slots (p .1))
+    fair-forgotten k (journalOf (historyIn state) slots) (gone-has (goodSaved state slots) k (journalOf (historyIn state) slots .entries) n a .1) (good-fair (historyIn state) slots (good-history state slots g))
 gone-fair state slots k NoHistory g a t = absurd (true-is-not-false (sym t))
 gone-fair state slots k (NoEntry n) g a t = absurd (true-is-not-false (sym t))
 

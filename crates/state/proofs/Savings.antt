@@ -16,7 +16,7 @@ use Rattle.buffer.specs.Numbers.{Bytes, numberBytes, numberOf}
 use Rattle.buffer.proofs.Numbers.{value-two, bytes-drop}
 use Rattle.history.specs.declared.stepping.History.{History}
 use Rattle.history.specs.Entries.{total}
-use Rattle.history.specs.Journal.{noEntries, recordOf}
+use Rattle.history.specs.Journal.{noEntries, recordOf, good}
 use Rattle.history.specs.declared.saving.Restored.{Restored as RestoredHistory}
 use Rattle.history.specs.declared.saving.Restored.the-variants.{Good, Bad}
 use Rattle.history.specs.Saved.{savedSize as historySize, savedOf as historySaved, savedIn as historySavedIn, isSaved as isHistory, restored as restoredHistory, Fits as HistoryFits}
@@ -32,7 +32,8 @@ use Rattle.editor.specs.Line.{limit, padded, freshEditor, goodEditor}
 use Rattle.editor.specs.Turns.{State, turnOf}
 use Rattle.editor.specs.Answer.{stateOf, goodState}
 use Rattle.editor.specs.Saved.{savedSize as editorSize, savedOf as editorSaved, savedIn as editorSavedIn, hasForm, isSaved as isEditor, restored as restoredEditor, Fits as EditorFits}
-use Rattle.editor.proofs.States.{state-parts}
+use Rattle.editor.proofs.Lines.{good-line, length-of}
+use Rattle.editor.proofs.States.{good-parts, state-parts}
 use Rattle.editor.proofs.Saved.{length-saved, saved-is as editor-is, saved-has as editor-has, right-form, form-size, saved-in, saved-back, good-fits as editor-fits, restored-is, restored-not, restored-saved as editor-restored}
 use Rattle.state.specs.State.{stateSize, savedOf, editorIn, historyIn, goodSaved}
 use Rattle.state.specs.Calls.{freshSaved, turnIn}
@@ -117,6 +118,13 @@ good-saved-parts s slots g = (shape, sym (good-as s slots shape) ∙ g)
     shape : IsState s
     shape =
         record { form = editor-has (take editorSize s) (parts .0) .form; rest = history-has (drop editorSize s) slots (parts .1) .form }
+
+-- its history is good, and its line has all its bytes
+pub good-history : (s slots : List ℕ) → goodSaved s slots ≡ true → good (historyIn s) slots ≡ true
+good-history s slots g = good-parts (editorIn s) (historyIn s) slots (good-saved-parts s slots g .1) .1
+
+pub good-whole : (s slots : List ℕ) → goodSaved s slots ≡ true → length (editorIn s .line) ≡ 255
+good-whole s slots g = length-of (editorIn s) (good-line (editorIn s) (good-parts (editorIn s) (historyIn s) slots (good-saved-parts s slots g .1) .0)) .0
 
 pub bytes-state : (s : List ℕ) → length s ≡ stateSize → Bytes s → hasForm (take editorSize s) ≡ true → IsState s
 unfolding stateSize

@@ -21,7 +21,7 @@ use Rattle.editor.proofs.Lines.{good-line, length-of}
 use Rattle.editor.proofs.States.{good-parts, state-parts, good-state}
 use Rattle.state.specs.State.{savedOf, editorIn, historyIn, goodSaved}
 use Rattle.state.specs.Calls.{stateBy, SavedAdd, SavedForget}
-use Rattle.state.proofs.Savings.{front-saved, held-saved, good-saved, IsState, good-saved-parts, saved-restored}
+use Rattle.state.proofs.Savings.{front-saved, held-saved, good-saved, IsState, good-saved-parts, good-whole, saved-restored}
 
 -- the state that bytes and slots hold
 abbrev pub heldIn : List ℕ → List ℕ → State
@@ -70,11 +70,8 @@ module _ (state slots : List ℕ) (taken : Bool) (j : Journal) (state′ slots�
     is : IsState state
     is = good-saved-parts state slots g .0
 
-    good : goodState (editorIn state) (historyIn state) slots ≡ true
-    good = good-saved-parts state slots g .1
-
     whole : length (editorIn state .line) ≡ 255
-    whole = length-of (editorIn state) (good-line (editorIn state) (good-parts (editorIn state) (historyIn state) slots good .0)) .0
+    whole = good-whole state slots g
 
     pub stored-held : heldIn state′ slots′ ≡ stateOf (editorIn state) (cond taken (recordOf j) (historyIn state)) slots′
     stored-held = ap (λ (x : List ℕ). heldIn x slots′) (stored-saved is) ∙ held-saved (editorIn state) (cond taken (recordOf j) (historyIn state)) slots′ whole
@@ -93,7 +90,7 @@ module _ (state slots : List ℕ) (taken : Bool) (j : Journal) (state′ slots�
         by : (t : Bool) → taken ≡ t → goodSaved (cond t (savedOf (editorIn state) (recordOf j)) state) (cond t (journalSlots j) slots) ≡ true
         by true e =
             saved-good (editorIn state) (recordOf j) (journalSlots j)
-            (good-state (editorIn state) (recordOf j) (journalSlots j) (state-parts (editorIn state) (historyIn state) slots good .0) (fair-good j (fair e)))
+            (good-state (editorIn state) (recordOf j) (journalSlots j) (state-parts (editorIn state) (historyIn state) slots (good-saved-parts state slots g .1) .0) (fair-good j (fair e)))
         by false e = g
 
   -- the editor's bytes stay, whatever the state, if a history is written into good ones only

@@ -9,7 +9,7 @@ use Rattle.buffer.specs.Write.{over}
 use Rattle.history.specs.Slots.{slotsSize}
 use Rattle.history.specs.Journal.{Journal, noEntries, offered, recordOf, slotsOf as journalSlots, journalOf}
 use Rattle.history.specs.Answer.{addAnswer, slotsBy}
-use Rattle.history.specs.Forgotten.{forgotten, forgetAnswer, isGone}
+use Rattle.history.specs.Forgotten.{forgotten, forgetAnswer, isGone, slotsLeft}
 use Rattle.history.specs.declared.adding.Added.{Added}
 use Rattle.history.specs.declared.adding.Added.the-variants.{Done, BadState as BadHistory, TooLong, IllFormed}
 use Rattle.history.specs.declared.forgetting.Forgot.{Forgot}
@@ -97,11 +97,15 @@ pub record SavedAdd (state slots text : List ℕ) (told : Added) (state′ slots
   pub held : slots′ ≡ slotsBy told slots (offered text (journalOf (historyIn state) slots))
 
 -- an entry forgotten in the history of a saved state, of which all is to be good (10.24)
-unfoldable pub forgetIn : List ℕ → List ℕ → ℕ → Forgot
-forgetIn state slots k = forgetAnswer (goodSaved state slots) k (journalOf (historyIn state) slots .entries)
+unfoldable pub savedForgetAnswer : List ℕ → List ℕ → ℕ → Forgot
+savedForgetAnswer state slots k = forgetAnswer (goodSaved state slots) k (journalOf (historyIn state) slots .entries)
 
--- a refusal keeps every byte; otherwise the history is saved (3.19, 4.1, 4.5)
+-- a refusal keeps every byte; otherwise the history is saved (4.5)
+abbrev pub stateLeft : Forgot → List ℕ → Journal → List ℕ
+stateLeft told state j = cond (isGone told) (savedOf (editorIn state) (recordOf j)) state
+
+-- (3.19, 4.1, 4.5)
 pub record SavedForget (state slots : List ℕ) (k : ℕ) (told : Forgot) (state′ slots′ : List ℕ) : Type 0 where
-  pub answer : told ≡ forgetIn state slots k
-  pub kept : state′ ≡ cond (isGone told) (savedOf (editorIn state) (recordOf (forgotten k (journalOf (historyIn state) slots)))) state
-  pub held : slots′ ≡ cond (isGone told) (journalSlots (forgotten k (journalOf (historyIn state) slots))) slots
+  pub answer : told ≡ savedForgetAnswer state slots k
+  pub kept : state′ ≡ stateLeft told state (forgotten k (journalOf (historyIn state) slots))
+  pub held : slots′ ≡ slotsLeft told slots (forgotten k (journalOf (historyIn state) slots))

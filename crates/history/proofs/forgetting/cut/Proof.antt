@@ -7,15 +7,15 @@ use borrow.Author.Needs.{needs}
 use Rattle.history.proofs.forgetting.cut.Statement.{statement}
 use Rattle.history.proofs.forgetting.cut.Tie as tie
 
-lengths-requires : tie.Need-lengths-requires
-lengths-requires c κs = search needs
+total-of-requires : tie.Need-total-of-requires
+total-of-requires c κs = search needs
 
 sub-total : tie.Need-sub-total
 sub-total c =
     let args = c .before .before .before .before .args in
     let pre = c .before .before .before .before .pre in
     let l = lost-within (args .history) (args .slots .now) (pre .0) (args .start) (args .end) (pre .1) in
-    let e = c .before .lengths .ensures in
+    let e = c .before .total-of .ensures in
     omega arith
 
 sub-left : tie.Need-sub-left
@@ -48,13 +48,13 @@ returns c =
     let close-up = c .before .before .before .before .before .before .close-up in
     let clear-slots = c .before .before .clear-slots in
     let g = good-has (args .history) (args .slots .now) (pre .0) in
-    cut-holds (args .history) (args .slots .now) (pre .0) (args .start) (args .end) (pre .1) _ _ _ _ (pre .2) refl (c .before .before .before .before .before .before .before .before .before .lengths .ensures) (clear-slots .kept .0 ∙ close-up .kept .0 ∙ g .size) (close-up .ensures) (clear-slots .ensures)
+    cut-holds (args .history) (args .slots .now) (pre .0) (args .start) (args .end) (pre .1) _ _ _ _ (pre .2) refl (c .before .before .before .before .before .before .before .before .before .total-of .ensures) (clear-slots .kept .0 ∙ close-up .kept .0 ∙ g .size) (close-up .ensures) (clear-slots .ensures)
 
 pub cut-spec : {M : Type 1} → statement M
 cut-spec =
     tie.close
     (tie.spec
-    lengths-requires
+    total-of-requires
     sub-total
     sub-left
     sub-left-2

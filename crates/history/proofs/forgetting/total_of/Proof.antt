@@ -1,4 +1,4 @@
--- `history::forgetting::lengths` meets its contract. The sum is that of the entries from start up to i.
+-- `history::forgetting::total_of` meets its contract. The sum is that of the entries from start up to i.
 use native.Mathlib.Omega.{arith}
 use borrow.Author.Needs.{needs}
 use Prim.Native.Nat.{ℕ, _-_, _≤_}
@@ -9,8 +9,8 @@ use Rattle.history.specs.Journal.{journalOf}
 use Rattle.history.proofs.Journals.{count-held, good-fair, fair-short, good-total}
 use Rattle.history.proofs.Totals.{total-none, total-on}
 use Rattle.history.proofs.Forgotten.{total-cut}
-use Rattle.history.proofs.forgetting.lengths.Statement.{statement}
-use Rattle.history.proofs.forgetting.lengths.Tie as tie
+use Rattle.history.proofs.forgetting.total_of.Statement.{statement}
+use Rattle.history.proofs.forgetting.total_of.Tie as tie
 
 abbrev Inv-loop : tie.InvT-loop
 Inv-loop history slots start end sum₀ i₀ sum i = (start ≤ i) × (i ≤ end) × (sum ≡ total (take (i - start) (drop start (journalOf history slots .entries))))
@@ -62,8 +62,8 @@ returns c =
     let e : c .before .loop .i ≡ args .end = omega arith in
     c .before .loop .inv .2 ∙ ap (λ (n : ℕ). total (take (n - args .start) (drop (args .start) (journalOf (args .history) (args .slots .now) .entries)))) e
 
-pub lengths-spec : {M : Type 1} → statement M
-lengths-spec =
+pub total-of-spec : {M : Type 1} → statement M
+total-of-spec =
     tie.close
     (tie.spec
     Inv-loop
