@@ -23,10 +23,10 @@ const SCREEN: usize = 512;
 const COUNT: usize = 261;
 const FIRST: usize = 265;
 
-const LINES: [usize; 2] = [20, 200];
+pub const LINES: [usize; 2] = [20, 200];
 
 /// A full history has so many entries.
-const ENTRIES: usize = 100;
+pub const ENTRIES: usize = 100;
 
 /// What the entries of a history are made of.
 #[derive(Clone, Copy)]
@@ -65,8 +65,8 @@ const GREEK: [History; 3] = [HISTORIES[9], HISTORIES[10], HISTORIES[11]];
 /// Those that are begun at several slots, and the slots.
 const BEGUN: [History; 3] = [HISTORIES[3], HISTORIES[1], HISTORIES[9]];
 const FIRSTS: [usize; 4] = [0, 1, 50, 99];
-/// Those to which texts are added.
-const ADDED: [History; 2] = [HISTORIES[3], HISTORIES[1]];
+/// Those to which texts are added, and of which entries are forgotten.
+pub const ADDED: [History; 2] = [HISTORIES[3], HISTORIES[1]];
 /// So many texts are added before the time is taken: then no entry is there that was there before.
 const ADDED_BEFORE: usize = 250;
 
@@ -249,6 +249,18 @@ impl Ours {
         assert_eq!(answer, (text.len() as u64) << 48 | 1 << 40 | 1);
     }
 
+    /// An entry forgotten of the state as the call before left it, and no other with it.
+    pub fn forget(&mut self, number: usize) {
+        let answer = black_box(calls::history_forget(black_box(&mut self.state), &mut self.slots, number));
+        assert_eq!(answer, 1);
+    }
+
+    /// Puts back the state and the slots of another.
+    pub fn put_back(&mut self, other: &Ours) {
+        self.state = other.state;
+        self.slots.copy_from_slice(&other.slots);
+    }
+
     /// What Up shows.
     fn recalled(&mut self) -> Vec<u8> {
         self.state = self.before;
@@ -258,14 +270,14 @@ impl Ours {
     }
 
     /// The entries, from the oldest to the newest.
-    fn entries(&self) -> Vec<&[u8]> {
+    pub fn entries(&self) -> Vec<&[u8]> {
         let [count, first] = [COUNT, FIRST].map(|place| usize::from(self.state[place]));
         let slot = |number| &self.slots[(first + number) % ENTRIES * SLOT..][..SLOT];
         (0..count).map(slot).map(|slot| &slot[1..][..usize::from(slot[0])]).collect()
     }
 
     /// One letter typed to the state as it was before.
-    fn press(&mut self) -> u64 {
+    pub fn press(&mut self) -> u64 {
         self.press_key(LETTER)
     }
 

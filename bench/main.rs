@@ -1,5 +1,6 @@
-// Times the proved library against the original shell, both from this one driver, and prints eleven tables, or nine
+// Times the proved library against the original shell, both from this one driver, and prints twelve tables, or ten
 // where the program `console` runs under an emulator.
+mod forget;
 mod help;
 mod keys;
 mod lines;
@@ -21,6 +22,8 @@ fn main() {
     keys::begun_rows();
     table::add_heading();
     keys::add_rows();
+    table::forget_heading();
+    forget::rows();
     table::profile_heading();
     keys::profile_rows();
     table::tree_heading();

@@ -1,6 +1,6 @@
 #!/bin/sh
 # Times the proved library and the program console against the original shell: builds them, with one driver, and prints
-# eleven tables.
+# twelve tables.
 set -eu
 cd "$(dirname "$0")/.."
 . compare/build.sh

@@ -63,6 +63,21 @@ pub fn add_row(history: &str, call: &str, key: f64, time: f64) {
     println!("| {history:<20} | {call:<8} | {key:>8.0} | {time:>7.0} | {by_key:>10.2} | {less:>16.0} |");
 }
 
+pub fn forget_heading() {
+    println!();
+    println!("| history              | forgotten  | copy ns | a key ns | call ns | call / key | call less key ns |");
+    println!("|----------------------|------------|--------:|---------:|--------:|-----------:|-----------------:|");
+}
+
+/// Prints the row of a call that forgets an entry of a full history, beside a key with the same history, both without the
+/// copy before them.
+pub fn forget_row(history: &str, entry: &str, copy: f64, key: f64, time: f64) {
+    let (by_key, less) = (time / key, time - key);
+    println!(
+        "| {history:<20} | {entry:<10} | {copy:>7.0} | {key:>8.0} | {time:>7.0} | {by_key:>10.2} | {less:>16.0} |"
+    );
+}
+
 pub fn profile_heading() {
     println!();
     println!("| line | history              | key                           | Rust's keys ns | ECMA-48's ns | ECMA-48's / Rust's |");

@@ -2,8 +2,8 @@
 #[path = "../crates/rissemat/rissemat.rs"]
 mod rissemat;
 
-use rissemat::{rissemat_fresh, rissemat_fresh_with, rissemat_help, rissemat_history_add, rissemat_key};
-use rissemat::{rissemat_parse, rissemat_quote, rissemat_run, rissemat_tree, rissemat_words};
+use rissemat::{rissemat_fresh, rissemat_fresh_with, rissemat_help, rissemat_history_add, rissemat_history_forget};
+use rissemat::{rissemat_key, rissemat_parse, rissemat_quote, rissemat_run, rissemat_tree, rissemat_words};
 
 /// Writes the words of a line as frames of kind 14.
 pub fn words(line: &[u8], out: &mut [u8]) -> u64 {
@@ -56,6 +56,11 @@ pub fn history_add(state: &mut [u8], slots: &mut [u8], text: &[u8]) -> u64 {
             text.len(),
         )
     }
+}
+
+/// Forgets the entry of a saved state's history that has this number, from the oldest on.
+pub fn history_forget(state: &mut [u8], slots: &mut [u8], number: usize) -> u64 {
+    unsafe { rissemat_history_forget(state.as_mut_ptr(), state.len(), slots.as_mut_ptr(), slots.len(), number) }
 }
 
 /// Tests a tree image.

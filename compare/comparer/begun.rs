@@ -1,6 +1,6 @@
 // Histories that begin at every slot: adding to them against the original's CommandHistory, and keys against its loop and
 // against the same history begun at slot 0.
-use crate::history::{LENGTHS, PROMPT, enter};
+use crate::history::LENGTHS;
 use crate::keys::{TRIED, apart};
 use crate::lent::Lent;
 use crate::lines::Mixer;
@@ -9,8 +9,8 @@ use crate::model::{ENTRIES, Effect, LINE, Model, Profile};
 use crate::part::{Part, hex};
 use crate::sequences;
 use crate::shell::{PLAIN, walk};
+use crate::steps::{Step, go_on};
 use crate::streams::Typist;
-use original::Original;
 
 const SEED: u64 = 0x6265_6775_0000_0001;
 const SEED_KEYS: u64 = 0x6265_6775_0000_0002;
@@ -24,9 +24,6 @@ const TEXTS: usize = 300;
 /// So many mixed streams make one: of ECMA-48's keys they are longer.
 const STREAMS: usize = 12;
 const STREAMS_ECMA48: usize = 3;
-const UP: &[u8] = b"\x1B[A";
-const DOWN: &[u8] = b"\x1B[B";
-const REDRAW: &[u8] = b"\r\x1B[2K";
 
 /// What the entries of a history are made of.
 #[derive(Clone, Copy)]
@@ -88,66 +85,11 @@ pub fn histories(part: &mut Part) {
                     }
                     texts.push(text);
                 }
-                go_on(part, &mut lent, model, &texts);
+                let steps: Vec<Step> = texts.into_iter().enumerate().map(Step::bring).collect();
+                go_on(part, &mut lent, model, &steps);
             }
         }
     }
-}
-
-/// Brings texts to a history and to the original's with the same entries. After each the original is read through: from the
-/// newest entry to the oldest, and back, which leaves it behind the newest. At last both are led up past the oldest entry and
-/// down past the newest by arrows. In the input the first slot and the count stand before the texts.
-fn go_on(part: &mut Part, lent: &mut Lent, mut model: Model, texts: &[Vec<u8>]) {
-    part.input(&[&[model.first as u8, model.entries.len() as u8], &texts.concat()[..]].concat());
-    lent.hold(&model.state(), &model.slots());
-    let mut theirs = Original::history();
-    for entry in &model.entries {
-        theirs.add_command(String::from_utf8_lossy(entry).into_owned());
-    }
-    for (number, text) in texts.iter().enumerate() {
-        let entered = number % 2 == 1;
-        let bring = if entered { enter } else { Lent::add };
-        if !bring(lent, part, &mut model, text) {
-            return;
-        }
-        // an ill-formed line is an empty one to the loop's history, and an ill-formed text is refused
-        match str::from_utf8(text) {
-            Ok(text) => theirs.add_command(text.to_string()),
-            Err(_) if entered => theirs.add_command(String::new()),
-            Err(_) => {}
-        }
-        let ours: Vec<Option<&[u8]>> = lent.entries().into_iter().map(Some).collect();
-        let same = ours.iter().rev().chain([&None]).all(|entry| theirs.previous().map(String::as_bytes) == *entry)
-            && ours.iter().skip(1).chain([&None]).all(|entry| theirs.next().map(String::as_bytes) == *entry);
-        if !part.note((!same).then(|| format!("text:     number {number}\nthe entries are not the original's"))) {
-            return;
-        }
-    }
-    let mut recalled = |arrow| {
-        (0..=ENTRIES).all(|step| {
-            let redraw = |entry: &[u8]| [REDRAW, PROMPT, entry].concat();
-            let expected = match arrow {
-                UP => theirs.previous().map(|entry| redraw(entry.as_bytes())).unwrap_or_default(),
-                _ => redraw(theirs.next().map(String::as_bytes).unwrap_or_default()),
-            };
-            recalls(part, lent, &mut model, arrow, step, &expected)
-        })
-    };
-    _ = recalled(UP) && recalled(DOWN);
-}
-
-/// The last byte of an arrow has to show what the original would, and the others nothing.
-fn recalls(part: &mut Part, lent: &mut Lent, model: &mut Model, arrow: &[u8], step: usize, expected: &[u8]) -> bool {
-    let mut shown = Vec::new();
-    for &key in arrow {
-        let Some(effect) = lent.press(part, model, PROMPT, key) else { return false };
-        shown.extend(effect.screen);
-    }
-    let difference = (shown != expected).then(|| {
-        let arrow = arrow.escape_ascii();
-        format!("arrow:    {arrow}, step {step}\nRust:     {}\nours:     {}", hex(expected), hex(&shown))
-    });
-    part.note(difference)
 }
 
 /// Histories of each count at each slot, before mixed streams of keys of either profile.
@@ -174,7 +116,7 @@ pub fn keys(part: &mut Part) {
 }
 
 /// The text with a letter for each character that no key types.
-fn typable(text: &str) -> String {
+pub fn typable(text: &str) -> String {
     text.chars().map(|character| if character.is_ascii_control() { 'x' } else { character }).collect()
 }
 

@@ -15,8 +15,8 @@ pub struct Room {
     pub screen: usize,
 }
 
-/// How many slots a key or a text may change, and how many `fresh` may, which writes all there are. A refused call may change
-/// none.
+/// How many slots a key or a text may change, and how many `fresh` may, which writes all there are, and forgetting, after
+/// which entries close up. A refused call may change none.
 const ONE: usize = 1;
 const ALL: usize = usize::MAX;
 
@@ -116,6 +116,22 @@ impl Lent {
         self.judge(part, ONE, answer, given, || format!("add {}", hex(text)))
     }
 
+    /// Has the library and the model forget the entry with this number, if there is one.
+    pub fn forget(&mut self, part: &mut Part, model: &mut Model, number: usize) -> bool {
+        let answer = answers::forget_refusal(model.entries.len(), number).unwrap_or_else(|| {
+            let gone = model.forget(number);
+            self.leave(model, true);
+            gone as u64
+        });
+        self.forgetting(part, number, answer)
+    }
+
+    /// An entry to forget that must be refused with this answer.
+    pub fn forgetting(&mut self, part: &mut Part, number: usize, answer: u64) -> bool {
+        let given = calls::history_forget(self.state.lent(), self.slots.lent(), number);
+        self.judge(part, ALL, answer, given, || format!("forget {number}"))
+    }
+
     /// The entries of the history, as the library left them.
     pub fn entries(&self) -> Vec<&[u8]> {
         let (state, slots) = (self.state.found(), self.slots.found());
@@ -127,6 +143,11 @@ impl Lent {
     /// The bytes of the state, as the library left them.
     pub fn state(&self) -> &[u8] {
         self.state.found()
+    }
+
+    /// The bytes of the slots, as the library left them.
+    pub fn slots(&self) -> &[u8] {
+        self.slots.found()
     }
 
     // A line buffer that is too short is refused before a screen that is.

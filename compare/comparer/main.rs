@@ -4,6 +4,8 @@ mod buffers;
 mod console;
 mod damage;
 mod firsts;
+mod forget;
+mod forgetful;
 mod frames;
 mod help;
 mod history;
@@ -26,6 +28,7 @@ mod sequences;
 mod session;
 mod shell;
 mod states;
+mod steps;
 mod streams;
 mod totals;
 mod tree;
@@ -37,7 +40,7 @@ mod workers;
 use part::Part;
 use std::process::ExitCode;
 
-const PARTS: [(&str, fn(&mut Part)); 80] = [
+const PARTS: [(&str, fn(&mut Part)); 88] = [
     ("session: the original under keys", session::compare),
     ("marked: M1 to M8", marked::compare),
     ("words: every short line", words::short_lines),
@@ -55,6 +58,13 @@ const PARTS: [(&str, fn(&mut Part)); 80] = [
     ("history: mixed texts", history::mixed_texts),
     ("history: full ones", history::full_ones),
     ("history: begun at every slot", begun::histories),
+    ("forget: every short history", forget::short_ones),
+    ("forget: begun at every slot", forget::every_slot),
+    ("forget: full ones, without trace", forget::full_ones),
+    ("forget: room that comes back", forgetful::room),
+    ("forget: among texts", forgetful::texts),
+    ("forget: among the Rust's keys", forgetful::rust_keys),
+    ("forget: among ECMA-48's keys", forgetful::ecma48_keys),
     ("keys: named streams", keys::named_streams),
     ("keys: every short stream", keys::short_streams),
     ("keys: every byte in every mode", keys::every_byte),
@@ -79,6 +89,7 @@ const PARTS: [(&str, fn(&mut Part)); 80] = [
     ("states: totals about the right one", totals::about),
     ("states: first slots", firsts::compare),
     ("states: buffers of other lengths", states::lengths),
+    ("states: whatever is forgotten", states::forgetting),
     ("tree: the original's own trees", tree::original_trees),
     ("tree: random trees", tree::random_trees),
     ("tree: damaged images", tree::damaged_images),

@@ -1,4 +1,5 @@
 // Saved states, good and damaged: each damaged one is refused by 12 and kept, and each good one is taken.
+use crate::forget::beyond;
 use crate::lent::{Lent, NONE, Room};
 use crate::lines::{Mixer, every_character};
 use crate::model::answers::BAD_STATE;
@@ -19,6 +20,10 @@ const WITHOUT_TOTAL: usize = 263;
 const WITHOUT_FIRST: usize = 265;
 /// What bytes of the slots are changed to, besides their neighbours.
 pub const BYTES: [u8; 5] = [0, b' ', b'a', 0x85, 0xFF];
+/// The numbers of entries to forget that come in turn.
+const FORGOTTEN: [usize; 7] = [0, 1, 2, ENTRIES - 1, ENTRIES, 1 << 32, usize::MAX];
+/// What a byte of a bad state is changed by, where every number is tried.
+const CHANGES: [u8; 4] = [0x01, 0x02, 0x80, 0xFF];
 /// What a bad state is lent: all that it needs, and a prompt, a text and buffers that would be refused as well.
 const LENT: [(&[u8], &[u8], Room); 2] =
     [(PROMPT, b"a", Room { line: LINE, screen: 400 }), (b"\xFF", &[0xFF; 300], NONE)];
@@ -59,20 +64,21 @@ impl Saved<'_> {
         self.part.note((read != good).then(|| format!("the model takes it: {read}, and it has to be taken: {good}")));
     }
 
-    /// A key and a text on a state. Bad ones are refused before the prompt, the buffers and the text are looked at.
+    /// A key, a text and an entry to forget on a state. Bad ones are refused before the prompt, the buffers, the text and
+    /// the number are looked at.
     fn calls(&mut self, state: &[u8], slots: &[u8], put: &[u8]) {
         self.part.input(&[state, put].concat());
-        let key = KEYS[self.turn / 2 % KEYS.len()];
+        let (key, number) = (KEYS[self.turn / 2 % KEYS.len()], FORGOTTEN[self.turn / 2 % FORGOTTEN.len()]);
         self.lent.hold(state, slots);
         let Some(mut model) = Model::read(state, slots) else {
             let (prompt, text, room) = LENT[self.turn % LENT.len()];
             self.lent.refuse(self.part, prompt, key, room, BAD_STATE);
             self.lent.adding(self.part, text, BAD_STATE);
+            self.lent.forgetting(self.part, number, BAD_STATE);
             return;
         };
-        if self.lent.press_short(self.part, &mut model, PROMPT, key).is_some() {
-            self.lent.add(self.part, &mut model, b"a b");
-        }
+        let pressed = self.lent.press_short(self.part, &mut model, PROMPT, key).is_some();
+        _ = pressed && self.lent.add(self.part, &mut model, b"a b") && self.lent.forget(self.part, &mut model, number);
     }
 
     /// A state with one byte changed.
@@ -268,8 +274,43 @@ pub fn entries(part: &mut Part) {
     }
 }
 
-/// States and slots of other lengths, to keys and texts and to `fresh`, with each profile and without; good states cut off at
-/// each place.
+/// Bad states of many kinds, whatever is to be forgotten: each number that an entry may have, and some that none has.
+pub fn forgetting(part: &mut Part) {
+    let mut lent = Lent::new();
+    for (state, slots) in good().iter().flat_map(damaged).filter(|(state, slots)| Model::read(state, slots).is_none()) {
+        lent.hold(&state, &slots);
+        for number in (0..ENTRIES).chain(beyond(ENTRIES, ENTRIES / 2)) {
+            part.input(&[&state[..], &number.to_be_bytes()].concat());
+            lent.forgetting(part, number, BAD_STATE);
+        }
+    }
+}
+
+/// A state and its slots, changed: another length; another byte in each number of the state; in some slots another first,
+/// second or last byte. Some of them are good.
+fn damaged(model: &Model) -> Vec<(Vec<u8>, Vec<u8>)> {
+    let with = |damage: &dyn Fn(&mut Vec<u8>, &mut Vec<u8>)| {
+        let (mut state, mut slots) = (model.state().to_vec(), model.slots());
+        damage(&mut state, &mut slots);
+        (state, slots)
+    };
+    let mut list = vec![
+        with(&|state, _| state.truncate(STATE - 1)),
+        with(&|state, _| state.push(0)),
+        with(&|_, slots| slots.truncate(SLOTS - 1)),
+        with(&|_, slots| slots.push(0)),
+    ];
+    for place in (0..HEAD).chain(PROFILE..STATE) {
+        list.extend(CHANGES.map(|change| with(&|state, _| state[place] ^= change)));
+    }
+    for slot in (0..SLOTS).step_by(7 * SLOT) {
+        list.extend([slot, slot + 1, slot + LINE].map(|place| with(&|_, slots| slots[place] ^= 1)));
+    }
+    list
+}
+
+/// States and slots of other lengths, to keys, texts and entries to forget, and to `fresh`, with each profile and without;
+/// good states cut off at each place.
 pub fn lengths(part: &mut Part) {
     let mut saved = saved(part);
     let without = [WITHOUT_PROFILE, EDITOR, WITHOUT_TOTAL, WITHOUT_TOTAL + 1, WITHOUT_FIRST];

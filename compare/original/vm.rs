@@ -46,6 +46,15 @@ impl Original {
         CommandHistory::new(100)
     }
 
+    /// The same with these entries, from the oldest to the newest.
+    pub fn history_of(entries: &[Vec<u8>]) -> CommandHistory {
+        let mut history = Original::history();
+        for entry in entries {
+            history.add_command(String::from_utf8_lossy(entry).into_owned());
+        }
+        history
+    }
+
     /// What the loop does with a line behind the LF of Enter, up to the prompt.
     pub fn run_line(line: &[u8]) {
         if !line.is_empty() && !handle_builtin_commands(str::from_utf8(line).unwrap_or("")) {

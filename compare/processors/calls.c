@@ -11,6 +11,7 @@ u64 rissemat_fresh_with(u8 profile, u8 *state, usize state_len, u8 *slots, usize
 u64 rissemat_key(u8 *state, usize state_len, u8 *slots, usize slots_len, const u8 *prompt, usize prompt_len, u8 key,
                  u8 *line, usize line_len, u8 *screen, usize screen_len);
 u64 rissemat_history_add(u8 *state, usize state_len, u8 *slots, usize slots_len, const u8 *text, usize text_len);
+u64 rissemat_history_forget(u8 *state, usize state_len, u8 *slots, usize slots_len, usize k);
 u64 rissemat_tree(const u8 *image, usize image_len);
 u64 rissemat_parse(const u8 *image, usize image_len, const u8 *line, usize line_len, u8 *out, usize out_len);
 u64 rissemat_help(const u8 *image, usize image_len, const u8 *line, usize line_len, u8 *out, usize out_len);
@@ -156,6 +157,31 @@ static void press_sequence(usize profile) {
     press_key(profile, below(9) ? last[below(sizeof last)] : (u8)below(256));
 }
 
+/* Adds a text to the history of the session with a profile. */
+static void add(usize profile, const u8 *text, usize n) {
+    count(rissemat_history_add(states[profile], sizeof *states, slots[profile], sizeof *slots, text, n));
+}
+
+/* Forgets an entry of it. */
+static void forget(usize profile, usize k) {
+    count(rissemat_history_forget(states[profile], sizeof *states, slots[profile], sizeof *slots, k));
+    count_bytes(states[profile], sizeof *states);
+}
+
+/* Adds the line. Now and then an entry is forgotten before that, which may not be there, or after it one between two
+ * equal ones. */
+static void remember(usize profile, usize n) {
+    if (!below(3)) {
+        forget(profile, below(9) ? below(states[profile][261] + 2ul) : seed);
+    }
+    add(profile, line, n);
+    if (!below(5)) {
+        add(profile, (const u8 *)"x", 1);
+        add(profile, line, n);
+        forget(profile, states[profile][261] - 2ul);
+    }
+}
+
 /* Begins a session with any profile, most of the two that are there, and with buffers of about the lengths that they have to have. */
 static void begin(void) {
     u8 profile = (u8)(below(4) ? below(2) : below(256));
@@ -182,7 +208,7 @@ int main(void) {
         for (int i = 0; i < 3; i++) {
             press_sequence(profile);
         }
-        count(rissemat_history_add(states[profile], sizeof *states, slots[profile], sizeof *slots, line, n));
+        remember(profile, n);
         count_bytes(slots[profile], round % 200 < 2 ? sizeof *slots : 512);
     }
     for (int i = 60; i >= 0; i -= 4) {

@@ -2,7 +2,7 @@
  *
  * A slice is a pointer and then a length; a pointer to no bytes may be anything but must not be read through. Slices of
  * one call must not overlap. An answer has 64 bits:
- *   bits 0-31   the value: bytes written, or what the refusal returns (above 4,294,967,295: that number)
+ *   bits 0-31   the value: bytes written, entries that went, or what the refusal returns (above 4,294,967,295: that number)
  *   bits 32-39  the refusal's number, 0 for none; with kind 1 of rissemat_run the number beside the text
  *   bits 40-47  the kind of answer, where a call has several
  *   bits 48-63  a second value, where a call has one
@@ -63,9 +63,9 @@ uint64_t rissemat_key(uint8_t *state, size_t state_len, uint8_t *slots, size_t s
 uint64_t rissemat_history_add(uint8_t *state, size_t state_len, uint8_t *slots, size_t slots_len, const uint8_t *text, size_t text_len);
 
 /* Entry k of the history forgotten, 0 being the oldest. If that brings two equal entries together, the older of them goes as well. Later
- * entries close up, the first slot stays, the slots that are free then hold zeros, and the place is set to the count; the line that is being
- * typed stays. So the room is given back: no later add drops an old entry before there are 100 again. The value is how many entries went, 1
- * or 2.
+ * entries close up, the first slot stays, the slots that are free then hold zeros, and the place is set to the count. So the room is given
+ * back: no later key or add drops an old entry before there are 100 again. The line that is being typed stays, also one that was recalled
+ * from that entry: its text is then still in the state. The value is how many entries went, 1 or 2.
  * Refusals, in this order: 12 (a bad state, as above), 18 (k is not below the count of entries: k). */
 uint64_t rissemat_history_forget(uint8_t *state, size_t state_len, uint8_t *slots, size_t slots_len, size_t k);
 

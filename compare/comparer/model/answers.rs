@@ -12,6 +12,9 @@ const TOO_SHORT: u64 = 9;
 const BAD_PROMPT: u64 = 11;
 pub const BAD_STATE: u64 = refusal(12, 0);
 const TOO_LONG: u64 = 13;
+const NO_ENTRY: u64 = 18;
+/// The greatest value that an answer tells: it stands for all that are greater.
+const MOST: usize = 0xFFFF_FFFF;
 
 /// The value in the low 32 bits, the refusal's number in the 8 above.
 pub const fn refusal(number: u64, value: usize) -> u64 {
@@ -45,6 +48,11 @@ pub fn add(text: &[u8]) -> Result<&str, u64> {
         return Err(refusal(TOO_LONG, text.len()));
     }
     str::from_utf8(text).map_err(|error| refusal(ILL_FORMED, error.valid_up_to()))
+}
+
+/// Why a good state with so many entries has none of this number to forget, if it has none.
+pub fn forget_refusal(count: usize, number: usize) -> Option<u64> {
+    (number >= count).then(|| refusal(NO_ENTRY, number.min(MOST)))
 }
 
 /// What `fresh` answers for buffers of these lengths: the first that is of another length than it has to be, the state's or the slots'.

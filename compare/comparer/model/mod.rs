@@ -92,6 +92,16 @@ impl Model {
         self.place = self.entries.len();
     }
 
+    /// Forgets the entry with this number, which has to be there, and says how many went. Equal neighbours can only be
+    /// those that it stood between: they become one. The history begins where it began, also without entries.
+    pub fn forget(&mut self, number: usize) -> usize {
+        let before = self.entries.len();
+        self.entries.remove(number);
+        self.entries.dedup();
+        self.place = self.entries.len();
+        before - self.place
+    }
+
     fn wait(&mut self, mode: Mode) -> Effect {
         self.mode = mode;
         Effect::default()

@@ -1,4 +1,4 @@
--- Laws of buffers: a copy in progress, a part that is lent on and comes back, one write after another.
+-- Laws of buffers: a copy in progress, a part that is lent on and comes back, one write after another, what stays beside a write.
 use Prim.Native.Nat.{ℕ, _+_, _-_, _<_, _≤_}
 use mathlib.Core.Path.{_≡_, refl, sym, ap, _∙_}
 use mathlib.Core.List.{List, [], _∷_, _++_, append-assoc, append-nil}

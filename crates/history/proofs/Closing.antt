@@ -7,7 +7,7 @@ use mathlib.Core.List.{List, [], _∷_, _++_, append-assoc}
 use native.Mathlib.Omega.{arith}
 use native.Mathlib.Numerals.{add-one}
 use lib.Dec.{ltb}
-use lib.ListN.{length, take, drop, set, getD, replicate, length-append, length-drop, take-append-drop}
+use lib.ListN.{length, take, drop, set, getD, length-append, length-drop, take-append-drop}
 use lib.Seq.{take-at, drop-at, take-add, take-suc, take-all, drop-drop, length-take-le, getD-take, getD-drop}
 use borrow.Author.Tests.{ltb-true, ltb-false}
 use Rattle.buffer.proofs.Zeros.{length-zeros}
@@ -25,10 +25,11 @@ pub length-slot-at : (n : ℕ) (s : List ℕ) → n < 100 → length s ≡ 25600
 unfolding slotAt
 length-slot-at n s h l = length-take-le 256 (drop (256 * n) s) (let d = length-drop (256 * n) s in omega arith)
 
--- a copy in progress, from slot a to slot b: the byte that is read next has not been written, whichever slot lies first
-pub copy-begin : (d x : List ℕ) (o : ℕ) → d ≡ overAt (take 0 x) d o
-copy-begin d x o = sym (overAt-nothing d o)
+-- copying in progress: nothing is copied yet
+pub none-copied : (n : ℕ) (x d : List ℕ) (o : ℕ) → n ≡ 0 → d ≡ overAt (take n x) d o
+none-copied n x d o e = sym (ap (λ (k : ℕ). overAt (take k x) d o) e ∙ overAt-nothing d o)
 
+-- from slot a to slot b: the byte that is read next has not been written, whichever slot lies first
 module _ (d t : List ℕ) (a b i : ℕ) (size : length d ≡ 25600) (low : a < 100) (high : b < 100) (within : i < 256) (so : t ≡ overAt (take i (slotAt a d)) d (256 * b)) where
   copied : length (take i (slotAt a d)) ≡ i
   copied = length-take-le i (slotAt a d) (let n = length-slot-at a d low size in omega arith)
@@ -74,11 +75,6 @@ copy-end x d o i l h = ap (λ (y : List ℕ). overAt y d o) (take-all i x (omega
 
 -- slots in the order of the entries: those from one number on that have moved down to another, and zeros that were written
 module _ (f : ℕ) (v : List ℕ) (low : f < 100) (size : length v ≡ 25600) where
-  pub move-begin : (start end : ℕ) → v ≡ overAt (take (256 * (end - end)) (drop (256 * end) v)) v (256 * start)
-  move-begin start end =
-      let none : 256 * (end - end) ≡ 0 = omega arith in
-      sym (ap (λ (n : ℕ). overAt (take n (drop (256 * end) v)) v (256 * start)) none ∙ overAt-nothing v (256 * start))
-
   pub move-turn : (s left : List ℕ) (start end at to a b : ℕ) → length s ≡ 25600 → start ≤ end → end ≤ at → at < 100 → to + end ≡ at + start
       → turned f s ≡ overAt (take (256 * (at - end)) (drop (256 * end) v)) v (256 * start) → a ≡ slotAfter f at → b ≡ slotAfter f to → left ≡ overAt (slotAt a s) s (256 * b)
       → turned f left ≡ overAt (take (256 * (at + 1 - end)) (drop (256 * end) v)) v (256 * start)
@@ -110,12 +106,6 @@ module _ (f : ℕ) (v : List ℕ) (low : f < 100) (size : length v ≡ 25600) wh
       ∙ ap (overAt y (overAt done v (256 * start))) place
       ∙ overAt-both done y v (256 * start) (omega arith)
       ∙ ap (λ (l : List ℕ). overAt l v (256 * start)) join
-
-  pub wipe-begin : (start : ℕ) → v ≡ overAt (zeros (256 * (start - start))) v (256 * start)
-  unfolding zeros
-  wipe-begin start =
-      let none : 256 * (start - start) ≡ 0 = omega arith in
-      sym (ap (λ (n : ℕ). overAt (replicate n 0) v (256 * start)) none ∙ overAt-nothing v (256 * start))
 
   pub wipe-turn : (s left : List ℕ) (start i at next : ℕ) → length s ≡ 25600 → start ≤ i → i < 100 → at ≡ 256 * slotAfter f i → next ≡ at + 256
       → turned f s ≡ overAt (zeros (256 * (i - start))) v (256 * start) → left ≡ overAt (zeros (next - at)) s at

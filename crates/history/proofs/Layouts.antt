@@ -284,10 +284,10 @@ oldest-length f (e ∷ es) l h k =
     let here : (f + 100) % 100 ≡ (f + 0) % 100 = omega arith in
     ap (λ (i : ℕ). getD (layout f (e ∷ es)) (256 * i) 0) here ∙ first-of f 0 (e ∷ es) l (omega arith) h (omega arith)
 
--- clearing in progress, from a place up to i
-pub clear-begin : (d : List ℕ) (at : ℕ) → d ≡ overAt (zeros (at - at)) d at
+-- clearing in progress: nothing is cleared yet, then all from a place up to i
+pub none-cleared : (n : ℕ) (d : List ℕ) (at : ℕ) → n ≡ 0 → d ≡ overAt (zeros n) d at
 unfolding zeros
-clear-begin d at = let e : at - at ≡ 0 = omega arith in sym (ap (λ (k : ℕ). overAt (replicate k 0) d at) e ∙ overAt-nothing d at)
+none-cleared n d at e = sym (ap (λ (k : ℕ). overAt (replicate k 0) d at) e ∙ overAt-nothing d at)
 
 zeros-more : (n : ℕ) → zeros n ++ (0 ∷ []) ≡ zeros (n + 1)
 unfolding zeros

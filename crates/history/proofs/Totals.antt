@@ -1,4 +1,4 @@
--- Laws of the bytes in use: the total of entries after an add, of those in slots, and at most.
+-- Laws of the bytes in use: the total of entries one after the other, after an add, from a number on, in slots, and at most.
 use Prim.Native.Nat.{ℕ, zero, suc, _+_, _-_, _*_, _<_, _≤_}
 use mathlib.Core.Path.{_≡_, refl, sym, ap, _∙_}
 use mathlib.Core.Bool.{Bool, true, false, cond}

@@ -1,11 +1,13 @@
 -- What only contracts of inner functions cite: the test of a state slot by slot, over the slots in the order of the entries (Slots: `turned`), and entries that are taken out.
-use Prim.Native.Nat.{ℕ, zero, suc, _+_, _-_}
+use Prim.Native.Nat.{ℕ, zero, suc, _+_, _-_, _*_}
 use mathlib.Core.Bool.{Bool, false, cond}
 use mathlib.Core.List.{List, [], _∷_, _++_}
 use lib.Dec.{ltb, eqb}
 use lib.ListN.{length, take, drop, getD}
 use Rattle.buffer.specs.Compare.{sameBytes}
 use Rattle.buffer.specs.Greatest.{greatest}
+use Rattle.buffer.specs.Lend.{zeros}
+use Rattle.buffer.specs.Write.{overAt}
 use Rattle.history.specs.Entries.{usable, total}
 use Rattle.history.specs.Slots.{slotSize, slotsSize, entry}
 use Rattle.history.specs.Journal.{Journal}
@@ -50,3 +52,11 @@ cutOut start end es = take start es ++ drop end es
 -- a history without them, at the place that is the count then
 abbrev pub cutFrom : ℕ → ℕ → Journal → Journal
 cutFrom start end j = record { entries = cutOut start end (j .entries); place = length (cutOut start end (j .entries)); first = j .first }
+
+-- slots in the order of the entries, after those from number `end` up to the count have moved down to number `start`
+abbrev pub closedUp : ℕ → ℕ → ℕ → List ℕ → List ℕ
+closedUp start end count bytes = overAt (take (slotSize * (count - end)) (drop (slotSize * end) bytes)) bytes (slotSize * start)
+
+-- and after zeros were written into those from one number up to another
+abbrev pub cleared : ℕ → ℕ → List ℕ → List ℕ
+cleared start end bytes = overAt (zeros (slotSize * (end - start))) bytes (slotSize * start)

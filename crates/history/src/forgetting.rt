@@ -1,16 +1,14 @@
 // Forgetting an entry of a history: it goes, with it the older of two equal entries that would come together, and later entries close up.
-ghost use Prim.Native.Nat.{_-_, _*_, _<_, _≤_};
+ghost use Prim.Native.Nat.{_-_, _<_, _≤_};
 ghost use mathlib.Core.Path.{_≡_};
 ghost use mathlib.Core.Bool.{true};
 ghost use lib.ListN.{length, take, drop};
-ghost use Rattle.buffer.specs.Write.{overAt};
-ghost use Rattle.buffer.specs.Lend.{zeros};
 ghost use Rattle.history.specs.Entries.{total};
-ghost use Rattle.history.specs.Slots.{slotSize, slotCount, slotsSize, turned};
+ghost use Rattle.history.specs.Slots.{slotCount, slotsSize, turned};
 ghost use Rattle.history.specs.Journal.{journalOf, good};
 ghost use Rattle.history.specs.Answer.{Holds};
 ghost use Rattle.history.specs.Forgotten.{gone, Forgets};
-ghost use Rattle.history.specs.Inner.{cutFrom};
+ghost use Rattle.history.specs.Inner.{cutFrom, closedUp, cleared};
 use super::slots::clear;
 use super::slots::copy_slot;
 use super::slots::place_of;
@@ -69,7 +67,7 @@ fn total_of(history: History, slots: &[u8], start: usize, end: usize) -> usize
 // Moves the entries from number `end` up to the count down to number `start`.
 fn close_up(slots: &mut [u8], first: usize, start: usize, end: usize, count: usize)
     requires { ⌜ (length (now slots) ≡ slotsSize) × (first < slotCount) × (start ≤ end) × (end ≤ count) × (count ≤ slotCount) ⌝ }
-    ensures { λ _. ⌜ turned first (now (slots .exit)) ≡ overAt (take (slotSize * (count - end)) (drop (slotSize * end) (turned first (now (slots .entry))))) (turned first (now (slots .entry))) (slotSize * start) ⌝ }
+    ensures { λ _. ⌜ turned first (now (slots .exit)) ≡ closedUp start end count (turned first (now (slots .entry))) ⌝ }
 {
     let mut source = end;
     let mut target = start;
@@ -83,7 +81,7 @@ fn close_up(slots: &mut [u8], first: usize, start: usize, end: usize, count: usi
 // Writes zeros into the slots of entries, from one number up to another.
 fn clear_slots(slots: &mut [u8], first: usize, start: usize, end: usize)
     requires { ⌜ (length (now slots) ≡ slotsSize) × (first < slotCount) × (start ≤ end) × (end ≤ slotCount) ⌝ }
-    ensures { λ _. ⌜ turned first (now (slots .exit)) ≡ overAt (zeros (slotSize * (end - start))) (turned first (now (slots .entry))) (slotSize * start) ⌝ }
+    ensures { λ _. ⌜ turned first (now (slots .exit)) ≡ cleared start end (turned first (now (slots .entry))) ⌝ }
 {
     let mut i = start;
     while i < end {

@@ -154,7 +154,7 @@ drops-none-saved state slots state′ slots′ g (by-key {mid} {held} {prompt} {
     let b = drops-none-saved state slots mid held g m in (
       key-stays mid held prompt byte line screen told state′ slots′ line′ screen′ (b .0) p,
       longer-on (journalOf (historyIn state) slots) (journalOf (historyIn mid) held) (journalOf (historyIn state′) slots′) (b .1)
-      (key-longer-saved mid held prompt byte line screen told state′ slots′ line′ screen′ p (b .0) room),
+          (key-longer-saved mid held prompt byte line screen told state′ slots′ line′ screen′ p (b .0) room),
     )
 
 -- A SAVED STATE: the editor's 261 bytes stay, line, cursor, mode, sequence and profile, whatever is answered; and what is forgotten of a good one is forgotten as above

@@ -1,4 +1,4 @@
--- Our history is the Rust's `CommandHistory::new(100)`: its three functions on values and ours do the same to entries and place.
+-- Our history is the Rust's `CommandHistory::new(100)`: its three functions on values and ours do the same to entries and place, and with the list shortened it is ours after an entry was forgotten.
 use Prim.Native.Nat.{ℕ, zero, suc, _+_, _-_, _<_, _≤_}
 use mathlib.Core.Path.{_≡_, refl, sym, ap, _∙_}
 use mathlib.Core.Bool.{Bool, true, false, cond, not, Bool·beq}

@@ -8,7 +8,8 @@ use Rattle.buffer.specs.Lend.{zeros}
 use Rattle.buffer.specs.Write.{overAt}
 use Rattle.history.specs.Slots.{turned}
 use Rattle.history.proofs.Turned.{length-turned, after-below}
-use Rattle.history.proofs.Closing.{wipe-begin, wipe-turn}
+use Rattle.history.proofs.Layouts.{none-cleared}
+use Rattle.history.proofs.Closing.{wipe-turn}
 use Rattle.history.proofs.forgetting.clear_slots.Statement.{statement}
 use Rattle.history.proofs.forgetting.clear_slots.Tie as tie
 
@@ -23,7 +24,7 @@ loop-holds : tie.Need-loop-holds Inv-loop μ-loop
 loop-holds c =
     let args = c .before .args in
     let pre = c .before .pre in
-    (omega arith, pre .2, refl, wipe-begin (args .first) (turned (args .first) (args .slots .now)) (pre .1) (length-turned (args .first) (args .slots .now) ∙ pre .0) (args .start))
+    (omega arith, pre .2, refl, none-cleared (256 * (args .start - args .start)) (turned (args .first) (args .slots .now)) (256 * args .start) (omega arith))
 
 place-of-requires : tie.Need-place-of-requires Inv-loop μ-loop
 place-of-requires c κs = search needs

@@ -7,7 +7,7 @@ use lib.ListN.{length, take, drop}
 use Rattle.buffer.specs.Write.{overAt}
 use Rattle.history.specs.Slots.{turned}
 use Rattle.history.proofs.Turned.{length-turned, after-below}
-use Rattle.history.proofs.Closing.{move-begin, move-turn}
+use Rattle.history.proofs.Closing.{none-copied, move-turn}
 use Rattle.history.proofs.forgetting.close_up.Statement.{statement}
 use Rattle.history.proofs.forgetting.close_up.Tie as tie
 
@@ -23,7 +23,7 @@ loop-holds : tie.Need-loop-holds Inv-loop μ-loop
 loop-holds c =
     let args = c .before .args in
     let pre = c .before .pre in
-    (omega arith, pre .3, omega arith, refl, move-begin (args .first) (turned (args .first) (args .slots .now)) (pre .1) (length-turned (args .first) (args .slots .now) ∙ pre .0) (args .start) (args .end))
+    (omega arith, pre .3, omega arith, refl, none-copied (256 * (args .end - args .end)) (drop (256 * args .end) (turned (args .first) (args .slots .now))) (turned (args .first) (args .slots .now)) (256 * args .start) (omega arith))
 
 slot-after-requires : tie.Need-slot-after-requires Inv-loop μ-loop
 slot-after-requires c κs = search needs

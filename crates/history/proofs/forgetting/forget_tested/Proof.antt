@@ -4,7 +4,6 @@ use Rattle.history.proofs.Forgotten.{gone-few}
 use Rattle.history.proofs.Journals.{count-held}
 use Rattle.history.proofs.States.{good-has}
 use Rattle.history.specs.Journal.{journalOf}
-use mathlib.Core.Path.{_∙_}
 use native.Mathlib.Omega.{arith}
 use borrow.Author.Needs.{needs}
 use Rattle.history.proofs.forgetting.forget_tested.Statement.{statement}

@@ -1,6 +1,6 @@
 -- `history::slots::clear` meets its contract. The bytes from `at` up to i are zeros.
 use Rattle.buffer.specs.Lend.{zeros}
-use Rattle.history.proofs.Layouts.{clear-begin, clear-turn}
+use Rattle.history.proofs.Layouts.{none-cleared, clear-turn}
 use Rattle.buffer.specs.Write.{overAt}
 use native.Mathlib.Omega.{arith}
 use Prim.Native.Nat.{ℕ, _≤_, _-_}
@@ -16,7 +16,7 @@ abbrev μ-loop : tie.MeasureT-loop
 μ-loop out₀ at end i₀ out i = end - i
 
 loop-holds : tie.Need-loop-holds Inv-loop μ-loop
-loop-holds c = (omega (arith, c .pre .0), omega (arith, c .pre .0), refl, clear-begin _ _)
+loop-holds c = (omega (arith, c .pre .0), omega (arith, c .pre .0), refl, none-cleared (c .args .at - c .args .at) (c .args .out .now) (c .args .at) (omega arith))
 
 slice-write-out : tie.Need-slice-write-out Inv-loop μ-loop
 slice-write-out c = omega (arith, c .before .before .pre .1)

@@ -5,7 +5,7 @@ use mathlib.Core.Path.{_≡_, refl, _∙_}
 use lib.ListN.{length, take, length-set}
 use Rattle.buffer.specs.Write.{overAt}
 use Rattle.history.specs.Slots.{slotAt}
-use Rattle.history.proofs.Closing.{length-slot-at, copy-begin, copy-turn, copy-end}
+use Rattle.history.proofs.Closing.{length-slot-at, none-copied, copy-turn, copy-end}
 use Rattle.history.proofs.slots.copy_slot.Statement.{statement}
 use Rattle.history.proofs.slots.copy_slot.Tie as tie
 
@@ -22,7 +22,7 @@ mul-new : tie.Need-mul-new Inv-loop μ-loop
 mul-new c = let l = c .pre .2 in omega arith
 
 loop-holds : tie.Need-loop-holds Inv-loop μ-loop
-loop-holds c = (omega arith, refl, copy-begin (c .args .slots .now) (slotAt (c .args .source) (c .args .slots .now)) (256 * c .args .target))
+loop-holds c = (omega arith, refl, none-copied 0 (slotAt (c .args .source) (c .args .slots .now)) (c .args .slots .now) (256 * c .args .target) refl)
 
 add-slots : tie.Need-add-slots Inv-loop μ-loop
 add-slots c = let l = c .before .before .pre .1 in omega arith
