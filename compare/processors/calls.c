@@ -31,7 +31,7 @@ static u8 line[2048], words[8192], image[4096], out[65536];
 static u8 states[2][266], slots[2][25600], typed[255], screen[4096];
 static u8 spare_state[267], spare_slots[25601];
 
-/* The next number of the generator, below n. */
+/* The next number of the generator, below n. Where two are taken C says which comes first, so that compilers do the same. */
 static usize below(usize n) {
     seed ^= seed << 13;
     seed ^= seed >> 7;
@@ -95,7 +95,8 @@ static void split(usize n, usize room) {
         words[i] = out[i];
     }
     if (size && !below(7)) {
-        words[below(size)] ^= (u8)below(256);
+        usize place = below(size);
+        words[place] ^= (u8)below(256);
     }
     count(rissemat_quote(words, size, out, room));
     count_bytes(out, room);
@@ -110,7 +111,8 @@ static void command(usize n, usize room) {
         for (usize i = 0; i < size; i++) {
             image[i] = tree[i];
         }
-        image[below(size)] = (u8)below(256);
+        usize place = below(size);
+        image[place] = (u8)below(256);
         tree = image;
     }
     count(rissemat_tree(tree, size));
@@ -185,7 +187,8 @@ static void remember(usize profile, usize n) {
 /* Begins a session with any profile, most of the two that are there, and with buffers of about the lengths that they have to have. */
 static void begin(void) {
     u8 profile = (u8)(below(4) ? below(2) : below(256));
-    count(rissemat_fresh_with(profile, spare_state, 265 + below(3), spare_slots, 25599 + below(3)));
+    usize state_len = 265 + below(3), slots_len = 25599 + below(3);
+    count(rissemat_fresh_with(profile, spare_state, state_len, spare_slots, slots_len));
     count_bytes(spare_state, sizeof spare_state);
 }
 
