@@ -1,4 +1,6 @@
 // `parse_args`: the argument words of a line over the definitions of one node.
+#![tactic(auto)]
+
 mod form;
 mod meaning;
 mod reading;

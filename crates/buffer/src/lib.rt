@@ -1,4 +1,6 @@
 // The ground under all writers and lookups: writing into lent buffers, comparing byte strings, the greatest byte of a part.
+#![tactic(auto)]
+
 mod lend;
 mod maximum;
 mod measuring;

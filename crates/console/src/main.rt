@@ -1,4 +1,6 @@
 // The console: reads house lines from standard input, and writes what their session prints to standard output. All that needs no system call is in `stream`.
+#![tactic(auto)]
+
 mod channels;
 mod settings;
 mod turns;

@@ -1,4 +1,6 @@
 // What passes between the layers as bytes: texts after their length, frames of one text, and house lines, each both ways.
+#![tactic(auto)]
+
 mod framed;
 mod hex;
 mod house;

@@ -1,4 +1,6 @@
 // History: at most 100 entries in a lent buffer of 25,600 bytes, the state test, adding a text, forgetting an entry, and the steps that the arrow keys take.
+#![tactic(auto)]
+
 mod adding;
 mod forgetting;
 mod saving;

@@ -1,4 +1,6 @@
 // One frame of a tree image: read by its lengths, and by all the rules for a frame by itself.
+#![tactic(auto)]
+
 mod head;
 mod limits;
 

@@ -1,4 +1,6 @@
 // What keys mean: a byte, by the profile and by what the keys before it began, to an action and to what is waited for after it.
+#![tactic(auto)]
+
 mod control;
 mod meaning;
 mod numbers;

@@ -1,4 +1,6 @@
 // Lookups in a tree image: the subtree of a node by name, and a node's options and flags.
+#![tactic(auto)]
+
 mod definition;
 mod look;
 mod node;

@@ -1,4 +1,6 @@
 // The messages of the Rust for a line that it refuses, for `exit` and for `clear`.
+#![tactic(auto)]
+
 mod debug;
 mod error;
 mod fixed;

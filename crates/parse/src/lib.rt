@@ -1,4 +1,6 @@
 // `parse`: a line under a tree to the report of its command, or a numbered refusal.
+#![tactic(auto)]
+
 mod answer;
 mod fault;
 mod judging;

@@ -1,4 +1,6 @@
 // Replays stored answers of Rust's own text functions: writes what the crate text answers for the same inputs.
+#![tactic(auto)]
+
 mod codes;
 mod parts;
 mod sample;

@@ -1,4 +1,6 @@
 // Shows that the files of trees/ hold the trees of the crate trees, and replays stored answers of an independent reader of images.
+#![tactic(auto)]
+
 mod answer;
 mod house;
 mod largest;

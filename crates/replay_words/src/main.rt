@@ -1,4 +1,6 @@
 // Replays stored answers of the original's tokenize: writes what the crate words answers for the same lines.
+#![tactic(auto)]
+
 mod answer;
 mod sample;
 

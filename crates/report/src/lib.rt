@@ -1,4 +1,6 @@
 // The report: the frames of a parsed command, and the frame of a fault, measured and then written into a lent buffer.
+#![tactic(auto)]
+
 mod answer;
 mod fault;
 mod pairs;

@@ -3,6 +3,8 @@
 // Bits 0-31 are the value (bytes written, entries that went, or what the refusal returns; above 4,294,967,295 that number), bits 32-39 the
 // refusal's number (0: none), or the number beside a text, bits 40-47 the kind of answer where a call has several, bits 48-63 a
 // second value where a call has one. rissemat.h and rissemat.rs beside this crate declare the calls for C and for Rust.
+#![tactic(auto)]
+
 mod answers;
 mod pack;
 

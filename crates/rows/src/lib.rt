@@ -1,4 +1,6 @@
 // The rows of the Rust's lists over frames: options, flags and subcommands of a node, and the commands of a tree.
+#![tactic(auto)]
+
 mod list;
 mod row;
 

@@ -1,4 +1,6 @@
 // What is written to the terminal when the line is drawn anew.
+#![tactic(auto)]
+
 mod decimal;
 mod line;
 

@@ -1,4 +1,6 @@
 // A session over house lines, one at a time: tree lines build the image, key lines press keys, and what is printed are house lines.
+#![tactic(auto)]
+
 mod pressing;
 mod printing;
 mod running;

@@ -1,5 +1,7 @@
 // From bytes in to bytes out, without a system call: bytes that come in pieces of any size are cut into lines and given to a session, and what it prints
 // stands at the front of a lent buffer. A program has nothing to do but read, step and write.
+#![tactic(auto)]
+
 mod blank;
 mod holding;
 mod pressing;

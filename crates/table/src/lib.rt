@@ -1,4 +1,6 @@
 // The ordered map of keys and values: a sorted table of places in the split words and in the tree image, both lent.
+#![tactic(auto)]
+
 mod packing;
 mod sorted;
 

@@ -1,4 +1,6 @@
 // Text: UTF-8 as Unicode has it, White_Space, and a text taken apart at white space. Every call answers every input.
+#![tactic(auto)]
+
 mod apart;
 mod formed;
 mod space;

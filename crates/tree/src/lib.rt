@@ -1,5 +1,7 @@
 // The tree image as a whole: the test that it keeps all rules, on the way the command that words name, the walk by which it goes, and an image that
 // grows by one frame at a time.
+#![tactic(auto)]
+
 mod check;
 mod command;
 mod growing;

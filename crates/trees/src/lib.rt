@@ -1,4 +1,6 @@
 // The trees of the original's base commands as images, with and without its feature fs; trees/*.tree hold the same bytes as house lines.
+#![tactic(auto)]
+
 ghost use Rattle.std.specs.Prelude.{◌≡◌};
 ghost use Rattle.tree.specs.Images.{flat};
 ghost use Rattle.trees.specs.Commands.{base_tree, fs_tree};
