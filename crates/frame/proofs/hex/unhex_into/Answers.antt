@@ -1,0 +1,33 @@
+-- `frame::unhex_into` meets its contract. The loop's invariant: the first i bytes that the digits stand for stand in front of what out had after them.
+use Rattle.frame.proofs.Digits.{length_unhex, unhex_at}
+use Rattle.frame.specs.Hex.{unhex}
+use Rattle.buffer.proofs.Lending.{copy_step, copy_end}
+use native.Mathlib.Omega.{arith}
+use Prim.Native.Nat.{ℕ, ◌≤◌, ◌-◌, ◌/◌}
+use mathlib.Core.Path.{◌≡◌, refl, sym, ◌∙◌}
+use mathlib.Core.List.{List, ◌++◌}
+use lib.ListN.{length, get_or, take, drop, length-set}
+use Rattle.frame.proofs.hex.unhex_into.Goals as goal
+
+pub loop-i-init : goal.loop-i-init
+loop-i-init c = (omega arith, refl, refl)
+
+pub bounds-out-i : goal.bounds-out-i
+bounds-out-i c = omega (arith, c.requires)
+
+pub loop-i-preserved : goal.loop-i-preserved
+loop-i-preserved c =
+    let d : List ℕ = c.args.digits.now in
+    let i : ℕ = c.loop-i.i in
+    let l = length_unhex d in
+    let e : c.pair_of.result ≡ get_or (unhex d) i 0 = c.pair_of.ensures ∙ sym (unhex_at d i c.loop-i-test.true) in
+    (omega arith, simp length-set c.loop-i.invariant.1, rw (c.loop-i.invariant.2, e) (copy_step (unhex d) c.args.out.now i (omega arith) (omega (arith, c.requires))))
+
+pub returns : goal.returns
+returns c =
+    let d : List ℕ = c.args.digits.now in
+    let l = length_unhex d in
+    record {
+      count = omega arith;
+      bytes = c.loop-i.invariant.2 ∙ copy_end (unhex d) _ c.loop-i.i (omega arith) (omega arith);
+    }
