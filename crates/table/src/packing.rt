@@ -5,14 +5,14 @@ ghost use Rattle.table.specs.Inner.{bit_of, packed, key_of, value_of};
 use buffer::part;
 
 // Where a text lies in its slice.
-#[derive(Drop)]
+#[derive(Clone, Copy)]
 pub struct Span {
     pub start: usize,
     pub length: usize,
 }
 
 // What a key lies in: the split words for a long form, the tree image for a short one.
-#[derive(Drop)]
+#[derive(Clone, Copy)]
 pub enum Source {
     Words,
     Image,

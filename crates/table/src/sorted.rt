@@ -10,14 +10,14 @@ use buffer::{Order, compare, same};
 const CAPACITY: usize = 64;
 
 // The entries stand in the order of their keys.
-#[derive(Drop)]
+#[derive(Clone, Copy)]
 pub struct Table {
     pub count: usize,
     pub at: [usize; CAPACITY],
 }
 
 // Where a key is: at a place, or missing there.
-#[derive(Drop)]
+#[derive(Clone, Copy)]
 enum Rank {
     Here(usize),
     Gap(usize),

@@ -6,7 +6,7 @@ use mathlib.Core.List.{List, [], ◌∷◌}
 use types.Run.{OneOf, hit, miss}
 use denote.Enum.Declared.{tag_of}
 use Rattle.text.specs.contracts.utf8.Decoded.{the_type}
-use mathlib.Core.Logic.{◌⊎◌, ⊎_elim}
+use mathlib.Core.Logic.{⊎_elim}
 use native.Mathlib.Omega.{arith}
 use borrow.Author.Tests.{lt-ltb, le-ltb, ltb-true, ltb-false, eqb-true, eqb-false, leb-false}
 use lib.Dec.{ltb, leb, eqb}

@@ -8,7 +8,7 @@ use Rattle.buffer.proofs.Lists.{drop_end}
 use lib.Seq.{drop-drop, drop_at, take_at, take-length, length-take-le}
 use native.Mathlib.Nat.{le_refl}
 use borrow.Author.Tests.{lt-ltb}
-use types.Run.{OneOf, miss}
+use types.Run.{OneOf, hit, miss}
 use denote.Enum.Declared.{tag_of}
 use Rattle.text.specs.contracts.utf8.Decoded.{the_type}
 use Rattle.buffer.specs.Greatest.{greatest}
@@ -30,6 +30,12 @@ codes_none = rw pieces_none
 
 pub codes_end : (s : List ℕ) (at : ℕ) → length s ≤ at → codes_in (drop at s) ≡ []
 codes_end s at h = rw (drop_end s at h) codes_none
+
+-- what is no character has one of the other two tags
+pub no_character : (d : Decoded) → ((code n : ℕ) → d ≡ Character code n → ⊥) → OneOf (1 ∷ 2 ∷ []) (tag_of the_type d)
+no_character (Character code n) h = absurd (h code n refl)
+no_character IllFormed h = hit (1 ∷ 2 ∷ []) 1 tt
+no_character End h = hit (1 ∷ 2 ∷ []) 2 tt
 
 -- where the decoder answers no character
 pub codes_stop : (s : List ℕ) (d : Decoded) → decode_first s ≡ d → OneOf (1 ∷ 2 ∷ []) (tag_of the_type d) → codes_in s ≡ []

@@ -2,7 +2,7 @@
 use Rattle.std.specs.Prelude.{List, [], ◌∷◌, length, drop, get_or, ℕ, ◌-◌, max, Bool, true, cond, eqb, leb, ltb}
 use Rattle.text.specs.declared.apart.Seen.{Seen}
 use Rattle.text.specs.declared.apart.Seen.TheVariants.{Here, End}
-use Rattle.text.specs.Decoding.{Piece, bytes_of, least_second, greatest_second, within, character, on_decoded}
+use Rattle.text.specs.Decoding.{Piece, bytes_of, least_second, greatest_second, within, on_decoded}
 use Rattle.text.specs.Apart.{white}
 use Rattle.text.specs.declared.utf8.Decoded.{Decoded}
 

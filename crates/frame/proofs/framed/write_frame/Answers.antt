@@ -14,6 +14,10 @@ pub push_byte-at-requires : goal.push_byte-at-requires
 push_byte-at-requires c =
     omega (arith, c.requires, length_frame_of c.args.kind c.args.t.now)
 
+pub slice_bounds-write_long_text-start : goal.slice_bounds-write_long_text-start
+slice_bounds-write_long_text-start c =
+    omega (arith, c.requires, length_frame_of c.args.kind c.args.t.now, c.push_byte-at.ensures.place)
+
 pub slice_bounds-write_long_text-count : goal.slice_bounds-write_long_text-count
 slice_bounds-write_long_text-count c =
     omega (arith, c.requires, length_frame_of c.args.kind c.args.t.now, c.push_byte-at.ensures.place)
@@ -21,7 +25,7 @@ slice_bounds-write_long_text-count c =
 pub write_long_text-requires : goal.write_long_text-requires
 write_long_text-requires c =
     let t : List ℕ = c.args.t.now in
-    let mid : List ℕ = c.push_byte-at.new.1.0 in
+    let mid : List ℕ = c.push_byte-at.new.out in
     let h : c.push_byte-at.result + length (text_of 2 t) ≤ length mid = omega (arith, c.requires, length_frame_of c.args.kind t, length_text_of 2 t, c.push_byte-at.ensures.place) in
     (omega (arith, c.requires), rest_room (text_of 2 t) mid c.push_byte-at.result h)
 
@@ -32,7 +36,7 @@ overflow_add-result c =
 pub returns : goal.returns
 unfolding frame_of
 returns c =
-    let mid : List ℕ = c.push_byte-at.new.1.0 in
+    let mid : List ℕ = c.push_byte-at.new.out in
     let h : 0 + 1 ≤ length c.args.out.now = omega (arith, c.requires, length_frame_of c.args.kind c.args.t.now) in
     let k : c.push_byte-at.result ≤ length mid = omega (arith, c.push_byte-at.ensures.place) in
     let rest = rest_pushed (text_of 2 c.args.t.now) mid _ c.push_byte-at.result _ k c.write_long_text.ensures in

@@ -2,6 +2,7 @@
 use Rattle.frame.proofs.Lines.{ended_some, house_told, refusal_keeps}
 use Rattle.frame.specs.House.{digits_of, house_leaves}
 use Rattle.frame.specs.Hex.{unhex}
+use borrow.Enum.Refused.{opened}
 use lib.Seq.{length-take-le}
 use native.Mathlib.Omega.{arith}
 use Prim.Native.Nat.{ℕ, ◌-◌}
@@ -13,7 +14,7 @@ use Rattle.frame.proofs.house.read_line.Goals as goal
 pub returns-in_default : goal.returns-in_default
 unfolding house_leaves
 returns-in_default c =
-    let kept = refusal_keeps c.read_house-answer.result (unhex (digits_of c.args.line.now)) c.args.out.now c.in_default.in_default-own.keys2 in
+    let kept = refusal_keeps c.read_house-answer.result (unhex (digits_of c.args.line.now)) c.args.out.now (opened c.in_default.in_default-own.keys2) in
     record {
       answer = c.read_house-answer.ensures;
       bytes = sym (rw c.read_house-answer.ensures at kept);
