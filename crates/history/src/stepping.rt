@@ -8,7 +8,7 @@ ghost use Rattle.history.specs.Answer.{Emptied};
 use super::slots::{clear, place_of};
 use buffer::{byte_at, part};
 
-#[derive(Drop)]
+#[derive(Clone, Copy)]
 pub struct History {
     pub count: usize,
     pub place: usize,
