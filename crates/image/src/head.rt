@@ -5,7 +5,7 @@ ghost use Rattle.image.specs.Reading.{span, node_lengths, definition_lengths, no
 use buffer::{byte_at, rest};
 
 // The length bytes of a frame's texts; `other` is a node's usage or a definition's long, 255 for none. And the frame's whole size.
-#[derive(Drop)]
+#[derive(Clone, Copy)]
 pub struct Lengths {
     pub name: usize,
     pub description: usize,
@@ -14,7 +14,7 @@ pub struct Lengths {
 }
 
 // What stands at a place.
-#[derive(Drop)]
+#[derive(Clone, Copy)]
 pub enum Head {
     Node {
         depth: usize,

@@ -1,0 +1,5 @@
+-- The measure is the number.
+use Rattle.screen.proofs.decimal.+decimal_size.Given as goal
+
+abbrev pub decreases-decimal_size : goal.decreases-decimal_size
+decreases-decimal_size l = l.n

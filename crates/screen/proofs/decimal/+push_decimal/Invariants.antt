@@ -1,0 +1,5 @@
+-- The measure is the number.
+use Rattle.screen.proofs.decimal.+push_decimal.Given as goal
+
+abbrev pub decreases-push_decimal : goal.decreases-push_decimal
+decreases-push_decimal l = l.n
