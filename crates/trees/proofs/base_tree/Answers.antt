@@ -6,12 +6,8 @@ use Rattle.image.specs.Frames.{text, perhaps, encode_frame}
 use Rattle.buffer.specs.Numbers.{number_bytes}
 use Rattle.frame.specs.Text.{text_of}
 use mathlib.Core.Path.{refl}
-use Rattle.trees.proofs.base_tree.Statement.{statement}
-use Rattle.trees.proofs.base_tree.Tie as tie
+use Rattle.trees.proofs.base_tree.Goals as goal
 
-returns : tie.Need-returns
+pub returns : goal.returns
 unfolding ascii command marked base_tree number_bytes text_of text perhaps encode_frame flat
 returns c = refl
-
-pub base-tree-spec : {M : Type 1} → statement M
-base-tree-spec = tie.close (tie.spec returns)
