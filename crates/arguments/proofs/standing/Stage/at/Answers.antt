@@ -2,11 +2,7 @@
 use Rattle.arguments.proofs.Moves.{moved_on}
 use mathlib.Core.Path.{refl}
 use Rattle.arguments.specs.Inner.{held}
-use Rattle.arguments.proofs.standing.Stage.at.Statement.{statement}
-use Rattle.arguments.proofs.standing.Stage.at.Tie as tie
+use Rattle.arguments.proofs.standing.Stage.at.Goals as goal
 
-returns : tie.Need-returns
+pub returns : goal.returns
 returns c = (λ words image o f. moved_on words image (held o f c.args.self) c.args.progress c.requires, refl, refl)
-
-pub at-spec : {M : Type 1} → statement M
-at-spec = tie.close (tie.spec returns)
