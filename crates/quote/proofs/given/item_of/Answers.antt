@@ -8,11 +8,11 @@ pub returns-then-length-eq0 : goal.returns-then-length-eq0
 returns-then-length-eq0 c = sym (item_empty _ c.args.word.now (omega (arith, c.if-length-eq0.true)))
 
 pub returns-then-is_plain : goal.returns-then-is_plain
-returns-then-is_plain c = sym (item_plain _ c.if-length-eq0.false (sym c.is_plain.ensures ∙ c.if-is_plain.true))
+returns-then-is_plain c = sym (item_plain c.args.word.now (omega arith) (sym c.is_plain.ensures ∙ c.if-is_plain.true))
 
 pub returns-then-well_formed_prefix-length : goal.returns-then-well_formed_prefix-length
 returns-then-well_formed_prefix-length c =
-    sym (item_broken _ _ _ c.if-length-eq0.false c.well_formed_prefix.ensures c.if-well_formed_prefix-length.true)
+    sym (item_broken _ _ c.args.word.now (omega arith) c.well_formed_prefix.ensures c.if-well_formed_prefix-length.true)
 
 pub quoted_size-requires : goal.quoted_size-requires
 quoted_size-requires c =
@@ -20,4 +20,4 @@ quoted_size-requires c =
 
 pub returns : goal.returns
 returns c =
-    sym (item_good _ _ _ c.if-length-eq0.false (reaches_end c.args.word.now _ c.well_formed_prefix.ensures c.if-well_formed_prefix-length.false) c.quoted_size.ensures)
+    sym (item_good _ _ c.args.word.now (omega arith) (reaches_end c.args.word.now _ c.well_formed_prefix.ensures c.if-well_formed_prefix-length.false) c.quoted_size.ensures)
