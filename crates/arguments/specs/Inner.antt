@@ -1,7 +1,7 @@
 -- What only contracts of inner calls cite. How the code holds where a line stands: tables for the maps, frames in a lent buffer for the positional words, parts of the split words
 -- and of the image for keys and texts.
 use Rattle.std.specs.Prelude.{ℕ, ◌+◌, ◌-◌, ◌<◌, ◌≤◌, ◌≡◌, List, ◌++◌, length, take, drop, replicate}
-use Rattle.std.specs.Borrow.{Bor}
+use Rattle.std.specs.Borrow.{MutBor}
 use denote.Triple.Both.{Both}
 use Rattle.text.specs.Unicode.{WellFormed}
 use Rattle.text.specs.Decoding.{codes_in}
@@ -171,7 +171,7 @@ ShortsRead words image first start end f s g r =
 
 -- a slice that a call is lent: what it holds at entry and at exit
 abbrev pub Slice : Type 0
-Slice = Both (Bor (List ℕ)) (Bor (List ℕ))
+Slice = Both (MutBor (List ℕ)) (MutBor (List ℕ))
 
 -- a stage and the tables that are lent with it, gone past a word of n bytes to where `to` leads from the positional words and the scan before
 abbrev pub WordPassed : List ℕ → List ℕ → ℕ → Slice → Slice → Stage → Slice → Stage → (List ℕ → Scan → Stand) → Type 0

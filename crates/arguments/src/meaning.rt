@@ -10,7 +10,7 @@ use lookup::{Defined, definition_by_short};
 use table::Span;
 
 // A flag or an option, with the place of its name in the image; or nothing that the node knows.
-#[derive(Drop)]
+#[derive(Clone, Copy)]
 pub enum Meaning {
     Flag(Span),
     Option(Span),

@@ -8,14 +8,14 @@ use buffer::push;
 use table::{Source, Span, Table, entry, put};
 
 // The text that a fault tells: dashes, and a part of the words.
-#[derive(Drop)]
+#[derive(Clone, Copy)]
 pub struct FaultText {
     pub dashes: u8,
     pub start: usize,
     pub length: usize,
 }
 
-#[derive(Drop)]
+#[derive(Clone, Copy)]
 pub enum Progress {
     Going,
     // For the value of a key; without one the text is told.
@@ -29,7 +29,7 @@ pub enum Progress {
 }
 
 // What has been found: the positional words as the first `kept` bytes of a lent buffer, which holds their frames.
-#[derive(Drop)]
+#[derive(Clone, Copy)]
 pub struct Scan {
     pub options: Table,
     pub flags: Table,
@@ -51,7 +51,7 @@ impl Scan {
 }
 
 // The same while the words are read: the tables are lent, and of each so many entries count.
-#[derive(Drop)]
+#[derive(Clone, Copy)]
 pub struct Stage {
     pub options: usize,
     pub flags: usize,

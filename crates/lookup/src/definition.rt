@@ -14,7 +14,7 @@ use buffer::rest;
 use image::{Head, head_of};
 
 // Where the definition begins that was asked for, or that there is none.
-#[derive(Drop)]
+#[derive(Clone, Copy)]
 pub enum Defined {
     Flag(usize),
     Option(usize),
@@ -22,7 +22,7 @@ pub enum Defined {
 }
 
 // What a frame is to the pass: a flag or an option that was asked for, one to be passed, or the end of the list.
-#[derive(Drop)]
+#[derive(Clone, Copy)]
 enum Match {
     FlagHit,
     OptionHit(usize),

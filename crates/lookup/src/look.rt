@@ -8,7 +8,7 @@ use buffer::{part, same};
 use image::{Head, Lengths, head_of};
 
 // What is sought.
-#[derive(Drop)]
+#[derive(Clone, Copy)]
 pub enum Sought {
     // The node of that depth whose name is the key.
     Node { depth: usize },
@@ -19,7 +19,7 @@ pub enum Sought {
 }
 
 // What a frame is to a search: what it seeks, one to be passed with its size, or its end.
-#[derive(Drop)]
+#[derive(Clone, Copy)]
 pub enum Look {
     Hit,
     Pass(usize),

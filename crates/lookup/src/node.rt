@@ -8,7 +8,7 @@ use buffer::part;
 use image::{Head, head_at};
 
 // A part of an image, from a node to the end of its subtree, or that there is none.
-#[derive(Drop)]
+#[derive(Clone, Copy)]
 pub enum Subtree {
     Between { start: usize, end: usize },
     Nowhere,

@@ -7,7 +7,7 @@ use super::look::{Look, Sought, look_first};
 use buffer::rest;
 
 // Where a frame begins, or that there is none.
-#[derive(Drop)]
+#[derive(Clone, Copy)]
 pub enum Spot {
     At(usize),
     Nothing,

@@ -8,7 +8,7 @@ ghost use Rattle.message.specs.Messages.{message};
 use buffer::{Shown, put};
 
 // What is wrong with a line.
-#[derive(Drop)]
+#[derive(Clone, Copy)]
 pub enum ParseError {
     // No command of that name.
     UnknownCommand,

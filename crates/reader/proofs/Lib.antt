@@ -1,5 +1,4 @@
 -- The laws of the crate `reader` that belong to no one function, and its worked examples.
 pub mod Steps
-pub mod Apart
 pub mod Answers
 pub mod Examples

@@ -1,6 +1,5 @@
-// A frame reader: a struct that holds an image and a place in it, and thin functions over it. The borrow checker covers no function
-// over such a struct: each is proved by hand, and leaves the work to a function of `walk` or of the crate image. Callers that hold
-// no reader use `frames`, whose parameter is plain.
+// A frame reader: a struct that holds an image and a place in it, and thin functions over it, each of which leaves the work to a
+// function of `walk` or of the crate image. Callers that hold no reader use `frames`, whose parameter is plain.
 #![tactic(auto)]
 
 mod walk;

@@ -1,6 +1,6 @@
 // What writing a report or a fault answers.
 
-#[derive(Drop)]
+#[derive(Clone, Copy)]
 pub enum Reported {
     // Its frames stand in the buffer, so many bytes.
     Report(usize),

@@ -229,7 +229,7 @@ module _ (listing : Listing) (frames out₀ : List ℕ) (at : ℕ) where
                 size = i.size ∙ way.size;
                 most = omega arith;
                 finish =
-                    λ q last c. way.finish q last (inked_as _ _ _ _ _ _ (ap (λ (x : List ℕ). row_by listing (read_first (drop place frames)) ++ rows listing (frames_of x)) (sym (drop-drop size place frames)) ∙ sym k.goes_on) (inked_both _ _ _ _ _ _ _ _ i c));
+                    λ q last c. way.finish q last (inked_as _ _ _ _ _ _ (ap (λ (x : List ℕ). row_by listing (read_first (drop place frames)) ++ rows listing (frames_of x)) (sym (drop-drop size place frames)) ∙ sym k.goes_on_lem) (inked_both _ _ _ _ _ _ _ _ i c));
               },
             )
 

@@ -11,7 +11,7 @@ use buffer::{part, put, put_byte};
 use image::{Head, Lengths, head_of};
 
 // What is listed.
-#[derive(Drop)]
+#[derive(Clone, Copy)]
 pub enum Listing {
     // The options of the last node.
     Options,

@@ -10,14 +10,14 @@ use super::walk::{Walk, step_at};
 use buffer::part;
 
 // What an image is: well-formed, or bad with the number, from 0, of the first frame that breaks a rule.
-#[derive(Drop)]
+#[derive(Clone, Copy)]
 pub enum Checked {
     Good,
     BadFrame(usize),
 }
 
 // What an image is, and where words lead in one that is well-formed.
-#[derive(Drop)]
+#[derive(Clone, Copy)]
 pub struct Tested {
     pub checked: Checked,
     pub found: Found,

@@ -9,7 +9,7 @@ use buffer::{byte_at, part, same};
 use frame::{Framed, read_frame};
 
 // A part of the image, and the place in the words after the path that leads to it.
-#[derive(Drop)]
+#[derive(Clone, Copy)]
 pub struct Place {
     pub start: usize,
     pub end: usize,
@@ -17,7 +17,7 @@ pub struct Place {
 }
 
 // The command that words name.
-#[derive(Drop)]
+#[derive(Clone, Copy)]
 pub enum Found {
     At(Place),
     // The first word names none.
@@ -25,7 +25,7 @@ pub enum Found {
 }
 
 // The word that comes next: its length, or that there is none.
-#[derive(Drop)]
+#[derive(Clone, Copy)]
 pub enum Next {
     Word(usize),
     End,
@@ -33,7 +33,7 @@ pub enum Next {
 
 // Where words have led so far, the depth of a child there, and the next word. The part ends with the image until a node comes that is not below;
 // at depth 0 it is the whole image, and no word is passed.
-#[derive(Drop)]
+#[derive(Clone, Copy)]
 pub struct Trail {
     pub place: Place,
     pub depth: usize,

@@ -10,7 +10,7 @@ use image::{Head, frame_at};
 
 // Where a walk stands: its place; for each depth the place of the last name there, of which the first `deep` count; how many nodes
 // there were, and how many options and flags of the last one.
-#[derive(Drop)]
+#[derive(Clone, Copy)]
 pub struct Walk {
     pub at: usize,
     pub names: [u16; 8],
@@ -21,7 +21,7 @@ pub struct Walk {
 }
 
 // A walk after one frame more, if that keeps the rules.
-#[derive(Drop)]
+#[derive(Clone, Copy)]
 pub struct Step {
     pub walk: Walk,
     pub ok: bool,

@@ -15,8 +15,6 @@ use Rattle.buffer.proofs.Lists.{drop_step, drop_end}
 use Rattle.text.specs.Space.{white_space, among, is_white_space}
 use lib.ListN.{get_or, length, take, drop}
 use lib.Seq.{drop-drop, take-add, append_snoc}
-use types.Run.{OneOf, miss}
-use denote.Enum.Declared.{tag_of}
 use Rattle.buffer.proofs.Choices.{then_is, else_is, true_is_not_false}
 use Rattle.text.specs.Unicode.{encode, encode_all}
 use Rattle.text.specs.Decoding.{decode_first, codes_in, letter_first}
@@ -31,7 +29,6 @@ use Rattle.words.specs.Inner.{done_by, is_take, run_first, Reading, StepOf, Run,
 use Rattle.words.specs.Ordinary.{ordinary, ordinary_first}
 use Rattle.words.specs.declared.step.Step.{Step}
 use Rattle.words.specs.declared.step.Step.TheVariants.{Go, IllFormed}
-use Rattle.words.specs.contracts.role.Role.{the_type}
 
 codes_on : (line : List ℕ) (at code n : ℕ) → decode_first (drop at line) ≡ Character code n → codes_in (drop at line) ≡ code ∷ codes_in (drop (at + n) line)
 codes_on line at code n d = codes_step (drop at line) code n d ∙ ap (λ (l : List ℕ). code ∷ codes_in l) (drop-drop n at line)
@@ -132,9 +129,9 @@ unfolding run_first
 run_stop quotes codes e = rw e
 
 pub run_other : (line : List ℕ) (quotes : Bool) (at code n : ℕ) (t : Role) → decode_first (drop at line) ≡ Character code n → role_of quotes false code ≡ t
-    → OneOf (1 ∷ 2 ∷ 3 ∷ []) (tag_of the_type t) → run_first quotes (codes_in (drop at line)) ≡ []
+    → (t ≡ Take → ⊥) → run_first quotes (codes_in (drop at line)) ≡ []
 unfolding run_first
-run_other line quotes at code n Take d e k = absurd (miss (1 ∷ 2 ∷ 3 ∷ []) 0 tt k)
+run_other line quotes at code n Take d e k = absurd (k refl)
 run_other line quotes at code n Escape d e k = rw (codes_on line at code n d, e)
 run_other line quotes at code n Toggle d e k = rw (codes_on line at code n d, e)
 run_other line quotes at code n Gap d e k = rw (codes_on line at code n d, e)

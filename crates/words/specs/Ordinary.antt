@@ -1,5 +1,5 @@
 -- Ordinary characters: those that are taken anywhere in a line.
-use Rattle.std.specs.Prelude.{ℕ, ◌-◌, Bool, false, cond, not, List, [], ◌∷◌, eqb, leb, length}
+use Rattle.std.specs.Prelude.{ℕ, Bool, false, cond, not, List, [], ◌∷◌, eqb, leb}
 use Rattle.text.specs.Decoding.{letter_first}
 use Rattle.words.specs.Tokens.{backslash, quote}
 

@@ -5,7 +5,7 @@ ghost use Rattle.frame.specs.Limits.{frames_limit, line_limit};
 
 use super::role::Role;
 
-#[derive(Drop)]
+#[derive(Clone, Copy)]
 pub struct Scan {
     pub at: usize,
     pub done: usize,

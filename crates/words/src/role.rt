@@ -6,7 +6,7 @@ use text::is_white_space;
 
 // A character is taken into the word, vanishes and has the next one taken as it stands, vanishes and opens or ends a
 // quotation, or ends the word.
-#[derive(Drop)]
+#[derive(Clone, Copy)]
 pub enum Role {
     Take,
     Escape,

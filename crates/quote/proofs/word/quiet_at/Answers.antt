@@ -1,0 +1,21 @@
+-- `quote::word::quiet_at` meets its contract: an ordinary character is quiet, and any other is what the decoder says.
+use Rattle.quote.proofs.Showing.{quiet_is, quiet_stop, quiet_ordinary}
+use mathlib.Core.Bool.{true, false}
+use mathlib.Core.Path.{sym, ◌∙◌}
+use Rattle.text.proofs.Prefix.{no_character}
+use Rattle.quote.proofs.word.quiet_at.Goals as goal
+
+pub returns-then-n-ne0 : goal.returns-then-n-ne0
+returns-then-n-ne0 c =
+    quiet_ordinary c.args.word.now c.args.at _ c.ordinary_at-n.ensures c.if-n-ne0.true
+
+pub returns-in_default : goal.returns-in_default
+returns-in_default c = sym (quiet_stop _ _ (sym c.decode.ensures) (no_character _ c.in_default.not-Character))
+
+pub returns-then-calls_for_quotes : goal.returns-then-calls_for_quotes
+returns-then-calls_for_quotes c =
+    sym (quiet_is _ _ _ true (sym c.in-Character.ensures) (sym c.calls_for_quotes.ensures ∙ c.if-calls_for_quotes.true))
+
+pub returns : goal.returns
+returns c =
+    sym (quiet_is _ _ _ false (sym c.in-Character.ensures) (sym c.calls_for_quotes.ensures ∙ c.if-calls_for_quotes.false))
