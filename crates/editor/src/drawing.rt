@@ -13,7 +13,7 @@ use screen::{Redrawn, clear_line_and_redraw};
 use text::well_formed_prefix;
 
 // What a key answers.
-#[derive(Drop)]
+#[derive(Clone, Copy)]
 pub enum Pressed {
     // So many bytes are shown.
     Shown(usize),

@@ -5,7 +5,7 @@ ghost use Rattle.editor.specs.Line.{limit, holding, line_of, fresh_editor, good_
 use buffer::greatest_byte;
 use keys::{Mode, Profile, is_good_mode};
 
-#[derive(Drop)]
+#[derive(Clone, Copy)]
 pub struct Editor {
     pub line: [u8; 255],
     pub length: usize,

@@ -23,7 +23,7 @@ pub enum Action {
 }
 
 // How the bytes after ESC are read, chosen for an editor at its fresh state.
-#[derive(Drop)]
+#[derive(Clone, Copy)]
 pub enum Profile {
     // As the original reads them.
     Rust,
@@ -38,7 +38,7 @@ pub const LONGEST: u8 = 15;
 pub const OTHER: u8 = 255;
 
 // How far a control sequence is read.
-#[derive(Drop)]
+#[derive(Clone, Copy)]
 pub struct Progress {
     // The bytes after ESC `[`.
     pub read: u8,
@@ -57,7 +57,7 @@ pub fn unread() -> Progress
 }
 
 // What the keys before this one began.
-#[derive(Drop)]
+#[derive(Clone, Copy)]
 pub enum Mode {
     Typing,
     // ESC has come.
