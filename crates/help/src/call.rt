@@ -15,7 +15,7 @@ use text::{Word, next_word, well_formed_prefix};
 use tree::{Checked, check_tree};
 
 // What help answers.
-#[derive(Drop)]
+#[derive(Clone, Copy)]
 pub enum Helped {
     // The help stands in the buffer, so many bytes.
     Text(usize),

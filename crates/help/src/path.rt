@@ -9,7 +9,7 @@ use lookup::{Subtree, find_node};
 use text::{Word, next_word};
 
 // Where words lead.
-#[derive(Drop)]
+#[derive(Clone, Copy)]
 pub enum Followed {
     // To a node: the part of the image that holds its subtree.
     Found { start: usize, end: usize },

@@ -13,7 +13,7 @@ use Rattle.buffer.proofs.Choices.{then_is, else_is}
 use Rattle.table.specs.Map.{Map}
 use Rattle.table.specs.Inner.{part_of}
 use Rattle.table.specs.declared.packing.Span.{Span}
-use Rattle.image.specs.Frames.{Frame, node}
+use Rattle.image.specs.Frames.{Frame}
 use Rattle.image.specs.Reading.{read, head_first, read_by, read_first, node_in, option_in, flag_in}
 use Rattle.image.specs.declared.head.Lengths.{Lengths}
 use Rattle.image.specs.declared.head.Head.{Head}

@@ -4,7 +4,7 @@ ghost use Rattle.parse.specs.Inner.{answered_by};
 
 use report::Reported;
 
-#[derive(Drop)]
+#[derive(Clone, Copy)]
 pub enum Parsed {
     // The report of a command, so many bytes.
     Report(usize),

@@ -11,7 +11,7 @@ use table::Span;
 use tree::{Found, Place};
 
 // Texts are told by where they stand: a word in the words, a name in the command's part of the image.
-#[derive(Drop)]
+#[derive(Clone, Copy)]
 pub enum Verdict {
     Fine,
     NoWords,
@@ -21,7 +21,7 @@ pub enum Verdict {
     MissingRequired(Span),
 }
 
-#[derive(Drop)]
+#[derive(Clone, Copy)]
 pub struct Judged {
     pub verdict: Verdict,
     pub place: Place,

@@ -9,7 +9,7 @@ use buffer::part;
 use image::{Head, head_at};
 use table::{Span, Table};
 
-#[derive(Drop)]
+#[derive(Clone, Copy)]
 pub enum Required {
     Fine,
     // The place of its name in the command's part of the image.

@@ -1,0 +1,13 @@
+-- `help::path::follow` meets its contract: the words left lead from the part reached to where all of them lead.
+use Rattle.help.proofs.Following.{OnPath, sets_out, arrives, stops, told, in_rest, loses, goes_on_lem}
+use Rattle.buffer.specs.Numbers.{Bytes}
+use native.Mathlib.Omega.{arith}
+use Prim.Native.Nat.{◌-◌}
+use lib.ListN.{length}
+use Rattle.help.proofs.path.follow.Given as goal
+
+abbrev pub invariant-loop-place : goal.invariant-loop-place
+invariant-loop-place l = OnPath l.image l.line l.start l.end l.depth l.place
+
+abbrev pub decreases-loop-place : goal.decreases-loop-place
+decreases-loop-place l = length l.line - l.place
