@@ -41,7 +41,7 @@ use Rattle.state.specs.Calls.{fresh_saved, SavedKey, SavedAdd, SavedForget}
 use Rattle.state.proofs.Stored.{held_in}
 use Rattle.state.proofs.Lasting.{Reached, key_stays, add_stays, forget_stays}
 use Rattle.state.proofs.Savings.{good_history, saved_first, fresh_saved_lem}
-use Rattle.state.proofs.Begun.{key_changes_saved, add_changes_saved, key_alike, add_alike, forget_alike}
+use Rattle.state.proofs.Beginnings.{key_changes_saved, add_changes_saved, key_alike, add_alike, forget_alike}
 use Rattle.session.specs.declared.standing.Session.{Session}
 use Rattle.promises.proofs.Tables.{told}
 use Rattle.promises.proofs.KeyAnswers.{keyed, Lent, press_bad, saved_add_bad, saved_forget_bad}

@@ -35,7 +35,7 @@ use Rattle.state.proofs.Savings.{good_history}
 use Rattle.state.proofs.Stored.{same_editor}
 use Rattle.state.proofs.ByValue.{same_saved, forget_by_value, forget_saved, forget_keeps}
 use Rattle.state.proofs.Lasting.{key_stays, add_stays}
-use Rattle.state.proofs.Begun.{key_longer_saved, add_longer_saved}
+use Rattle.state.proofs.Beginnings.{key_longer_saved, add_longer_saved}
 use Rattle.promises.proofs.FirstSlot.{entry_in_slot, zeros_in_slot}
 
 -- ONE REMOVAL MORE IS ALWAYS ENOUGH: entries of which each differs from the one before it are such again, whichever of them is forgotten

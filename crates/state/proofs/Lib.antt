@@ -4,5 +4,5 @@ pub mod Stored
 pub mod Answering
 pub mod Lasting
 pub mod ByValue
-pub mod Begun
+pub mod Beginnings
 pub mod Examples
