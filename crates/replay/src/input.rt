@@ -1,16 +1,35 @@
 // Standard input, read whole into a lent buffer, and its lines.
 ghost use Rattle.std.specs.Prelude.{◌≤◌, length};
-ghost use Rattle.io.specs.Counts.{IsPrefixLen};
 
-use libc::{STDIN_FILENO, STDOUT_FILENO};
+use std::io::{Input, Print, Read};
+
+// Reads until a buffer is full, the input ends or a read fails, and returns how many bytes stand at the front of the buffer.
+pub fn read_full<R: Read>(reader: &mut R, input: &mut [u8]) -> usize
+    ensures { result ≤ length input.new }
+{
+    let mut done = 0;
+    while done < input.len() {
+        match reader.read(&mut input[done..]) {
+            Ok(n) => {
+                if n == 0 {
+                    return done;
+                }
+                done += n;
+            }
+            Err(_) => return done,
+        }
+    }
+    done
+}
 
 // Reads all of standard input and returns its length. An input that fills the buffer may have more, and is told.
-pub fn read_input(input: &mut [u8]) -> usize
-    ensures { IsPrefixLen result input.new }
+pub fn read_input(rt: &(impl Input + Print), input: &mut [u8]) -> usize
+    ensures { result ≤ length input.new }
 {
-    let n = io::read_full(STDIN_FILENO, input);
+    let mut reader = rt.reader();
+    let n = read_full(&mut reader, input);
     if n == input.len() {
-        io::write_all(STDOUT_FILENO, b"the input is too long for the buffer\n");
+        let _ = rt.write_all(b"the input is too long for the buffer\n");
     }
     n
 }

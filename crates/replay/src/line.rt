@@ -1,5 +1,7 @@
 // A line of output, gathered in a lent buffer and written at its end. A line that doesn't fit is told.
-use libc::STDOUT_FILENO;
+ghost use Rattle.std.specs.Prelude.{◌<◌};
+
+use std::io::Print;
 
 // Puts a byte at a place of a line and returns the place after it. A full line takes no more.
 pub fn put(byte: u8, line: &mut [u8], at: usize) -> usize {
@@ -21,18 +23,47 @@ pub fn put_all(bytes: &[u8], line: &mut [u8], at: usize) -> usize {
     o
 }
 
+// The digit of a number below 16, in lower case.
+fn digit_of(number: u64) -> u8
+    requires { number < 16 }
+{
+    if number < 10 {
+        b'0' + number as u8
+    } else {
+        b'a' - 10 + number as u8
+    }
+}
+
 // Puts a number in decimal.
 pub fn put_decimal(n: usize, line: &mut [u8], at: usize) -> usize {
     let mut digits = [0u8; 20];
-    let k = io::decimal(n as u64, &mut digits);
-    put_all(&digits[..k], line, at)
+    let mut first = digits.len();
+    let mut left = n as u64;
+    while first > 0 {
+        first -= 1;
+        digits[first] = digit_of(left % 10);
+        left /= 10;
+        if left == 0 {
+            break;
+        }
+    }
+    put_all(&digits[first..], line, at)
 }
 
 // Puts a number in hexadecimal, with zeros in front up to a width.
 pub fn put_hex(n: u64, width: usize, line: &mut [u8], at: usize) -> usize {
     let mut digits = [0u8; 16];
-    let k = io::hex(n, width, &mut digits);
-    put_all(&digits[..k], line, at)
+    let mut first = digits.len();
+    let mut left = n;
+    while first > 0 {
+        first -= 1;
+        digits[first] = digit_of(left % 16);
+        left /= 16;
+        if left == 0 && width <= digits.len() - first {
+            break;
+        }
+    }
+    put_all(&digits[first..], line, at)
 }
 
 // Puts bytes in hexadecimal, two digits each; '-' stands for none.
@@ -50,14 +81,11 @@ pub fn put_bytes(bytes: &[u8], line: &mut [u8], at: usize) -> usize {
 }
 
 // Writes what a line holds up to a place, and the line's end.
-pub fn write(line: &mut [u8], at: usize) {
+pub fn write(rt: &impl Print, line: &mut [u8], at: usize) {
     let end = put(b'\n', line, at);
     if end < line.len() {
-        io::write_all(STDOUT_FILENO, &line[..end]);
+        let _ = rt.write_all(&line[..end]);
     } else {
-        io::write_all(
-            STDOUT_FILENO,
-            b"an answer is longer than the line's buffer\n",
-        );
+        let _ = rt.write_all(b"an answer is longer than the line's buffer\n");
     }
 }

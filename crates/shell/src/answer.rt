@@ -9,7 +9,7 @@ ghost use Rattle.shell.specs.Inner.{Answered};
 use buffer::Shown;
 use report::Reported;
 
-#[derive(Drop)]
+#[derive(Clone, Copy)]
 pub enum Ran {
     // Nothing is to be done.
     Nothing,

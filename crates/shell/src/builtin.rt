@@ -4,7 +4,7 @@ ghost use Rattle.shell.specs.Lines.{builtin_of};
 
 use buffer::same;
 
-#[derive(Drop)]
+#[derive(Clone, Copy)]
 pub enum Builtin {
     Help,
     Exit,

@@ -6,7 +6,7 @@ ghost use Rattle.shell.specs.Inner.{handler_by};
 
 use image::{Head, head_of};
 
-#[derive(Drop)]
+#[derive(Clone, Copy)]
 pub enum Handler {
     Number(u16),
     None,
