@@ -8,7 +8,7 @@ use Rattle.buffer.specs.Write.{over, over_at}
 use Rattle.buffer.proofs.Lending.{over_at_both, over_at_nothing}
 use Rattle.session.specs.Prints.{Printed, lines_of}
 use Rattle.session.proofs.Printings.{lines_both}
-use Rattle.stream.specs.Moves.{Stand, Move, printing, size, printed}
+use Rattle.stream.specs.Moves.{Stand, Move, printing, size}
 use Rattle.stream.specs.Inner.{Makes}
 
 pub size_both : (a b : List Printed) → size (a ++ b) ≡ size a + size b

@@ -13,7 +13,7 @@ use Rattle.frame.specs.Hex.{unhex}
 use Rattle.frame.specs.declared.house.House.{House}
 use Rattle.session.specs.Prints.{Printed, bad_line, lines_of}
 use Rattle.keys.specs.declared.standing.Profile.{Profile}
-use Rattle.session.specs.Lines.{form_by, formless, Form, line_form, Standing, beginning, Taking, grown, pressing, refused, take_form, take_line, Course, preceded, press_key, press_keys, on_taking, line_course, session}
+use Rattle.session.specs.Lines.{form_by, formless, Form, line_form, Standing, Taking, grown, pressing, refused, take_form, take_line, Course, preceded, press_key, press_keys, on_taking, line_course, session}
 use Rattle.session.specs.Sizes.{key_room}
 use Rattle.session.proofs.Printings.{lines_both}
 use Rattle.stream.specs.Bytes.{closes, cut, lines_in, console}
