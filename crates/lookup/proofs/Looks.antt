@@ -12,7 +12,7 @@ use Rattle.lookup.specs.contracts.look.Sought.{the_type}
 use Rattle.image.specs.contracts.head.Head.{the_type as head_type}
 use Rattle.buffer.specs.Compare.{same_bytes}
 use Rattle.image.specs.Frames.{Perhaps, Frame, node, option, flag}
-use Rattle.image.specs.Reading.{perhaps_in, head_first, read, read_by, read_first, node_in, option_in, flag_in}
+use Rattle.image.specs.Reading.{perhaps_in, head_first, read, read_by, read_first, option_in, flag_in}
 use Rattle.image.specs.declared.head.Lengths.{Lengths}
 use Rattle.image.specs.declared.head.Head.{Head}
 use Rattle.image.specs.declared.head.Head.TheVariants.{Node as NodeHead, Option as OptionHead, Flag as FlagHead, Bad, End}
@@ -21,7 +21,7 @@ use Rattle.lookup.specs.Inner.{hit_or, look_at, look_by}
 use Rattle.lookup.specs.declared.look.Sought.{Sought}
 use Rattle.lookup.specs.declared.look.Sought.TheVariants.{Node, Upper, OptionKeyed}
 use Rattle.lookup.specs.declared.look.Look.{Look}
-use Rattle.lookup.specs.declared.look.Look.TheVariants.{Hit, Pass, Stop}
+use Rattle.lookup.specs.declared.look.Look.TheVariants.{Pass, Stop}
 
 -- a part that was lent and compared, seen as what it holds
 pub same_part : (x y key : List ℕ) (r t : Bool) → r ≡ same_bytes x key → x ≡ y → r ≡ t → same_bytes y key ≡ t

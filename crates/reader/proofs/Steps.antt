@@ -5,7 +5,6 @@ use mathlib.Core.List.{List}
 use native.Mathlib.Omega.{arith}
 use lib.ListN.{length, drop, length-drop}
 use lib.Seq.{drop-drop}
-use Rattle.image.specs.Frames.{Frame}
 use Rattle.image.specs.Reading.{head_first, Read, read, broken, ended, read_by, read_first}
 use Rattle.image.specs.declared.head.Head.{Head}
 use Rattle.image.specs.declared.head.Head.TheVariants.{Node, Option, Flag, Bad, End}

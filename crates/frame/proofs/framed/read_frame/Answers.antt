@@ -1,6 +1,6 @@
 -- `frame::read_frame` meets its contract: `End` at the end, else the kind with what `long_text` reads after it.
 use Rattle.frame.proofs.Frames.{first_end, first_at}
-use mathlib.Core.Path.{sym, ◌∙◌}
+use mathlib.Core.Path.{sym}
 use Rattle.frame.proofs.framed.read_frame.Goals as goal
 
 pub returns-then-s-at : goal.returns-then-s-at

@@ -1,10 +1,7 @@
 -- `frame::first_bad` meets its contract. The loop's invariant: i digits have passed, and the first bad byte of the rest, counted from i, is that of the whole.
 use Rattle.frame.proofs.Digits.{bad_on, bad_here, bad_end}
-use Rattle.frame.specs.Hex.{first_bad}
 use native.Mathlib.Omega.{arith}
-use Prim.Native.Nat.{◌+◌, ◌≤◌, ◌-◌}
-use mathlib.Core.Path.{◌≡◌, sym, ◌∙◌}
-use lib.ListN.{length, drop}
+use mathlib.Core.Path.{sym, ◌∙◌}
 use Rattle.frame.proofs.hex.first_bad.Goals as goal
 
 pub loop-i-init : goal.loop-i-init

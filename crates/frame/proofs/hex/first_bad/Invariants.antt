@@ -1,9 +1,7 @@
 -- `frame::first_bad` meets its contract. The loop's invariant: i digits have passed, and the first bad byte of the rest, counted from i, is that of the whole.
-use Rattle.frame.proofs.Digits.{bad_on, bad_here, bad_end}
 use Rattle.frame.specs.Hex.{first_bad}
-use native.Mathlib.Omega.{arith}
 use Prim.Native.Nat.{◌+◌, ◌≤◌, ◌-◌}
-use mathlib.Core.Path.{◌≡◌, sym, ◌∙◌}
+use mathlib.Core.Path.{◌≡◌}
 use lib.ListN.{length, drop}
 use Rattle.frame.proofs.hex.first_bad.Given as goal
 

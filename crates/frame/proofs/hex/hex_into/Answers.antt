@@ -3,10 +3,10 @@ use Rattle.frame.proofs.Digits.{hex_step, length_hex_of}
 use Rattle.frame.specs.Hex.{hex_of}
 use Rattle.buffer.proofs.Lending.{copy_end}
 use native.Mathlib.Omega.{arith}
-use Prim.Native.Nat.{ℕ, ◌*◌, ◌≤◌, ◌-◌}
-use mathlib.Core.Path.{◌≡◌, refl, ◌∙◌}
-use mathlib.Core.List.{List, ◌++◌}
-use lib.ListN.{length, take, drop, length-set}
+use Prim.Native.Nat.{ℕ, ◌*◌}
+use mathlib.Core.Path.{refl, ◌∙◌}
+use mathlib.Core.List.{List}
+use lib.ListN.{length-set}
 use Rattle.frame.proofs.hex.hex_into.Goals as goal
 
 pub loop-i-init : goal.loop-i-init

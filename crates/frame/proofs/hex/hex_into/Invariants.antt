@@ -1,12 +1,9 @@
 -- `frame::hex_into` meets its contract. The loop's invariant: the digits of the first i bytes stand in front of what out had after them.
-use Rattle.frame.proofs.Digits.{hex_step, length_hex_of}
 use Rattle.frame.specs.Hex.{hex_of}
-use Rattle.buffer.proofs.Lending.{copy_end}
-use native.Mathlib.Omega.{arith}
-use Prim.Native.Nat.{ℕ, ◌*◌, ◌≤◌, ◌-◌}
-use mathlib.Core.Path.{◌≡◌, refl, ◌∙◌}
-use mathlib.Core.List.{List, ◌++◌}
-use lib.ListN.{length, take, drop, length-set}
+use Prim.Native.Nat.{◌*◌, ◌≤◌, ◌-◌}
+use mathlib.Core.Path.{◌≡◌}
+use mathlib.Core.List.{◌++◌}
+use lib.ListN.{length, take, drop}
 use Rattle.frame.proofs.hex.hex_into.Given as goal
 
 abbrev pub invariant-loop-i : goal.invariant-loop-i

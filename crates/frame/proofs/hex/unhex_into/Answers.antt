@@ -3,10 +3,10 @@ use Rattle.frame.proofs.Digits.{length_unhex, unhex_at}
 use Rattle.frame.specs.Hex.{unhex}
 use Rattle.buffer.proofs.Lending.{copy_step, copy_end}
 use native.Mathlib.Omega.{arith}
-use Prim.Native.Nat.{ℕ, ◌≤◌, ◌-◌, ◌/◌}
+use Prim.Native.Nat.{ℕ}
 use mathlib.Core.Path.{◌≡◌, refl, sym, ◌∙◌}
-use mathlib.Core.List.{List, ◌++◌}
-use lib.ListN.{length, get_or, take, drop, length-set}
+use mathlib.Core.List.{List}
+use lib.ListN.{get_or, length-set}
 use Rattle.frame.proofs.hex.unhex_into.Goals as goal
 
 pub loop-i-init : goal.loop-i-init

@@ -1,6 +1,6 @@
 -- `help::call::help` meets its contract: one law for each refusal, in their order.
 use native.Mathlib.Omega.{arith}
-use mathlib.Core.Path.{sym, ◌∙◌}
+use mathlib.Core.Path.{sym}
 use Rattle.help.proofs.Answers.{bad_tree_lem, too_long, ill_formed_lem, answered}
 use Rattle.help.proofs.call.help.Goals as goal
 

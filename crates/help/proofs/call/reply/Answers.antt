@@ -3,7 +3,7 @@ use Rattle.help.proofs.Answers.{replied_none, part_most, tree_short, reply_none,
 use Rattle.help.proofs.SpacedWords.{next_told, next_nothing}
 use Rattle.buffer.specs.Numbers.{Bytes}
 use native.Mathlib.Omega.{arith}
-use mathlib.Core.Path.{sym, ◌∙◌}
+use mathlib.Core.Path.{sym}
 use Rattle.help.proofs.call.reply.Goals as goal
 
 pub returns-in_default : goal.returns-in_default

@@ -1,9 +1,7 @@
 -- `help::path::follow` meets its contract: the words left lead from the part reached to where all of them lead.
-use Rattle.help.proofs.Following.{OnPath, sets_out, arrives, stops, told, in_rest, loses, goes_on_lem}
+use Rattle.help.proofs.Following.{sets_out, arrives, stops, told, in_rest, loses, goes_on_lem}
 use Rattle.buffer.specs.Numbers.{Bytes}
 use native.Mathlib.Omega.{arith}
-use Prim.Native.Nat.{◌-◌}
-use lib.ListN.{length}
 use Rattle.help.proofs.path.follow.Goals as goal
 
 pub loop-place-init : goal.loop-place-init

@@ -1,7 +1,5 @@
 -- `help::path::follow` meets its contract: the words left lead from the part reached to where all of them lead.
-use Rattle.help.proofs.Following.{OnPath, sets_out, arrives, stops, told, in_rest, loses, goes_on_lem}
-use Rattle.buffer.specs.Numbers.{Bytes}
-use native.Mathlib.Omega.{arith}
+use Rattle.help.proofs.Following.{OnPath}
 use Prim.Native.Nat.{◌-◌}
 use lib.ListN.{length}
 use Rattle.help.proofs.path.follow.Given as goal

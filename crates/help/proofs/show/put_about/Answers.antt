@@ -4,7 +4,6 @@ use Rattle.help.specs.Inner.{about_in}
 use Rattle.buffer.specs.Ascii.{ascii}
 use native.Mathlib.Omega.{arith}
 use Prim.Native.Nat.{◌+◌}
-use mathlib.Core.Path.{◌∙◌}
 use lib.ListN.{drop}
 use Rattle.help.proofs.show.put_about.Goals as goal
 

@@ -1,9 +1,7 @@
 -- `help::word::put_words` meets its contract: whoever writes the words that are left has written them all.
-use Rattle.help.proofs.SpacedWords.{OnLine, sets_out, arrives, stops, word_here, word_counts, goes_on_lem}
+use Rattle.help.proofs.SpacedWords.{sets_out, arrives, stops, word_here, word_counts, goes_on_lem}
 use Rattle.buffer.specs.Ascii.{ascii}
 use native.Mathlib.Omega.{arith}
-use Prim.Native.Nat.{◌-◌}
-use lib.ListN.{length}
 use Rattle.help.proofs.word.put_words.Goals as goal
 
 pub loop-place-init : goal.loop-place-init

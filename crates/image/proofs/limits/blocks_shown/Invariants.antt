@@ -1,11 +1,7 @@
 -- `image::limits::blocks_shown` meets its contract: what is left at every turn is tested as the whole is, and at the end it lies within the last block.
-use Rattle.image.proofs.Blocks.{block_bad, block_good, end_bad, end_good}
 use Rattle.image.specs.Limits.{all_shown}
-use native.Mathlib.Omega.{arith}
-use Prim.Native.Nat.{ℕ, ◌+◌, ◌-◌}
-use mathlib.Core.Path.{◌≡◌, refl, sym, ◌∙◌}
-use mathlib.Core.List.{List}
-use borrow.Author.Tests.{not-true, not-false}
+use Prim.Native.Nat.{◌-◌}
+use mathlib.Core.Path.{◌≡◌}
 use lib.ListN.{length, drop}
 use Rattle.image.proofs.limits.blocks_shown.Given as goal
 

@@ -1,9 +1,7 @@
 -- `image::limits::each_shown` meets its contract: the worst so far and the worst of what is left give the worst of the text.
-use Rattle.image.proofs.Blocks.{strangest_step, block_decides}
 use Rattle.image.specs.Inner.{strangest}
-use native.Mathlib.Omega.{arith}
 use Prim.Native.Nat.{max, ◌≤◌, ◌-◌}
-use mathlib.Core.Path.{◌≡◌, ◌∙◌}
+use mathlib.Core.Path.{◌≡◌}
 use lib.ListN.{length, drop}
 use Rattle.image.proofs.limits.each_shown.Given as goal
 

@@ -4,7 +4,6 @@ use Rattle.image.specs.Reading.{node_in}
 use Rattle.image.specs.Limits.{is_name, is_note}
 use native.Mathlib.Omega.{arith}
 use mathlib.Core.Path.{◌∙◌}
-use borrow.Author.Tests.{not-true, not-false}
 use Rattle.image.proofs.limits.fair_node.Goals as goal
 
 pub returns-then-depth-gt7 : goal.returns-then-depth-gt7

@@ -5,7 +5,6 @@ use Rattle.image.specs.Inner.{defined_in}
 use Rattle.image.specs.Limits.{is_name, is_note}
 use native.Mathlib.Omega.{arith}
 use mathlib.Core.Path.{sym, ap, ◌∙◌}
-use borrow.Author.Tests.{not-true, not-false}
 use Rattle.image.proofs.limits.is_definable.Goals as goal
 
 pub returns-then-not-is_short : goal.returns-then-not-is_short

@@ -1,10 +1,8 @@
 -- `lookup::definition::definition_by_short` meets its contract: the answer from the place reached, with the option found before, is the answer from the beginning.
-use Rattle.lookup.proofs.Matches.{answer_at, answer_starts, answer_flag, answer_stop, answer_end, answer_option, answer_pass, rest_matched}
+use Rattle.lookup.proofs.Matches.{answer_at}
 use Rattle.lookup.specs.Definitions.{has_short, defined}
-use Rattle.buffer.specs.Numbers.{Bytes}
-use native.Mathlib.Omega.{arith}
-use Prim.Native.Nat.{◌≤◌, ◌-◌}
-use mathlib.Core.Path.{◌≡◌, ◌∙◌}
+use Prim.Native.Nat.{◌-◌}
+use mathlib.Core.Path.{◌≡◌}
 use lib.ListN.{length}
 use Rattle.lookup.proofs.definition.definition_by_short.Given as goal
 

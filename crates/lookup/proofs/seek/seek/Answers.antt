@@ -1,11 +1,9 @@
 -- `lookup::seek::seek` meets its contract: the search from the place reached gives what the search from the beginning gives.
 use Rattle.lookup.proofs.Seeks.{spot_end, spot_hit, spot_stop, spot_pass, rest_looked}
-use Rattle.lookup.specs.Searches.{wanted, ended_by}
-use Rattle.lookup.specs.Spots.{spot}
 use Rattle.buffer.specs.Numbers.{Bytes}
 use native.Mathlib.Omega.{arith}
-use Prim.Native.Nat.{◌≤◌, ◌-◌}
-use mathlib.Core.Path.{◌≡◌, refl, sym, ◌∙◌}
+use Prim.Native.Nat.{◌≤◌}
+use mathlib.Core.Path.{sym, ◌∙◌}
 use lib.ListN.{length}
 use Rattle.lookup.proofs.seek.seek.Goals as goal
 

@@ -1,11 +1,7 @@
 -- `reader::walk::count_from` meets its contract: the frames passed and those from the place on are all of them.
-use Rattle.reader.proofs.Steps.{next_on, frames_on, frames_none, frames_end}
-use Rattle.reader.specs.Places.{next_place}
 use Rattle.tree.specs.Images.{frames_of}
-use native.Mathlib.Omega.{arith}
-use Prim.Native.Nat.{ℕ, ◌+◌, ◌≤◌, ◌-◌}
-use mathlib.Core.List.{List}
-use mathlib.Core.Path.{◌≡◌, sym, ◌∙◌}
+use Prim.Native.Nat.{◌+◌, ◌≤◌, ◌-◌}
+use mathlib.Core.Path.{◌≡◌}
 use lib.ListN.{length, drop}
 use Rattle.reader.proofs.walk.count_from.Given as goal
 

@@ -1,7 +1,5 @@
 -- `rows::list::put_rows` meets its contract: whoever writes the rows that are left has written them all.
-use Rattle.rows.proofs.Lists.{OnWay, sets_out, arrives, stops, row_counts, goes_on_lem}
-use Rattle.buffer.specs.Numbers.{Bytes}
-use native.Mathlib.Omega.{arith}
+use Rattle.rows.proofs.Lists.{OnWay}
 use Prim.Native.Nat.{◌-◌}
 use lib.ListN.{length}
 use Rattle.rows.proofs.list.put_rows.Given as goal

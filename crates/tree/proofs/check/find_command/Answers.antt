@@ -1,17 +1,14 @@
 -- `tree::check::find_command` meets its contract: what is left at every turn is judged as the whole image is, and the words are followed on the way.
-use Prim.Native.Nat.{◌-◌}
 use mathlib.Core.Path.{refl, ◌∙◌}
 use native.Mathlib.Omega.{arith}
 use borrow.Author.Tests.{not-true, not-false}
-use lib.ListN.{length}
-use Rattle.tree.specs.Inner.{Ahead, Trailed}
-use Rattle.tree.proofs.Items.{OnWay, goes_on_lem, stops, sets_out, arrives, check_long, check_judged}
+use Rattle.tree.proofs.Items.{goes_on_lem, stops, sets_out, arrives, check_long, check_judged}
 use Rattle.tree.proofs.Trails.{follows_start, follows_end, follows_turn, found_bad, found_good}
 use Rattle.tree.proofs.check.find_command.Goals as goal
 
 pub returns-then-image-gt-IMAGE_LIMIT : goal.returns-then-image-gt-IMAGE_LIMIT
 returns-then-image-gt-IMAGE_LIMIT c =
-    found_bad _ _ _ _ c.bad.ensures (check_long c.args.image.now (omega (arith, c.if-image-gt-IMAGE_LIMIT.true)))
+    found_bad _ _ _ _ c.bad.ensures (check_long c.args.image.now (omega arith))
 
 pub loop-walk-init : goal.loop-walk-init
 loop-walk-init c =
@@ -19,19 +16,19 @@ loop-walk-init c =
 
 pub step_at-step-requires : goal.step_at-step-requires
 step_at-step-requires c =
-    (c.loop-walk.invariant.0.sound, omega (arith, c.if-image-gt-IMAGE_LIMIT.false), c.loop-walk.invariant.0.within)
+    (c.loop-walk.invariant.0.sound, omega arith, c.loop-walk.invariant.0.within)
 
 pub returns-then-not-step : goal.returns-then-not-step
 returns-then-not-step c =
-    found_bad _ _ _ _ c.bad-then-not-step.ensures (stops _ _ _ c.loop-walk.invariant.0 _ _ refl c.step_at-step.ensures (not-true _ c.if-not-step.true) c.loop-walk-test.true ∙ check_judged _ c.if-image-gt-IMAGE_LIMIT.false)
+    found_bad _ _ _ _ c.bad-then-not-step.ensures (stops _ _ _ c.loop-walk.invariant.0 _ _ refl c.step_at-step.ensures (not-true _ c.if-not-step.true) c.loop-walk-test.true ∙ check_judged _ (omega arith))
 
 pub after-trail-requires : goal.after-trail-requires
 after-trail-requires c =
-    (c.requires, c.if-image-gt-IMAGE_LIMIT.false, c.loop-walk-test.true, c.loop-walk.invariant.2)
+    (c.requires, omega arith, c.loop-walk-test.true, c.loop-walk.invariant.2)
 
 pub overflow_add-n : goal.overflow_add-n
 overflow_add-n c =
-    omega (arith, c.loop-walk.invariant.0.count, c.loop-walk.invariant.0.within, c.if-image-gt-IMAGE_LIMIT.false)
+    omega (arith, c.loop-walk.invariant.0.count, c.loop-walk.invariant.0.within)
 
 pub loop-walk-smaller : goal.loop-walk-smaller
 loop-walk-smaller c =
@@ -43,4 +40,4 @@ loop-walk-preserved c =
 
 pub returns : goal.returns
 returns c =
-    found_good _ _ c.loop-walk.trail _ c.found.ensures (arrives _ _ _ c.loop-walk.invariant.0 c.loop-walk-test.false ∙ check_judged _ c.if-image-gt-IMAGE_LIMIT.false) (follows_end c.args.words.now c.args.image.now _ _ c.loop-walk-test.false c.loop-walk.invariant.1)
+    found_good _ _ c.loop-walk.trail _ c.found.ensures (arrives _ _ _ c.loop-walk.invariant.0 c.loop-walk-test.false ∙ check_judged _ (omega arith)) (follows_end c.args.words.now c.args.image.now _ _ c.loop-walk-test.false c.loop-walk.invariant.1)

@@ -1,12 +1,8 @@
 -- `tree::check::find_command` meets its contract: what is left at every turn is judged as the whole image is, and the words are followed on the way.
 use Prim.Native.Nat.{◌-◌}
-use mathlib.Core.Path.{refl, ◌∙◌}
-use native.Mathlib.Omega.{arith}
-use borrow.Author.Tests.{not-true, not-false}
 use lib.ListN.{length}
 use Rattle.tree.specs.Inner.{Ahead, Trailed}
-use Rattle.tree.proofs.Items.{OnWay, goes_on_lem, stops, sets_out, arrives, check_long, check_judged}
-use Rattle.tree.proofs.Trails.{follows_start, follows_end, follows_turn, found_bad, found_good}
+use Rattle.tree.proofs.Items.{OnWay}
 use Rattle.tree.proofs.check.find_command.Given as goal
 
 abbrev pub invariant-loop-walk : goal.invariant-loop-walk

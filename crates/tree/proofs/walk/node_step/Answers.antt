@@ -2,7 +2,6 @@
 use Rattle.tree.proofs.Walks.{too_deep, too_many, node_decides, step_refused, step_taken}
 use mathlib.Core.Path.{sym, ◌∙◌}
 use mathlib.Core.Bool.{true, false}
-use borrow.Author.Tests.{not-true, not-false}
 use Rattle.tree.proofs.walk.node_step.Goals as goal
 
 pub returns-then-walk-depth : goal.returns-then-walk-depth

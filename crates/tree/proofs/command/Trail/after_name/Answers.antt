@@ -1,7 +1,6 @@
 -- `tree::command::Trail::after_name` meets its contract: a child is followed exactly if the next word is its name.
 use mathlib.Core.Path.{sym, ◌∙◌}
 use native.Mathlib.Omega.{arith}
-use borrow.Author.Tests.{not-true, not-false}
 use Rattle.buffer.specs.Numbers.{Bytes}
 use Rattle.frame.proofs.Series.{word_within}
 use Rattle.tree.proofs.Trails.{next_framed, after_longer, after_last, after_other, after_named}
