@@ -11,7 +11,7 @@ fn at_most(n: usize, most: u64) -> u64
 }
 
 // An answer: the refusal's number, the value, the kind of answer, the second value.
-#[derive(Drop)]
+#[derive(Clone, Copy)]
 pub struct Parts(pub u8, pub usize, pub u8, pub usize);
 
 // From bit 0 up: the value, the refusal's number, the kind of answer, the second value.

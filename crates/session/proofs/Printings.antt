@@ -14,7 +14,7 @@ use Rattle.frame.specs.House.{house_line, write_house, HouseWritten}
 use Rattle.frame.specs.declared.house.Lined.{Lined}
 use Rattle.frame.specs.declared.house.Lined.TheVariants.{Written as Done, Short}
 use Rattle.frame.proofs.Lines.{length_house_line}
-use Rattle.session.specs.Prints.{Printed, screen, frame_of, lines_of, shown}
+use Rattle.session.specs.Prints.{Printed, frame_of, lines_of, shown}
 
 -- where there is room, the line is written
 pub house_room : (frame out left : List ℕ) (r : Lined) → 2 * length frame + 1 ≤ length out → HouseWritten frame out r left

@@ -1,5 +1,5 @@
 -- The limits of a session, and how many bytes a key prints at most, each number once (STANDARD 10.19, 11.14).
-use Rattle.std.specs.Prelude.{ℕ, ◌+◌, ◌*◌}
+use Rattle.std.specs.Prelude.{ℕ}
 
 -- the last line that is read: `Session::LAST_LINE`
 abbrev pub last_line : ℕ

@@ -23,7 +23,7 @@ pub const KEY_ROOM: usize = 5 + 131073 + 23;
 const SCREEN_ROOM: usize = 1024;
 
 // The session after a key, and what the key prints.
-#[derive(Drop)]
+#[derive(Clone, Copy)]
 pub struct Pressing {
     pub session: Session,
     pub answer: Printing,

@@ -18,7 +18,7 @@ use shell::{Ran, run};
 const FRAME_SIZE: usize = 65536;
 
 // What a key prints.
-#[derive(Drop)]
+#[derive(Clone, Copy)]
 pub enum Printing {
     // House lines of so many bytes, and the session goes on.
     Goes(usize),

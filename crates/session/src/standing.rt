@@ -8,7 +8,7 @@ use history::History;
 use keys::Profile;
 use tree::Walk;
 
-#[derive(Drop)]
+#[derive(Clone, Copy)]
 pub struct Session {
     pub editor: Editor,
     pub history: History,

@@ -9,7 +9,7 @@ use buffer::part;
 use frame::{House, read_line};
 use tree::{IMAGE_LIMIT, add_frame};
 
-#[derive(Drop)]
+#[derive(Clone, Copy)]
 pub enum Taken {
     // A frame of the tree, which the image has now.
     Tree,
@@ -24,7 +24,7 @@ pub enum Taken {
 }
 
 // The session after a line, and what the line was.
-#[derive(Drop)]
+#[derive(Clone, Copy)]
 pub struct Took {
     pub session: Session,
     pub answer: Taken,

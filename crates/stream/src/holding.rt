@@ -6,7 +6,7 @@ ghost use Rattle.stream.specs.Inner.{Holding};
 use super::standing::Stream;
 
 // How many bytes of a line are held, and whether the last of them ends it.
-#[derive(Drop)]
+#[derive(Clone, Copy)]
 pub struct Held {
     pub count: usize,
     pub closed: bool,

@@ -10,7 +10,7 @@ use super::standing::{Printout, Stream};
 use session::{KEY_ROOM, Printing, Session, press};
 
 // A session after a key, the place after what the key printed, and whether it was the last.
-#[derive(Drop)]
+#[derive(Clone, Copy)]
 pub struct Keyed {
     pub session: Session,
     pub printed: usize,

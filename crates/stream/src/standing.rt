@@ -7,7 +7,7 @@ use session::Session;
 
 // In the buffer for a line lie the first `held` bytes of a line that is not at its end, or the keys of the last line, of which those from `next` up to
 // `keys` are still to be pressed.
-#[derive(Drop)]
+#[derive(Clone, Copy)]
 pub struct Stream {
     pub session: Session,
     pub held: usize,
@@ -17,7 +17,7 @@ pub struct Stream {
 }
 
 // A stream after a step over a piece: how many bytes of it were taken, and how many are printed.
-#[derive(Drop)]
+#[derive(Clone, Copy)]
 pub struct Step {
     pub stream: Stream,
     pub took: usize,
@@ -25,7 +25,7 @@ pub struct Step {
 }
 
 // A stream after a move, and the place after what is printed.
-#[derive(Drop)]
+#[derive(Clone, Copy)]
 pub struct Printout {
     pub stream: Stream,
     pub printed: usize,
