@@ -1,7 +1,7 @@
 // Every input of one and of two bytes, a mark each: what is well-formed, what trimming leaves and where the words lie.
 use crate::parts;
-use libc::STDOUT_FILENO;
 use replay::line;
+use std::io::Print;
 
 // Marks for a well-formed input: it is white space; or what is left of it is its first byte, its second byte, or all.
 const BLANK: u8 = b'.';
@@ -86,7 +86,7 @@ fn put_two(first: u8, second: u8, line: &mut [u8], at: usize) -> usize {
 }
 
 // Writes the marks of all inputs of two bytes that begin with one byte.
-fn two_bytes_from(first: u8) {
+fn two_bytes_from(rt: &impl Print, first: u8) {
     let mut line = [0u8; 300];
     let mut at = 0;
     let mut second: u16 = 0;
@@ -94,18 +94,15 @@ fn two_bytes_from(first: u8) {
         at = put_two(first, second as u8, &mut line, at);
         second += 1;
     }
-    line::write(&mut line, at);
+    line::write(rt, &mut line, at);
 }
 
 // Writes the marks of all inputs of two bytes, a line for each first byte.
-pub fn two_bytes() {
-    io::write_all(
-        STDOUT_FILENO,
-        b"Inputs of two bytes, a line for each first byte\n",
-    );
+pub fn two_bytes(rt: &impl Print) {
+    let _ = rt.write_all(b"Inputs of two bytes, a line for each first byte\n");
     let mut first: u16 = 0;
     while first < 256 {
-        two_bytes_from(first as u8);
+        two_bytes_from(rt, first as u8);
         first += 1;
     }
 }
@@ -117,8 +114,8 @@ fn put_one(byte: u8, line: &mut [u8], at: usize) -> usize {
 }
 
 // Writes the marks of all inputs of one byte, as one line.
-pub fn one_byte() {
-    io::write_all(STDOUT_FILENO, b"Inputs of one byte\n");
+pub fn one_byte(rt: &impl Print) {
+    let _ = rt.write_all(b"Inputs of one byte\n");
     let mut line = [0u8; 300];
     let mut at = 0;
     let mut byte: u16 = 0;
@@ -126,7 +123,7 @@ pub fn one_byte() {
         at = put_one(byte as u8, &mut line, at);
         byte += 1;
     }
-    line::write(&mut line, at);
+    line::write(rt, &mut line, at);
 }
 
 // Puts a space and the code of the first character of two bytes.
@@ -137,7 +134,7 @@ fn put_code(first: u8, second: u8, line: &mut [u8], at: usize) -> usize {
 }
 
 // Writes a first byte and the codes that begin with it and go on with each byte from 7E to C1.
-fn codes_from(first: u8) {
+fn codes_from(rt: &impl Print, first: u8) {
     let mut line = [0u8; 300];
     let mut at = line::put_hex(first as u64, 2, &mut line, 0);
     let mut second: u8 = 0x7E;
@@ -145,18 +142,15 @@ fn codes_from(first: u8) {
         at = put_code(first, second, &mut line, at);
         second += 1;
     }
-    line::write(&mut line, at);
+    line::write(rt, &mut line, at);
 }
 
 // Writes the codes of two bytes, a line for each first byte from C0 to DF.
-pub fn codes() {
-    io::write_all(
-        STDOUT_FILENO,
-        b"Codes of two bytes, from 7E to C1 after each from C0 to DF\n",
-    );
+pub fn codes(rt: &impl Print) {
+    let _ = rt.write_all(b"Codes of two bytes, from 7E to C1 after each from C0 to DF\n");
     let mut first: u8 = 0xC0;
     while first < 0xE0 {
-        codes_from(first);
+        codes_from(rt, first);
         first += 1;
     }
 }

@@ -6,10 +6,10 @@ mod parts;
 mod sample;
 mod white;
 
-fn main() {
-    codes::one_byte();
-    codes::two_bytes();
-    codes::codes();
-    white::list();
-    sample::all();
+fn main(rt: HostRuntime) {
+    codes::one_byte(&rt);
+    codes::two_bytes(&rt);
+    codes::codes(&rt);
+    white::list(&rt);
+    sample::all(&rt);
 }

@@ -3,35 +3,36 @@ use crate::answer::put_answer;
 use replay::hex::read_hex;
 use replay::input::{line_end, read_input};
 use replay::line;
+use std::io::{Input, Print};
 
 // Writes a text and what is answered for it.
-fn answer(text: &[u8]) {
+fn answer(rt: &impl Print, text: &[u8]) {
     let mut line = [0u8; 8192];
     let after = line::put_bytes(text, &mut line, 0);
     let end = put_answer(text, &mut line, after);
-    line::write(&mut line, end);
+    line::write(rt, &mut line, end);
 }
 
 // Answers a line of digits. A text has at most 1,100 bytes: what is longer is read as none, and shows in the answer.
-fn answer_line(digits: &[u8]) {
+fn answer_line(rt: &impl Print, digits: &[u8]) {
     let mut text = [0u8; 1100];
     let n = read_hex(digits, &mut text);
-    answer(&text[..n]);
+    answer(rt, &text[..n]);
 }
 
 // Answers every line.
-fn answer_lines(input: &[u8]) {
+fn answer_lines(rt: &impl Print, input: &[u8]) {
     let mut at = 0;
     while at < input.len() {
         let end = line_end(input, at);
-        answer_line(&input[at..end]);
+        answer_line(rt, &input[at..end]);
         at = end + 1;
     }
 }
 
 // Answers all of standard input, which has to be shorter than the buffer of 65,536 bytes.
-pub fn all() {
-    let mut input = io::large_buffer();
-    let n = read_input(&mut input);
-    answer_lines(&input[..n]);
+pub fn all(rt: &(impl Input + Print)) {
+    let mut input = [0u8; 65536];
+    let n = read_input(rt, &mut input);
+    answer_lines(rt, &input[..n]);
 }

@@ -10,8 +10,8 @@ returns-then-k-eq0 c =
 
 pub returns-then-not-same_throughout : goal.returns-then-not-same_throughout
 returns-then-not-same_throughout c =
-    heads_tell c.args.k c.args.slots.now c.args.before c.args.at c.if-k-eq0.false (sym c.same_throughout.ensures ∙ c.if-not-same_throughout.true)
+    heads_tell c.args.k c.args.slots.now c.args.before c.args.at (λ e. omega arith) (sym c.same_throughout.ensures ∙ c.if-not-same_throughout.true)
 
 pub returns : goal.returns
 returns c =
-    c.same_throughout-2.ensures ∙ two_slots c.args.k c.args.slots.now c.args.before c.args.at c.if-k-eq0.false
+    c.same_throughout-2.ensures ∙ two_slots c.args.k c.args.slots.now c.args.before c.args.at (λ e. omega arith)
