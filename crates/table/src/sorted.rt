@@ -97,7 +97,7 @@ fn open_at(table: &mut [usize], n: usize, place: usize, e: usize)
 }
 
 // BTreeMap::insert into a table that is lent, of which the first n entries count: the entry under its key, a later value in the place of an earlier one.
-// Answers how many count then. A new key that finds the table full is not stored; the names and longs of one node always find room (law `put-fits`).
+// Answers how many count then. A new key that finds the table full is not stored; the names and longs of one node always find room (law `put_fits`).
 pub fn put<'a>(words: &'a [u8], image: &'a [u8], table: &mut [usize], n: usize, e: usize) -> usize
     requires { Fit n table.old }
     ensures { PutIn words.now image.now n e table.old result table.new }
