@@ -44,8 +44,8 @@ use Rattle.shell.proofs.Numbers.{Fitting, texts_fit}
 use Rattle.promises.proofs.Tables.{Answered, told, row, first, lacks, either, split, telling}
 
 -- a line over 1,024 bytes, and one that is ill-formed
-abbrev pub too_long_lem : List ℕ → Bool
-too_long_lem line = ltb 1024 (length line)
+abbrev pub too_long : List ℕ → Bool
+too_long line = ltb 1024 (length line)
 
 abbrev pub ill_formed : List ℕ → Bool
 ill_formed line = ltb (well_formed_length line) (length line)
@@ -54,7 +54,7 @@ ill_formed line = ltb (well_formed_length line) (length line)
 unfoldable pub tokenize_table : List ℕ → List ℕ → Answered (List ℕ)
 tokenize_table line out =
     first
-    (row 2 (too_long_lem line) (min (length line) 65535) out
+    (row 2 (too_long line) (min (length line) 65535) out
     ∷ row 3 (ill_formed line) (well_formed_length line) out
     ∷ row 9 (lacks (written line) out) (length (written line)) out
     ∷ [])
@@ -64,7 +64,7 @@ pub tokenize_tells : (line out : List ℕ) (r : Tokens) (left : List ℕ) → To
 unfolding tokenize_table first answer_for leaves_for
 tokenize_tells line out r left t =
     telling tokens_number tokens_value _ _ _ _ t.answer t.bytes
-    ∙ either tells (too_long_lem line) _ _ _ _ refl (either tells (ill_formed line) _ _ _ _ refl (either tells (lacks (written line) out) _ _ _ _ refl refl))
+    ∙ either tells (too_long line) _ _ _ _ refl (either tells (ill_formed line) _ _ _ _ refl (either tells (lacks (written line) out) _ _ _ _ refl refl))
   where
     tells : Tokens → Answered (List ℕ)
     tells x = told (tokens_number x) (tokens_value x) (leaves_by x (written line) out)
@@ -82,7 +82,7 @@ unfoldable pub quote_table : List ℕ → List ℕ → Answered (List ℕ)
 quote_table words out =
     first
     (row 10 (is_bad (judge_words (listed words))) (bad_word (judge_words (listed words))) out
-    ∷ row 2 (too_long_lem (line_of words)) (min (length (line_of words)) 65535) out
+    ∷ row 2 (too_long (line_of words)) (min (length (line_of words)) 65535) out
     ∷ row 9 (lacks (line_of words) out) (length (line_of words)) out
     ∷ [])
     (told 0 (length (line_of words)) (over (line_of words) out))
@@ -96,7 +96,7 @@ quote_tells words out r left t = telling quoted_number quoted_value _ _ _ _ t.an
 
     by : (j : Judged) → judge_words (listed words) ≡ j → tells (line_of words) (quote_answer words (length out)) ≡ quote_table words out
     by (bad n) e = rw e
-    by (fine ws) e = rw e (either (tells (quote_line ws)) (too_long_lem (quote_line ws)) _ _ _ _ refl (either (tells (quote_line ws)) (lacks (quote_line ws) out) _ _ _ _ refl refl))
+    by (fine ws) e = rw e (either (tells (quote_line ws)) (too_long (quote_line ws)) _ _ _ _ refl (either (tells (quote_line ws)) (lacks (quote_line ws) out) _ _ _ _ refl refl))
 
 -- CHECK_TREE: 1. Over the byte limit the frame is 0, and that is tested first.
 abbrev pub is_bad_tree : Checked → Bool
@@ -152,7 +152,7 @@ unfoldable pub parse_table : List ℕ → List ℕ → List ℕ → Answered (Li
 parse_table image line out =
     first
     (row 1 (is_bad_tree (check_tree image)) (tree_value (check_tree image)) out
-    ∷ row 2 (too_long_lem line) (min (length line) 65535) out
+    ∷ row 2 (too_long line) (min (length line) 65535) out
     ∷ row 3 (ill_formed line) (well_formed_length line) out
     ∷ [])
     (outcome_table (parse_line image line) out)
@@ -179,7 +179,7 @@ parse_tells image line out r left t =
     let o : Outcome = parse_line image line in
     telling parsed_number parsed_value _ _ _ _ t.answer t.bytes
     ∙ checked tells (check_tree image) (λ n. BadTree n) out _ _ (λ n. told 1 n out) _ (λ n. refl)
-    (split tells (too_long_lem line) _ _ out _ _ _ refl
+    (split tells (too_long line) _ _ out _ _ _ refl
     (split tells (ill_formed line) _ _ out _ _ _ refl
     (split tells (lacks (told_in o) out) (NoRoom (length (told_in o))) (named_as o (length (told_in o))) out (over (told_in o) out) _ _ refl
     (fault_tells o (length (told_in o)) (over (told_in o) out) (numbered image line)))))
@@ -210,7 +210,7 @@ unfoldable pub help_table : List ℕ → List ℕ → List ℕ → Answered (Lis
 help_table image line out =
     first
     (row 1 (is_bad_tree (check_tree image)) (tree_value (check_tree image)) out
-    ∷ row 2 (too_long_lem line) (min (length line) 65535) out
+    ∷ row 2 (too_long line) (min (length line) 65535) out
     ∷ row 3 (ill_formed line) (well_formed_length line) out
     ∷ [])
     (reply_table (help_line image line) (words_between line) out)
@@ -241,7 +241,7 @@ help_tells_lem image line out r left t = telling helped_number helped_value _ _ 
     by (BadFrame n) e = rw e
     by Good e =
         rw e
-        (either tells (too_long_lem line) _ _ _ _ refl
+        (either tells (too_long line) _ _ _ _ refl
         (either tells (ill_formed line) _ _ _ _ refl
         (reply_tells (frames_of image) (words_between line) out)))
 
@@ -268,7 +268,7 @@ run_table image line out =
     let kept : Ended = record { kind = 0; beside = 0; buffer = out } in
     first
     (row 1 (is_bad_tree (check_tree image)) (tree_value (check_tree image)) kept
-    ∷ row 2 (too_long_lem line) (min (length line) 65535) kept
+    ∷ row 2 (too_long line) (min (length line) 65535) kept
     ∷ row 9 (lacks (said_bytes said) out) (length (said_bytes said)) kept
     ∷ [])
     (said_told said out)
@@ -287,7 +287,7 @@ run_tells image line out r left t =
     ap (ended_by r) t.bytes
     ∙ ap (λ (x : Ran). ended_by x (run_leaves image line out)) t.answer
     ∙ checked ended_by (check_tree image) (λ n. BadFrameRan n) out _ _ (λ n. told 1 n (record { kind = 0; beside = 0; buffer = out })) _ (λ n. refl)
-    (split ended_by (too_long_lem line) _ _ out _ _ _ refl
+    (split ended_by (too_long line) _ _ out _ _ _ refl
     (split ended_by (lacks (said_bytes s) out) (NoRoomRan (length (said_bytes s))) (named s (length (said_bytes s))) out (over (said_bytes s) out) _ _ refl
     (said_tells s out)))
 

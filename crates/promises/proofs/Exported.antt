@@ -68,11 +68,11 @@ use Rattle.rust.specs.Loop.{Shell, rust_key}
 use Rattle.rust.specs.Same.{original, shell_of, Seen, quiet, output, handed, exited, crashed, seen_of, QuotedAsIs}
 use Rattle.rust.specs.Calls.{Writes, PressesAs, result_number, parse_bytes, help_bytes, HelpsAs, seen_bytes, Says, Fair, SameAsRust}
 use Rattle.promises.proofs.Tables.{Answered, told}
-use Rattle.promises.proofs.Answers.{too_long_lem, ill_formed, tokenize_table, tokenize_tells, quote_table, quote_tells, check_table, check_tells, parse_table, parse_tells, help_table, help_tells_lem, Ended, run_table, run_tells}
+use Rattle.promises.proofs.Answers.{too_long, ill_formed, tokenize_table, tokenize_tells, quote_table, quote_tells, check_table, check_tells, parse_table, parse_tells, help_table, help_tells_lem, Ended, run_table, run_tells}
 use Rattle.promises.proofs.KeyAnswers.{Keyed, keyed, press_table, press_tells, saved_add_table, saved_add_tells, saved_forget_table, saved_forget_tells, begin_table, begin_tells}
 use Rattle.promises.proofs.Lasting.{never_bad, full_line_saved}
 use Rattle.promises.proofs.BytesInUse.{in_use, in_bytes}
-use Rattle.promises.proofs.FirstSlot.{first_byte_lem, in_bytes as first_in_bytes, saved_key_changes_one, saved_add_changes_one, same_saved_key, same_saved_add, same_saved_forget}
+use Rattle.promises.proofs.FirstSlot.{first_byte, in_bytes as first_in_bytes, saved_key_changes_one, saved_add_changes_one, same_saved_key, same_saved_add, same_saved_forget}
 use Rattle.promises.proofs.Forgetting.{editor_stays, as_by_value, no_trace_saved, GoesOnSaved, no_call as not_on, by_add as on_by_add, by_key as on_by_key, drops_none_saved}
 use Rattle.promises.proofs.SameAsRust.{words, key, add_command_lem, forget}
 use Rattle.promises.proofs.OtherCommands.{named, Agree, parse_alone, help_alone, run_alone}
@@ -199,7 +199,7 @@ pub in_use_by_calls : (state slots : List ℕ) → ReachedByCalls state slots �
 in_use_by_calls state slots r = in_bytes state slots (reached r)
 
 -- and the last byte the slot of the oldest entry, one of the hundred
-pub first_by_calls : (state slots : List ℕ) → ReachedByCalls state slots → (first_byte_lem state ≡ (history_in state).first) × (first_byte_lem state < 100)
+pub first_by_calls : (state slots : List ℕ) → ReachedByCalls state slots → (first_byte state ≡ (history_in state).first) × (first_byte state < 100)
 first_by_calls state slots r = first_in_bytes state slots (reached r)
 
 -- a key and an add change the bytes of one slot at most, whatever they answer
@@ -458,7 +458,7 @@ pub record PacksAlone (image other : List ℕ) : Type 0 where
       → ParseCall image line out p left → ParseCall other line out q left' → (p ≡ q) × (left ≡ left')
   pub help : (line out : List ℕ) (p q : ℕ) (left left' : List ℕ) → Agree image other (named words_between line)
       → HelpCall image line out p left → HelpCall other line out q left' → (p ≡ q) × (left ≡ left')
-  pub run : (line out : List ℕ) (p q : ℕ) (left left' : List ℕ) → (too_long_lem line ≡ false → ill_formed line ≡ false → builtin_of (trimmed line) ≡ Help → ⊥)
+  pub run : (line out : List ℕ) (p q : ℕ) (left left' : List ℕ) → (too_long line ≡ false → ill_formed line ≡ false → builtin_of (trimmed line) ≡ Help → ⊥)
       → Agree image other (named naming line) → RunCall image line out p left → RunCall other line out q left' → (p ≡ q) × (left ≡ left')
 
 pub packs_alone : (image other : List ℕ) → check_tree image ≡ Good → check_tree other ≡ Good → PacksAlone image other

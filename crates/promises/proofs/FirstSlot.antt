@@ -67,13 +67,13 @@ by_value e h slots r = (good_has h slots (state_parts e h slots (never_bad_by_va
 pub in_session : (s : Session) (slots : List ℕ) → ReachedInSession s slots → s.history.first < 100
 in_session s slots r = (good_has s.history slots (state_parts s.editor s.history slots (never_bad_in_session s slots r)).1).begins
 
-abbrev pub first_byte_lem : List ℕ → ℕ
-first_byte_lem state = get_or state 265 0
+abbrev pub first_byte : List ℕ → ℕ
+first_byte state = get_or state 265 0
 
-first_below : (state slots : List ℕ) → good_saved state slots ≡ true → first_byte_lem state < 100
+first_below : (state slots : List ℕ) → good_saved state slots ≡ true → first_byte state < 100
 first_below state slots g = rw (saved_first state) (good_has (history_in state) slots (good_history state slots g)).begins
 
-pub in_bytes : (state slots : List ℕ) → Reached state slots → (first_byte_lem state ≡ (history_in state).first) × (first_byte_lem state < 100)
+pub in_bytes : (state slots : List ℕ) → Reached state slots → (first_byte state ≡ (history_in state).first) × (first_byte state < 100)
 in_bytes state slots r = (saved_first state, first_below state slots (never_bad state slots r))
 
 -- FRESH: slot 0
@@ -81,7 +81,7 @@ pub fresh : (record_of no_entries).first ≡ 0
 unfolding record_of
 fresh = refl
 
-pub fresh_byte : (p : Profile) → first_byte_lem (fresh_saved (profile_number p)) ≡ 0
+pub fresh_byte : (p : Profile) → first_byte (fresh_saved (profile_number p)) ≡ 0
 unfolding zeros
 fresh_byte p = ap (λ (s : List ℕ). get_or s 265 0) (fresh_saved_lem p)
 
@@ -122,7 +122,7 @@ above e h slots n = (bad, ap (λ (t : Bool). cond (good_editor e) t false) bad �
     bad : good h slots ≡ false
     bad = by (good h slots) refl
 
-above_bad : (state slots : List ℕ) → 100 ≤ first_byte_lem state → good_saved state slots ≡ false
+above_bad : (state slots : List ℕ) → 100 ≤ first_byte state → good_saved state slots ≡ false
 above_bad state slots n = by (good_saved state slots) refl
   where
     by : (t : Bool) → good_saved state slots ≡ t → t ≡ false
@@ -130,16 +130,16 @@ above_bad state slots n = by (good_saved state slots) refl
     by false g = refl
 
 pub key_refused : (state slots prompt : List ℕ) (byte : ℕ) (line screen : List ℕ) (r : Pressed) (state' slots' line' screen' : List ℕ)
-    → SavedKey state slots prompt byte line screen r state' slots' line' screen' → 100 ≤ first_byte_lem state
+    → SavedKey state slots prompt byte line screen r state' slots' line' screen' → 100 ≤ first_byte state
     → told (pressed_number r) (pressed_value r) (keyed {L = Lent} (pressed_kind r) (pressed_beside r) (state', slots', line', screen')) ≡ told 12 0 (keyed {L = Lent} 0 0 (state, slots, line, screen))
 key_refused state slots prompt byte line screen r state' slots' line' screen' p n =
     press_bad state slots prompt byte line screen r state' slots' line' screen' p (above_bad state slots n)
 
-pub add_refused : (state slots text : List ℕ) (r : Added) (state' slots' : List ℕ) → SavedAdd state slots text r state' slots' → 100 ≤ first_byte_lem state
+pub add_refused : (state slots text : List ℕ) (r : Added) (state' slots' : List ℕ) → SavedAdd state slots text r state' slots' → 100 ≤ first_byte state
     → told {L = List ℕ × List ℕ} (added_number r) (added_value r) (state', slots') ≡ told 12 0 (state, slots)
 add_refused state slots text r state' slots' p n = saved_add_bad state slots text r state' slots' p (above_bad state slots n)
 
-pub forget_refused : (state slots : List ℕ) (k : ℕ) (r : Forgot) (state' slots' : List ℕ) → SavedForget state slots k r state' slots' → 100 ≤ first_byte_lem state
+pub forget_refused : (state slots : List ℕ) (k : ℕ) (r : Forgot) (state' slots' : List ℕ) → SavedForget state slots k r state' slots' → 100 ≤ first_byte state
     → told {L = List ℕ × List ℕ} (forgot_number r) (forgot_value r) (state', slots') ≡ told 12 0 (state, slots)
 forget_refused state slots k r state' slots' p n = saved_forget_bad state slots k r state' slots' p (above_bad state slots n)
 

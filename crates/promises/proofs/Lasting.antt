@@ -11,7 +11,7 @@ use borrow.Author.Tests.{ltb-true, ltb-false}
 use Rattle.tree.specs.declared.check.Checked.{Checked}
 use Rattle.tree.specs.declared.check.Checked.TheVariants.{Good, BadFrame}
 use Rattle.tree.specs.Growth.{admits}
-use Rattle.history.specs.Journal.{no_entries, record_of, good, slots_of as journal_slots}
+use Rattle.history.specs.Journal.{no_entries, record_of, slots_of as journal_slots}
 use Rattle.history.specs.declared.stepping.History.{History}
 use Rattle.keys.specs.declared.standing.Profile.{Profile}
 use Rattle.keys.specs.declared.standing.Profile.TheVariants.{Rust}

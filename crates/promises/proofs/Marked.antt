@@ -33,7 +33,7 @@ use Rattle.parse.specs.Answer.{Parsing, number as parsed_number, value as parsed
 use Rattle.parse.specs.declared.answer.Parsed.{Parsed}
 use Rattle.buffer.specs.Ascii.{ascii}
 use Rattle.promises.proofs.Tables.{told, row, first, lacks}
-use Rattle.promises.proofs.Answers.{too_long_lem, ill_formed, is_bad_tree, tokenize_table, tokenize_tells, outcome_table, parse_table, parse_tells}
+use Rattle.promises.proofs.Answers.{too_long, ill_formed, is_bad_tree, tokenize_table, tokenize_tells, outcome_table, parse_table, parse_tells}
 
 -- a row: a line and its words; or a line and what it says under the node `set`
 pub data Row : Type 0 where
@@ -93,8 +93,8 @@ Called (says line outcome) =
 
 -- no line is refused for itself
 abbrev Fair : Row → Type 0
-Fair (splits line words) = (too_long_lem line ≡ false) × (ill_formed line ≡ false)
-Fair (says line outcome) = (too_long_lem line ≡ false) × (ill_formed line ≡ false)
+Fair (splits line words) = (too_long line ≡ false) × (ill_formed line ≡ false)
+Fair (says line outcome) = (too_long line ≡ false) × (ill_formed line ≡ false)
 
 all_fair_lem : All Fair marked
 unfolding marked ascii encode_all encode codes_in codes_of pieces_of pieces_from decode_first table decode_two decode_three decode_four within least_second greatest_second well_formed_length

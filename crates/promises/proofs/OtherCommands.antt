@@ -28,12 +28,12 @@ use Rattle.shell.specs.Answer.{Running}
 use Rattle.shell.specs.declared.answer.Ran.{Ran}
 use Rattle.shell.specs.declared.builtin.Builtin.TheVariants.{Help}
 use Rattle.shell.proofs.Answers.{naming, other_commands as run_alike}
-use Rattle.promises.proofs.Answers.{too_long_lem, ill_formed}
+use Rattle.promises.proofs.Answers.{too_long, ill_formed}
 use Rattle.promises.proofs.Subtrees.{Absent, Present, absent_none, present_found}
 
 -- the words of a line, of which the first names its command; a line that is over-long or ill-formed has none to name one
 abbrev pub named : (List ℕ → List (List ℕ)) → List ℕ → List (List ℕ)
-named words line = cond (too_long_lem line) [] (cond (ill_formed line) [] (words line))
+named words line = cond (too_long line) [] (cond (ill_formed line) [] (words line))
 
 -- two trees agree on words if the first of them names no command of either, or the same subtree in both; where there is no word nothing is asked
 abbrev pub Agree : List ℕ → List ℕ → List (List ℕ) → Type 0
@@ -53,7 +53,7 @@ module _ (image other line : List ℕ) (good : check_tree image ≡ Good) (good'
   -- PARSE: the first word of the line, untrimmed
   pub parse_alone : Agree image other (named words_of line) → (r q : Parsed) → Parsing image line out r left → Parsing other line out q left' → (r ≡ q) × (left ≡ left')
   parse_alone agree r q a b =
-      parse_alike image other line good good' out left left' r q a b (asked (Agree image other) (too_long_lem line) (ill_formed line) (words_of line) agree)
+      parse_alike image other line good good' out left left' r q a b (asked (Agree image other) (too_long line) (ill_formed line) (words_of line) agree)
 
   -- HELP: the first of its words, split on white space only
   pub help_alone : Agree image other (named words_between line) → (r q : Helped) → Helping image line out r left → Helping other line out q left' → (r ≡ q) × (left ≡ left')
@@ -61,17 +61,17 @@ module _ (image other line : List ℕ) (good : check_tree image ≡ Good) (good'
     where
       alike : Alike image other line
       alike word n =
-          let same : Agree image other (words_between line) = asked (Agree image other) (too_long_lem line) (ill_formed line) (words_between line) agree (le-ltb 1024 (length line) n.short) whole in
+          let same : Agree image other (words_between line) = asked (Agree image other) (too_long line) (ill_formed line) (words_between line) agree (le-ltb 1024 (length line) n.short) whole in
           rw n.first at same
         where
           whole : ill_formed line ≡ false
           whole = let w = n.well_formed_lem in le-ltb (well_formed_length line) (length line) (omega arith)
 
   -- RUN: the first word after an untrimmed `help `, split on white space only, else of the trimmed line. A bare `help`, judged after trimming, lists all commands.
-  pub run_alone : (too_long_lem line ≡ false → ill_formed line ≡ false → builtin_of (trimmed line) ≡ Help → ⊥) → Agree image other (named naming line)
+  pub run_alone : (too_long line ≡ false → ill_formed line ≡ false → builtin_of (trimmed line) ≡ Help → ⊥) → Agree image other (named naming line)
       → (r q : Ran) → Running image line out r left → Running other line out q left' → (r ≡ q) × (left ≡ left')
   run_alone bare agree r q a b =
-      run_alike image other line good good' out left left' r q a b (λ l w. (bare l w, asked (Agree image other) (too_long_lem line) (ill_formed line) (naming line) agree l w))
+      run_alike image other line good good' out left left' r q a b (λ l w. (bare l w, asked (Agree image other) (too_long line) (ill_formed line) (naming line) agree l w))
 
 -- THE TWO CASES BY NAME. The command that a line names is absent from both trees, or it is present in both with the same complete subtree: its node and all
 -- frames before the next node of its depth or less (Subtrees). What else stands in either tree, before it or after it, does not matter.
@@ -79,7 +79,7 @@ module _ (image other line : List ℕ) (good : check_tree image ≡ Good) (good'
   module _ (words : List ℕ → List (List ℕ)) (name : List ℕ) (more : List (List ℕ)) (e : words line ≡ name ∷ more) where
     -- of a line that is over-long or ill-formed nothing is asked
     same_named : subtree 0 name (frames_of image) ≡ subtree 0 name (frames_of other) → Agree image other (named words line)
-    same_named same = by (too_long_lem line) (ill_formed line)
+    same_named same = by (too_long line) (ill_formed line)
       where
         by : (l w : Bool) → Agree image other (cond l [] (cond w [] (words line)))
         by true w = tt

@@ -30,7 +30,7 @@ use Rattle.parse.specs.Commands.{missing_required, Outcome, parsed, fault, on_mi
 use Rattle.parse.specs.Answer.{told_in, fault_answer, named_as, outcome_answer, outcome_leaves, on_checked, parse_answer, parse_leaves, Parsing}
 use Rattle.parse.specs.declared.answer.Parsed.TheVariants.{Report, BadTree, LineTooLong, IllFormed, UnknownCommand, UnknownOption, MissingValue, MissingRequired, NoRoom}
 use Rattle.promises.proofs.Tables.{lacks}
-use Rattle.promises.proofs.Answers.{too_long_lem, ill_formed}
+use Rattle.promises.proofs.Answers.{too_long, ill_formed}
 
 -- keys that rise strictly, of the options and of the flags
 pub record Sorted (found : Found) : Type 0 where
@@ -168,7 +168,7 @@ pub parse_reports : (image line out : List ℕ) (n : ℕ) (left : List ℕ) → 
 unfolding parse_answer parse_leaves outcome_answer outcome_leaves told_in parse_line
 parse_reports image line out n left t =
     let o : Outcome = parse_line image line in
-    let r = only_report n (min (length line) 65535) (well_formed_length line) (length (told_in o)) out left (over (told_in o) out) (check_tree image) (too_long_lem line) (ill_formed line) (lacks (told_in o) out) o t.answer t.bytes in
+    let r = only_report n (min (length line) 65535) (well_formed_length line) (length (told_in o)) out left (over (told_in o) out) (check_tree image) (too_long line) (ill_formed line) (lacks (told_in o) out) o t.answer t.bytes in
     record {
       path = r.path;
       found = r.found;

@@ -1,9 +1,13 @@
 // The trees of the crate trees as house lines, one frame a line, held against the files of trees/, which lie in this crate's data.
-ghost use Rattle.io.specs.Counts.{IsPrefixLen};
+ghost use Rattle.std.specs.Prelude.{◌≤◌, length};
 
 use buffer::{part, same};
 use image::{Head, head_at};
+use replay::input::read_full;
 use replay::line;
+use std::fs;
+use std::io::Print;
+use std::rt::Files;
 
 // The size of the frame at a place, 0 where there is none.
 fn size_at(image: &[u8], at: usize) -> usize {
@@ -49,16 +53,13 @@ fn begins(lines: &[u8], n: usize, text: &[u8]) -> bool {
 }
 
 // Reads the file of that name into a buffer and returns its length, 0 if there is none.
-fn read_file(name: &[u8], file: &mut [u8]) -> usize
-    ensures { IsPrefixLen result file.new }
+fn read_file(rt: &impl Files, name: &str, file: &mut [u8]) -> usize
+    ensures { result ≤ length file.new }
 {
-    let fd = os::open_read(name);
-    if fd < 0 {
-        return 0;
+    match fs::open(rt, name) {
+        Ok(mut opened) => read_full(&mut opened, file),
+        Err(_) => 0,
     }
-    let n = io::read_full(fd, file);
-    libc::close(fd);
-    n
 }
 
 // Puts whether a file holds the house lines of an image.
@@ -72,18 +73,18 @@ fn put_held(file: &[u8], image: &[u8], line: &mut [u8], at: usize) -> usize {
 }
 
 // Writes what is to be said of the file of that name and of an image.
-fn compare_file(name: &[u8], image: &[u8]) {
+fn compare_file(rt: &(impl Files + Print), name: &str, image: &[u8]) {
     let mut file = [0u8; 4096];
-    let n = read_file(name, &mut file);
+    let n = read_file(rt, name, &mut file);
     let mut line = [0u8; 128];
-    let beyond = line::put_all(name, &mut line, 0);
+    let beyond = line::put_all(name.as_bytes(), &mut line, 0);
     let before = put_held(&file[..n], image, &mut line, beyond);
     let end = line::put_decimal(image.len(), &mut line, before);
-    line::write(&mut line, end);
+    line::write(rt, &mut line, end);
 }
 
 // Compares both files.
-pub fn all() {
-    compare_file(b"base.tree", &trees::base_tree());
-    compare_file(b"fs.tree", &trees::fs_tree());
+pub fn all(rt: &(impl Files + Print)) {
+    compare_file(rt, "base.tree", &trees::base_tree());
+    compare_file(rt, "fs.tree", &trees::fs_tree());
 }

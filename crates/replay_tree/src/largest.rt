@@ -1,6 +1,7 @@
 // Images about the longest that is taken, which are built here: 256 nodes of 128 bytes each are the longest.
 use crate::answer::answer;
 use replay::line;
+use std::io::Print;
 
 // A node of depth 0 up to its name of two bytes, and what stands after the name: a description of 96 bytes and a usage of 23.
 const BEFORE: [u8; 5] = *b"\x01\x00\x00\x00\x02";
@@ -24,12 +25,12 @@ fn put_nodes(image: &mut [u8]) {
 }
 
 // Answers the longest image, one byte more, one less, and the longest whose last node has the name of the one before.
-pub fn all() {
+pub fn all(rt: &impl Print) {
     let mut image = [0u8; 32769];
     put_nodes(&mut image);
-    answer(&image[..32768]);
-    answer(&image);
-    answer(&image[..32767]);
+    answer(rt, &image[..32768]);
+    answer(rt, &image);
+    answer(rt, &image[..32767]);
     put_node(0xFE, &mut image, 32640);
-    answer(&image[..32768]);
+    answer(rt, &image[..32768]);
 }

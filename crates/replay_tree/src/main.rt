@@ -6,8 +6,8 @@ mod house;
 mod largest;
 mod sample;
 
-fn main() {
-    house::all();
-    sample::all();
-    largest::all();
+fn main(rt: HostRuntime) {
+    house::all(&rt);
+    sample::all(&rt);
+    largest::all(&rt);
 }
