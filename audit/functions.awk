@@ -12,14 +12,25 @@ function start_file(    parts, n) {
     name = ""
 }
 
-# What a root passes on: `pub use module::name;` or `pub mod module;`.
-function pass_on(line,    parts) {
+# A name that a root passes on from a module.
+function pass_name(from, what) {
+    passed[crate, from, what] = 1
+    passed_type[crate, what] = 1
+    waits[crate " " from "::" what] = crate SUBSEP from SUBSEP what
+}
+
+# What a root passes on: `pub use module::name;`, `pub use module::{name, name};` on one line or several, or `pub mod module;`.
+function pass_on(line,    parts, names, n, i) {
     sub(/;.*$/, "", line)
     if (line ~ /^pub use [a-z_0-9]+::[A-Za-z_0-9]+$/) {
         split(substr(line, 9), parts, "::")
-        passed[crate, parts[1], parts[2]] = 1
-        passed_type[crate, parts[2]] = 1
-        waits[crate " " parts[1] "::" parts[2]] = crate SUBSEP parts[1] SUBSEP parts[2]
+        pass_name(parts[1], parts[2])
+    } else if (line ~ /^pub use [a-z_0-9]+::\{[A-Za-z_0-9, ]+\}$/) {
+        split(substr(line, 9), parts, "::")
+        gsub(/[{} ]/, "", parts[2])
+        sub(/,$/, "", parts[2])
+        n = split(parts[2], names, ",")
+        for (i = 1; i <= n; i++) pass_name(parts[1], names[i])
     } else if (line ~ /^pub mod [a-z_0-9]+$/) {
         passed_module[crate, substr(line, 9)] = 1
     } else {
@@ -44,7 +55,15 @@ function standing() {
 
 FNR == 1 { start_file() }
 FNR == 1 && module == "lib" { library[crate, "root"] = 1 }
-is_root && /^pub (use|mod) / { pass_on($0) }
+FNR == 1 { begun = "" }
+is_root && (begun != "" || /^pub (use|mod) /) {
+    begun = begun (begun == "" ? "" : " ") $0
+    if (/;/) {
+        gsub(/  +/, " ", begun)
+        pass_on(begun)
+        begun = ""
+    }
+}
 /^pub (struct|enum|const) / { seen[crate, module, substr($3, 1, match($3 " ", /[^A-Za-z_0-9]/) - 1)] = 1 }
 /^impl/ { type = $0; sub(/^impl(<[^>]*>)? */, "", type); sub(/[^A-Za-z_0-9].*$/, "", type) }
 /^}/ { type = "" }
