@@ -4,6 +4,6 @@
 mod pressing;
 mod sample;
 
-fn main() {
-    sample::all();
+fn main(rt: HostRuntime) {
+    sample::all(&rt);
 }

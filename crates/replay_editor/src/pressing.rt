@@ -2,8 +2,8 @@
 use editor::{Editor, Pressed};
 use history::History;
 use keys::Profile;
-use libc::STDOUT_FILENO;
 use replay::line;
+use std::io::Print;
 
 // How many bytes a key has shown; a refusal or a dropped byte shows none.
 fn shown(answer: Pressed) -> usize {
@@ -34,39 +34,39 @@ fn put_digits(bytes: &[u8], out: &mut [u8], at: usize) -> usize {
 }
 
 // Writes the first bytes of a buffer.
-fn write_first(out: &[u8], n: usize) {
+fn write_first(rt: &impl Print, out: &[u8], n: usize) {
     if n <= out.len() {
-        io::write_all(STDOUT_FILENO, &out[..n]);
+        let _ = rt.write_all(&out[..n]);
     }
 }
 
 // Writes bytes in hexadecimal, after a comma if they are not the first.
-fn write_part(bytes: &[u8], number: usize) {
+fn write_part(rt: &impl Print, bytes: &[u8], number: usize) {
     let mut out = [0u8; 1024];
     let first = put_comma(number, &mut out, 0);
     let end = put_digits(bytes, &mut out, first);
-    write_first(&out, end);
+    write_first(rt, &out, end);
 }
 
 // Writes what stands in the first bytes of the screen's buffer.
-fn write_screen(screen: &[u8], n: usize, number: usize) {
+fn write_screen(rt: &impl Print, screen: &[u8], n: usize, number: usize) {
     if n <= screen.len() {
-        write_part(&screen[..n], number);
+        write_part(rt, &screen[..n], number);
     }
 }
 
 // Writes the entries of a history, oldest first.
-fn write_entries(history: History, slots: &[u8]) {
+fn write_entries(rt: &impl Print, history: History, slots: &[u8]) {
     let count = history.count;
     let mut i = 0;
     while i < count {
-        write_part(history.recall(slots, i), i);
+        write_part(rt, history.recall(slots, i), i);
         i += 1;
     }
 }
 
 // What the keys before this one left.
-#[derive(Drop)]
+#[derive(Clone, Copy)]
 struct Held {
     editor: Editor,
     history: History,
@@ -74,6 +74,7 @@ struct Held {
 
 // Presses a key and writes what it shows.
 fn press(
+    rt: &impl Print,
     held: Held,
     slots: &mut [u8],
     byte: u8,
@@ -84,32 +85,39 @@ fn press(
     let before = held.editor;
     let key = before.key(held.history, slots, b"axvisor:$ ", byte, line, screen);
     let answer = key.answer;
-    write_screen(screen, shown(answer), number);
+    write_screen(rt, screen, shown(answer), number);
     let editor = key.editor;
     let history = key.history;
     Held { editor, history }
 }
 
 // Presses keys one after the other, in the buffers that are lent, and writes the history that they leave.
-fn press_with(profile: Profile, keys: &[u8], slots: &mut [u8], line: &mut [u8], screen: &mut [u8]) {
+fn press_with(
+    rt: &impl Print,
+    profile: Profile,
+    keys: &[u8],
+    slots: &mut [u8],
+    line: &mut [u8],
+    screen: &mut [u8],
+) {
     let mut held = Held {
         editor: Editor::fresh(profile),
         history: History::fresh(),
     };
     let mut i = 0;
     while i < keys.len() {
-        held = press(held, slots, keys[i], i, line, screen);
+        held = press(rt, held, slots, keys[i], i, line, screen);
         i += 1;
     }
-    io::write_all(STDOUT_FILENO, b";");
-    write_entries(held.history, slots);
-    io::write_all(STDOUT_FILENO, b"\n");
+    let _ = rt.write_all(b";");
+    write_entries(rt, held.history, slots);
+    let _ = rt.write_all(b"\n");
 }
 
 // Presses keys from the fresh state of a profile.
-pub fn press_all(profile: Profile, keys: &[u8]) {
+pub fn press_all(rt: &impl Print, profile: Profile, keys: &[u8]) {
     let mut slots = [0u8; 25600];
     let mut line = [0u8; 255];
     let mut screen = [0u8; 512];
-    press_with(profile, keys, &mut slots, &mut line, &mut screen);
+    press_with(rt, profile, keys, &mut slots, &mut line, &mut screen);
 }

@@ -4,35 +4,36 @@ use buffer::{octet_at, rest};
 use keys::Profile;
 use replay::hex::read_hex;
 use replay::input::{line_end, read_input};
+use std::io::{Input, Print};
 
 // Presses the keys of digits. A stream has at most 1,100 keys: what is longer is read as none, and shows in the answer.
-fn press_digits(profile: Profile, digits: &[u8]) {
+fn press_digits(rt: &impl Print, profile: Profile, digits: &[u8]) {
     let mut keys = [0u8; 1100];
     let n = read_hex(digits, &mut keys);
-    press_all(profile, &keys[..n]);
+    press_all(rt, profile, &keys[..n]);
 }
 
 // Presses the keys of a line.
-fn press_line(line: &[u8]) {
+fn press_line(rt: &impl Print, line: &[u8]) {
     if octet_at(line, 0) == b'+' {
-        return press_digits(Profile::Ecma48, rest(line, 1));
+        return press_digits(rt, Profile::Ecma48, rest(line, 1));
     }
-    press_digits(Profile::Rust, line);
+    press_digits(rt, Profile::Rust, line);
 }
 
 // Presses the keys of every line.
-fn press_lines(input: &[u8]) {
+fn press_lines(rt: &impl Print, input: &[u8]) {
     let mut at = 0;
     while at < input.len() {
         let end = line_end(input, at);
-        press_line(&input[at..end]);
+        press_line(rt, &input[at..end]);
         at = end + 1;
     }
 }
 
 // Presses all of standard input, which has to be shorter than the buffer of 65,536 bytes.
-pub fn all() {
-    let mut input = io::large_buffer();
-    let n = read_input(&mut input);
-    press_lines(&input[..n]);
+pub fn all(rt: &(impl Input + Print)) {
+    let mut input = [0u8; 65536];
+    let n = read_input(rt, &mut input);
+    press_lines(rt, &input[..n]);
 }
