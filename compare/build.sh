@@ -3,11 +3,11 @@
 # The library to compare: the one proved here, for this machine's processor, or the archive that RISSEMAT_LIBRARY names.
 library=${RISSEMAT_LIBRARY:-$(tools/archive)}
 
-# The program console: the one proved here, or the one that RISSEMAT_CONSOLE names. rt builds programs for x86-64 alone,
-# and its kit has an emulator for other machines, which then runs it.
+# The program console: the one proved here, or the one that RISSEMAT_CONSOLE names. rt builds programs for x86-64 alone;
+# on another machine an emulator runs it.
 if [ -z "${RISSEMAT_CONSOLE:-}" ]; then
-    rt check console
-    RISSEMAT_CONSOLE=target/bin/console
+    (cd crates/console && rt run </dev/null >/dev/null)
+    RISSEMAT_CONSOLE=crates/console/out/console
     if [ "$(uname -m)" != x86_64 ]; then
         RISSEMAT_CONSOLE=$(compare/emulated.sh console)
         RISSEMAT_EMULATED=1

@@ -1,7 +1,7 @@
 #!/bin/sh
 # Holds the program `console` to what it does when its output or its input fails: a message on standard error, nothing more written, status 1 by
 # console.sh; and when it is given words that it does not take: a message, nothing read and nothing written, status 2.
-# Run `rt check console` first. On a machine that is not x86-64 the program runs under the kit's emulator.
+# Run `rt run` in crates/console first. On a machine that is not x86-64 the program runs under an emulator.
 set -eu
 cd "${0%/*}/.."
 if [ -z "${RISSEMAT_CONSOLE:-}" ] && [ "$(uname -m)" != x86_64 ]; then

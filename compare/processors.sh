@@ -22,8 +22,7 @@ cc -O1 "-DROUNDS=$rounds" -I "$made" "$from/calls.c" "$library" -o "$made/here"
 expected=$("$made/here")
 echo "$(uname -m), this machine: $expected"
 
-guide=$(rt doc)
-tools=$(dirname "$(dirname "$guide")")/on/$(uname -m)/toolchain/bin
+tools=$(dirname "$(rt doc)")/toolchain/bin
 faults=0
 
 # on PROCESSOR BASE QEMU-WORDS CLANG-WORDS ARCHIVE-WORDS: builds the calls for an empty machine, runs them, compares.
