@@ -5,8 +5,8 @@ mod channels;
 mod settings;
 mod turns;
 
-fn main() {
-    if let settings::Chosen::Keys(profile) = settings::choose() {
-        turns::run(profile);
+fn main(rt: HostRuntime) {
+    if let settings::Chosen::Keys(profile) = settings::choose(&rt) {
+        turns::run(&rt, profile);
     }
 }

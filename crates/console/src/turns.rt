@@ -13,7 +13,7 @@ use session::KEY_ROOM;
 use stream::{Stream, blank_image, blank_line, blank_slots, finish, step};
 
 // The stream, where what is left of the piece that was read lies in its buffer, and whether the console is at its end.
-#[derive(Drop)]
+#[derive(Clone, Copy)]
 pub struct Console {
     pub stream: Stream,
     pub at: usize,
@@ -48,11 +48,11 @@ impl Console {
 }
 
 // Reads the next piece. At the input's end a line that is not at its end is told; a read that failed is not the input's end.
-fn read_on(stream: Stream, input: &mut [u8], out: &mut [u8]) -> Console
+fn read_on(rt: &HostRuntime, stream: Stream, input: &mut [u8], out: &mut [u8]) -> Console
     requires { (stream.session.lines ≤ last_line) × (7 ≤ length out.old) }
     ensures { ReadOn stream input.old out.old result input.new out.new }
 {
-    match read_piece(input) {
+    match read_piece(rt, input) {
         Got::Bytes(n) => Console {
             stream,
             at: 0,
@@ -61,7 +61,7 @@ fn read_on(stream: Stream, input: &mut [u8], out: &mut [u8]) -> Console
         },
         Got::End => {
             let n = finish(stream, out);
-            write_out(part(out, 0, n));
+            write_out(rt, part(out, 0, n));
             Console::stopped(stream)
         }
         Got::Failed => Console::stopped(stream),
@@ -70,6 +70,7 @@ fn read_on(stream: Stream, input: &mut [u8], out: &mut [u8]) -> Console
 
 // A step over what is left of the piece; what it prints is written before anything more is read, and after a write that failed nothing is.
 fn turn(
+    rt: &HostRuntime,
     console: Console,
     input: &mut [u8],
     line: &mut [u8],
@@ -86,7 +87,7 @@ fn turn(
     let made = step(console.stream, piece, line, image, slots, out);
     let stream = made.stream;
     let next = at + made.took;
-    if !write_out(part(out, 0, made.printed)) {
+    if !write_out(rt, part(out, 0, made.printed)) {
         return Console::stopped(stream);
     }
     if stream.over {
@@ -108,11 +109,12 @@ fn turn(
             over: false,
         };
     }
-    read_on(stream, input, out)
+    read_on(rt, stream, input, out)
 }
 
 // Turns up to the end. A proved loop has to end and an input need not, so turns are counted down from a number that no run uses up.
 fn turns(
+    rt: &HostRuntime,
     profile: Profile,
     input: &mut [u8],
     line: &mut [u8],
@@ -128,7 +130,7 @@ fn turns(
         if console.over {
             return;
         }
-        console = turn(console, input, line, image, slots, out);
+        console = turn(rt, console, input, line, image, slots, out);
         left -= 1;
     }
 }
@@ -142,13 +144,13 @@ fn blank_out() -> [u8; OUT_ROOM]
     [0; OUT_ROOM]
 }
 
-pub fn run(profile: Profile) {
-    let mut input = io::large_buffer();
+pub fn run(rt: &HostRuntime, profile: Profile) {
+    let mut input = [0u8; 65536];
     let mut line = blank_line();
     let mut image = blank_image();
     let mut slots = blank_slots();
     let mut out = blank_out();
     turns(
-        profile, &mut input, &mut line, &mut image, &mut slots, &mut out,
+        rt, profile, &mut input, &mut line, &mut image, &mut slots, &mut out,
     );
 }
