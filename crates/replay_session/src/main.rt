@@ -5,6 +5,6 @@ mod sample;
 mod taking;
 mod ways;
 
-fn main() {
-    sample::all();
+fn main(rt: HostRuntime) {
+    sample::all(&rt);
 }

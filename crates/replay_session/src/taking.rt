@@ -10,7 +10,7 @@ use replay::line::put_all;
 use stream::{Stream, finish, step};
 
 // A stream, how many bytes of its piece are taken, and how many are printed.
-#[derive(Drop)]
+#[derive(Clone, Copy)]
 pub struct Taken {
     pub stream: Stream,
     pub took: usize,

@@ -115,6 +115,7 @@ fn four(a: u8, b: u8, c: u8, d: u8) -> Decoded
 }
 
 // The character that begins with a, no ASCII byte, and goes on with b, c and d as far as it needs them.
+#[tactic(auto, using(crate::proofs::TableRows::row_none, crate::proofs::TableRows::row_two, crate::proofs::TableRows::row_three, crate::proofs::TableRows::row_four, crate::proofs::TableRows::row_past))]
 fn longer(a: u8, b: u8, c: u8, d: u8) -> Decoded
     requires { 0x80 ≤ a }
     ensures { result ≡ table a b c d }
