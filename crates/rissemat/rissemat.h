@@ -1,4 +1,4 @@
-/* The calls of librissemat.a for C: `rt staticlib rissemat` makes the archive.
+/* The calls of librissemat.a for C: `tools/archive` makes the archive.
  *
  * A slice is a pointer and then a length; a pointer to no bytes may be anything but must not be read through. Slices of
  * one call must not overlap. An answer has 64 bits:

@@ -3,7 +3,7 @@ ghost use Rattle.std.specs.Prelude.{◌≡◌, false, cond, eqb};
 ghost use Rattle.buffer.specs.Compare.{order, same_bytes};
 
 // How one byte string stands to another.
-#[derive(Drop)]
+#[derive(Clone, Copy)]
 pub enum Order {
     Less,
     Equal,

@@ -1,5 +1,5 @@
 // What showing a text answers.
-#[derive(Drop)]
+#[derive(Clone, Copy)]
 pub enum Shown {
     // It stands in the buffer, so many bytes.
     Text(usize),

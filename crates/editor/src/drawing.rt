@@ -46,7 +46,7 @@ impl Pressed {
 }
 
 // The state after a key, and its answer.
-#[derive(Drop)]
+#[derive(Clone, Copy)]
 pub struct KeyAnswer {
     pub editor: Editor,
     pub history: History,

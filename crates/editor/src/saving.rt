@@ -12,7 +12,7 @@ use keys::{
 };
 
 // What bytes hold: a good editor, or none; then it is the fresh one.
-#[derive(Drop)]
+#[derive(Clone, Copy)]
 pub struct Restored {
     pub valid: bool,
     pub editor: Editor,

@@ -7,7 +7,7 @@ use super::prefixed::{Text, long_text, long_text_size, write_long_text};
 use buffer::push_byte;
 
 // What stands at a place: a frame with a text of that many bytes, a frame that runs past the end, or nothing.
-#[derive(Drop)]
+#[derive(Clone, Copy)]
 pub enum Framed {
     Frame { kind: u8, length: usize },
     Broken,

@@ -4,7 +4,7 @@ ghost use Rattle.buffer.specs.Write.{Written};
 ghost use Rattle.frame.specs.Hex.{digit_of, hex_of, digit_value, value_of, pair_of, first_bad, unhex};
 
 // What a byte is as a digit: a value from 0 to 15, or no lower-case hexadecimal digit.
-#[derive(Drop)]
+#[derive(Clone, Copy)]
 enum Digit {
     Value(u8),
     Other,

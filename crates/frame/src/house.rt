@@ -6,7 +6,7 @@ use super::hex::{first_bad, hex_into, unhex_into};
 use buffer::push_byte;
 
 // What a line is, a refusal for each test in their order: Frame has the bytes written, NoDigit a place, Short the bytes needed.
-#[derive(Drop)]
+#[derive(Clone, Copy)]
 pub enum House {
     Frame(usize),
     Unended,
@@ -18,7 +18,7 @@ pub enum House {
 }
 
 // A line written, with its length, or the length that it needs.
-#[derive(Drop)]
+#[derive(Clone, Copy)]
 pub enum Lined {
     Written(usize),
     Short(usize),

@@ -6,7 +6,7 @@ ghost use Rattle.frame.specs.Text.{text_of, read_text};
 use buffer::{push, push_byte};
 
 // What stands at a place: a text of that many bytes, or a length or a text that runs past the end.
-#[derive(Drop)]
+#[derive(Clone, Copy)]
 pub enum Text {
     Sized(usize),
     Broken,

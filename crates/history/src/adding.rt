@@ -12,7 +12,7 @@ use buffer::{byte_at, same};
 use text::{is_blank, well_formed_prefix};
 
 // What adding a text answers.
-#[derive(Drop)]
+#[derive(Clone, Copy)]
 pub enum Added {
     // It was offered to the history.
     Done,
@@ -24,7 +24,7 @@ pub enum Added {
     IllFormed(usize),
 }
 
-#[derive(Drop)]
+#[derive(Clone, Copy)]
 pub struct Adding {
     pub history: History,
     pub answer: Added,

@@ -13,7 +13,7 @@ use super::testing::is_good;
 use buffer::same;
 
 // What forgetting an entry answers.
-#[derive(Drop)]
+#[derive(Clone, Copy)]
 pub enum Forgot {
     // So many entries went: 1, or 2 where the older of two equal ones went as well.
     Gone(usize),
@@ -23,7 +23,7 @@ pub enum Forgot {
     NoEntry(usize),
 }
 
-#[derive(Drop)]
+#[derive(Clone, Copy)]
 pub struct Forgetting {
     pub history: History,
     pub answer: Forgot,

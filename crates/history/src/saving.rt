@@ -8,7 +8,7 @@ use super::testing::is_good;
 use buffer::{byte_at, push};
 
 // What bytes and slots hold.
-#[derive(Drop)]
+#[derive(Clone, Copy)]
 pub enum Restored {
     // A good history: its record.
     Good(History),

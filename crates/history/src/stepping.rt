@@ -19,7 +19,7 @@ pub struct History {
 }
 
 // What a step through a history recalls.
-#[derive(Drop)]
+#[derive(Clone, Copy)]
 pub enum Recalled {
     // The entry of that number, the oldest being 0.
     Entry(usize),
@@ -27,7 +27,7 @@ pub enum Recalled {
 }
 
 // A history after a step, and what it recalls.
-#[derive(Drop)]
+#[derive(Clone, Copy)]
 pub struct Step {
     pub history: History,
     pub recalled: Recalled,

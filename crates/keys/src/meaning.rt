@@ -5,7 +5,7 @@ ghost use Rattle.keys.specs.Keys.{doing, awaiting, typed, begun, escaped, awaiti
 use super::control::{arrow_of, ended, further};
 use super::standing::{Action, LONGEST, Mode, Profile, Progress, unread};
 
-#[derive(Drop)]
+#[derive(Clone, Copy)]
 pub struct Meaning {
     pub action: Action,
     // What is waited for after it.

@@ -8,7 +8,7 @@ use text::well_formed_prefix;
 
 // What stands at a place: a good word of that many bytes, after the three bytes of its frame's head, which takes `size` bytes
 // when it is shown; or none.
-#[derive(Drop)]
+#[derive(Clone, Copy)]
 pub enum Item {
     Word { length: usize, size: usize },
     Bad,

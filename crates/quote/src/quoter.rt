@@ -14,7 +14,7 @@ use buffer::push_byte;
 use frame::{Framed, LINE_LIMIT, read_frame, told_length};
 
 // What quoting words answers.
-#[derive(Drop)]
+#[derive(Clone, Copy)]
 pub enum Quoted {
     // Their line, so many bytes.
     Line(usize),
@@ -27,7 +27,7 @@ pub enum Quoted {
 }
 
 // What measuring words finds: the length of their line, or the number of the first bad word.
-#[derive(Drop)]
+#[derive(Clone, Copy)]
 enum LineSize {
     Needs(usize),
     Bad(usize),

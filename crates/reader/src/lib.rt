@@ -12,7 +12,7 @@ ghost use Rattle.reader.specs.Places.{next_place};
 use image::{Head, head_at};
 use walk::{count_from, next_at};
 
-#[derive(Drop)]
+#[derive(Clone, Copy)]
 pub struct Reader<'a> {
     pub image: &'a [u8],
     pub at: usize,

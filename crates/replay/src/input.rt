@@ -1,11 +1,11 @@
 // Standard input, read whole into a lent buffer, and its lines.
-ghost use Rattle.std.specs.Prelude.{◌≤◌, length};
+ghost use Rattle.std.specs.Prelude.{◌≤◌, ◌≡◌, length, take};
 
 use std::io::{Input, Print, Read};
 
 // Reads until a buffer is full, the input ends or a read fails, and returns how many bytes stand at the front of the buffer.
 pub fn read_full<R: Read>(reader: &mut R, input: &mut [u8]) -> usize
-    ensures { result ≤ length input.new }
+    ensures { (result ≤ length input.new) × (result ≡ length (take result input.new)) }
 {
     let mut done = 0;
     while done < input.len() {
@@ -24,7 +24,7 @@ pub fn read_full<R: Read>(reader: &mut R, input: &mut [u8]) -> usize
 
 // Reads all of standard input and returns its length. An input that fills the buffer may have more, and is told.
 pub fn read_input(rt: &(impl Input + Print), input: &mut [u8]) -> usize
-    ensures { result ≤ length input.new }
+    ensures { (result ≤ length input.new) × (result ≡ length (take result input.new)) }
 {
     let mut reader = rt.reader();
     let n = read_full(&mut reader, input);

@@ -1,5 +1,5 @@
 // The trees of the crate trees as house lines, one frame a line, held against the files of trees/, which lie in this crate's data.
-ghost use Rattle.std.specs.Prelude.{◌≤◌, length};
+ghost use Rattle.std.specs.Prelude.{◌≤◌, ◌≡◌, length, take};
 
 use buffer::{part, same};
 use image::{Head, head_at};
@@ -54,7 +54,7 @@ fn begins(lines: &[u8], n: usize, text: &[u8]) -> bool {
 
 // Reads the file of that name into a buffer and returns its length, 0 if there is none.
 fn read_file(rt: &impl Files, name: &str, file: &mut [u8]) -> usize
-    ensures { result ≤ length file.new }
+    ensures { (result ≤ length file.new) × (result ≡ length (take result file.new)) }
 {
     match fs::open(rt, name) {
         Ok(mut opened) => read_full(&mut opened, file),

@@ -3,8 +3,8 @@ use replay::{answer, line};
 use words::{Tokens, tokenize};
 
 // A refusal's number, 0 for words.
-fn number(tokens: &Tokens) -> usize {
-    match *tokens {
+fn number(tokens: Tokens) -> usize {
+    match tokens {
         Tokens::Words(_) => 0,
         Tokens::LineTooLong(_) => 2,
         Tokens::IllFormed(_) => 3,
@@ -13,8 +13,8 @@ fn number(tokens: &Tokens) -> usize {
 }
 
 // The value that goes with an answer.
-fn value(tokens: &Tokens) -> usize {
-    match *tokens {
+fn value(tokens: Tokens) -> usize {
+    match tokens {
         Tokens::Words(n) => n,
         Tokens::LineTooLong(n) => n,
         Tokens::IllFormed(n) => n,
@@ -34,7 +34,7 @@ fn put_short(text: &[u8], needed: usize, line: &mut [u8], at: usize) -> usize {
     let room = needed - 1;
     let tokens = tokenize(text, &mut out[..room]);
     let before = line::put_all(b" short ", line, at);
-    answer::put_numbers(number(&tokens), value(&tokens), line, before)
+    answer::put_numbers(number(tokens), value(tokens), line, before)
 }
 
 // Puts what is answered for a line.
@@ -42,7 +42,7 @@ pub fn put_answer(text: &[u8], line: &mut [u8], at: usize) -> usize {
     let mut out = answer::buffer();
     let tokens = tokenize(text, &mut out);
     let Tokens::Words(n) = tokens else {
-        return answer::put_refusal(number(&tokens), value(&tokens), &out, line, at);
+        return answer::put_refusal(number(tokens), value(tokens), &out, line, at);
     };
     let before = line::put_all(b" words", line, at);
     let after = answer::put_written(&out, n, line, before);

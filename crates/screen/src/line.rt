@@ -7,7 +7,7 @@ use super::decimal::{decimal_size, push_decimal};
 use buffer::{push, push_byte};
 
 // What a redraw answers.
-#[derive(Drop)]
+#[derive(Clone, Copy)]
 pub enum Redrawn {
     // It stands in the buffer, so many bytes.
     Shown(usize),

@@ -7,7 +7,7 @@ use history::{Added, Forgot, History, Restored, add_tested, forget_tested};
 use keys::{is_profile, profile_of};
 
 // What beginning a session answers.
-#[derive(Drop)]
+#[derive(Clone, Copy)]
 pub enum Begun {
     Ready,
     // A buffer is too short: the length needed.

@@ -8,7 +8,7 @@ use crate::space::is_white_space;
 use crate::utf8::{Decoded, decode};
 
 // Where a word lies in a text.
-#[derive(Drop)]
+#[derive(Clone, Copy)]
 pub enum Word {
     // From a place up to, not including, another.
     At { start: usize, end: usize },
@@ -17,7 +17,7 @@ pub enum Word {
 }
 
 // What stands at a place of a text, as white space goes. A byte that belongs to no character is no white space.
-#[derive(Drop)]
+#[derive(Clone, Copy)]
 enum Seen {
     Here { white: bool, length: usize },
     End,

@@ -6,7 +6,7 @@ ghost use Rattle.text.specs.Inner.{length_of, letter_head};
 use buffer::{greatest_byte, octet_at};
 
 // What stands at a place of a text.
-#[derive(Drop)]
+#[derive(Clone, Copy)]
 pub enum Decoded {
     // A character: its scalar value, and its length in bytes.
     Character { code: u32, length: usize },

@@ -8,7 +8,7 @@ use super::role::{Role, role_of};
 use text::{Decoded, decode, letter_at};
 
 // What a step finds: characters that fill a length and together do one thing, or no character.
-#[derive(Drop)]
+#[derive(Clone, Copy)]
 pub enum Step {
     Go { role: Role, length: usize },
     IllFormed,

@@ -14,7 +14,7 @@ use frame::{LINE_LIMIT, told_length};
 use text::well_formed_prefix;
 
 // What tokenizing a line answers.
-#[derive(Drop)]
+#[derive(Clone, Copy)]
 pub enum Tokens {
     // The frames of its words, so many bytes.
     Words(usize),
@@ -27,7 +27,7 @@ pub enum Tokens {
 }
 
 // What measuring a line finds: the length of its frames, or where it is ill-formed.
-#[derive(Drop)]
+#[derive(Clone, Copy)]
 enum Measured {
     Needs(usize),
     IllFormed(usize),
