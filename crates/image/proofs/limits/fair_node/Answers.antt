@@ -13,18 +13,18 @@ returns-then-depth-gt7 c = λ h k. node_deep c.args.depth h _ _ _ k (omega arith
 pub returns-then-not-is_name : goal.returns-then-not-is_name
 unfolding node_in
 returns-then-not-is_name c =
-    λ h k. node_unnamed _ h _ _ _ k c.if-depth-gt7.false (seen is_name _ _ _ _ c.is_name.ensures c.part.ensures c.if-not-is_name.true)
+    λ h k. node_unnamed _ h _ _ _ k (omega arith) (seen is_name _ _ _ _ c.is_name.ensures c.part.ensures c.if-not-is_name.true)
 
 pub returns-then-not-is_note : goal.returns-then-not-is_note
 unfolding node_in
 returns-then-not-is_note c =
     let named = seen is_name _ _ _ _ c.is_name.ensures c.part.ensures c.if-not-is_name.false in
     let described = seen is_note _ _ _ _ c.is_note.ensures c.part-2.ensures c.if-not-is_note.true in
-    λ h k. node_undescribed _ h _ _ _ k c.if-depth-gt7.false named described
+    λ h k. node_undescribed _ h _ _ _ k (omega arith) named described
 
 pub returns : goal.returns
 unfolding node_in
 returns c =
     let named = seen is_name _ _ _ _ c.is_name.ensures c.part.ensures c.if-not-is_name.false in
     let described = seen is_note _ _ _ _ c.is_note.ensures c.part-2.ensures c.if-not-is_note.false in
-    λ h k. c.is_usage.ensures ∙ node_by _ h _ _ _ k c.if-depth-gt7.false named described
+    λ h k. c.is_usage.ensures ∙ node_by _ h _ _ _ k (omega arith) named described

@@ -1,5 +1,6 @@
 -- `tree::walk::node_step` meets its contract: the first rule that is broken decides; a node that follows is passed.
 use Rattle.tree.proofs.Walks.{too_deep, too_many, node_decides, step_refused, step_taken}
+use native.Mathlib.Omega.{arith}
 use mathlib.Core.Path.{sym, ◌∙◌}
 use mathlib.Core.Bool.{true, false}
 use Rattle.tree.proofs.walk.node_step.Goals as goal
@@ -16,10 +17,10 @@ pub returns-then-not-rises_at : goal.returns-then-not-rises_at
 returns-then-not-rises_at c =
     λ h ds u.
     let rises = sym c.if-not-rises_at.true ∙ c.rises_at.ensures in
-    step_refused _ _ _ _ c.refused-then-not-rises_at.ensures (node_decides c.args.image.now _ c.requires.1 _ h _ ds u c.if-walk-depth.false c.if-walk-ge256.false false rises)
+    step_refused _ _ _ _ c.refused-then-not-rises_at.ensures (node_decides c.args.image.now _ c.requires.1 _ h _ ds u c.if-walk-depth.false (omega arith) false rises)
 
 pub returns : goal.returns
 returns c =
     λ h ds u.
     let rises = sym c.if-not-rises_at.false ∙ c.rises_at.ensures in
-    step_taken _ _ _ _ c.after_node.ensures (node_decides c.args.image.now _ c.requires.1 _ h _ ds u c.if-walk-depth.false c.if-walk-ge256.false true rises)
+    step_taken _ _ _ _ c.after_node.ensures (node_decides c.args.image.now _ c.requires.1 _ h _ ds u c.if-walk-depth.false (omega arith) true rises)
