@@ -1,5 +1,5 @@
 // A line of output, gathered in a lent buffer and written at its end. A line that doesn't fit is told.
-ghost use Rattle.std.specs.Prelude.{◌<◌};
+ghost use Rattle.std.specs.Prelude.{◌<◌, ◌≤◌};
 
 use std::io::Print;
 
@@ -34,36 +34,32 @@ fn digit_of(number: u64) -> u8
     }
 }
 
-// Puts a number in decimal.
-pub fn put_decimal(n: usize, line: &mut [u8], at: usize) -> usize {
+// Puts a number by its digits to a base of at most 16, with zeros in front up to a width.
+fn put_digits(n: u64, base: u64, width: usize, line: &mut [u8], at: usize) -> usize
+    requires { (1 < base) × (base ≤ 16) }
+{
     let mut digits = [0u8; 20];
     let mut first = digits.len();
-    let mut left = n as u64;
+    let mut left = n;
     while first > 0 {
         first -= 1;
-        digits[first] = digit_of(left % 10);
-        left /= 10;
-        if left == 0 {
+        digits[first] = digit_of(left % base);
+        left /= base;
+        if left == 0 && width <= digits.len() - first {
             break;
         }
     }
     put_all(&digits[first..], line, at)
 }
 
-// Puts a number in hexadecimal, with zeros in front up to a width.
+// Puts a number in decimal.
+pub fn put_decimal(n: usize, line: &mut [u8], at: usize) -> usize {
+    put_digits(n as u64, 10, 1, line, at)
+}
+
+// Puts a number in hexadecimal, with zeros in front up to a width of at most 16.
 pub fn put_hex(n: u64, width: usize, line: &mut [u8], at: usize) -> usize {
-    let mut digits = [0u8; 16];
-    let mut first = digits.len();
-    let mut left = n;
-    while first > 0 {
-        first -= 1;
-        digits[first] = digit_of(left % 16);
-        left /= 16;
-        if left == 0 && width <= digits.len() - first {
-            break;
-        }
-    }
-    put_all(&digits[first..], line, at)
+    put_digits(n, 16, width.min(16), line, at)
 }
 
 // Puts bytes in hexadecimal, two digits each; '-' stands for none.
