@@ -1,9 +1,10 @@
 -- What a lookup tells of a meaning: the definition that was found is the first, and its name is read from its head.
+use Rattle.std.specs.Prelude.{Some, None, Option}
 use Prim.Native.Nat.{ℕ, ◌+◌, ◌<◌, ◌≤◌}
 use mathlib.Core.Path.{◌≡◌, refl, sym, ap, ◌∙◌}
 use mathlib.Core.Bool.{Bool, true, false, cond}
 use mathlib.Core.List.{List, [], ◌∷◌}
-use mathlib.Core.Option.{Option, none, some}
+use mathlib.Core.Option.{Option as Maybe, none, some}
 use native.Mathlib.Omega.{arith}
 use types.Run.{OneOf, miss}
 use denote.Enum.Declared.{tag_of}
@@ -24,16 +25,14 @@ use Rattle.tree.specs.Subtrees.{up_to}
 use Rattle.lookup.specs.Spots.{first_of, spot}
 use Rattle.lookup.specs.Searches.{is_node, wanted, ended_by}
 use Rattle.lookup.specs.Definitions.{has_key, flag_with, option_with, flag_or, defined}
-use Rattle.lookup.specs.declared.seek.Spot.{Spot}
-use Rattle.lookup.specs.declared.seek.Spot.TheVariants.{At, Nothing}
 use Rattle.lookup.specs.declared.look.Sought.TheVariants.{OptionKeyed}
-use Rattle.lookup.specs.declared.definition.Defined.TheVariants.{Flag, Option as Opt, Unknown}
+use Rattle.lookup.specs.declared.definition.Defined.TheVariants.{Flag, Option as Opt}
 use Rattle.lookup.proofs.FoundFrames.{FrameAt, spot_first, spot_none}
 use Rattle.arguments.specs.Meanings.{name_of, first_name, Means, a_flag, an_option, nothing, flag_else, meaning, is_some, is_option}
 use Rattle.arguments.specs.Inner.{definitions_at}
 
 -- the name of a frame, if there is one
-abbrev named : Option Frame → Option (List ℕ)
+abbrev named : Maybe Frame → Maybe (List ℕ)
 named none = none
 named (some f) = some (name_of f)
 
@@ -50,31 +49,31 @@ first_named test (f ∷ l) = by (is_node f) (test f) refl (first_named test l)
     by false false e more = rw e more
 
 module _ (test : Frame → Bool) (image : List ℕ) (at : ℕ) where
-  spot_named : (p : ℕ) → Bytes image → spot test is_node image at ≡ At p → (x : FrameAt test image p) × (first_name test (definitions_at image at) ≡ some (name_of x.frame))
+  spot_named : (p : ℕ) → Bytes image → spot test is_node image at ≡ Some p → (x : FrameAt test image p) × (first_name test (definitions_at image at) ≡ some (name_of x.frame))
   unfolding definitions_at
   spot_named p b e =
       let f = spot_first test is_node image at p b e in
       (f.told.frame_at, first_named test (frames_of (drop at image)) ∙ ap named f.first)
 
-  spot_nameless : spot test is_node image at ≡ Nothing → first_name test (definitions_at image at) ≡ none
+  spot_nameless : spot test is_node image at ≡ None → first_name test (definitions_at image at) ≡ none
   unfolding definitions_at
   spot_nameless e = first_named test (frames_of (drop at image)) ∙ ap named (spot_none test is_node image at e)
 
 -- the two searches for a definition
-flag_found : (x y : Spot) (p : ℕ) → flag_or x y ≡ Flag p → x ≡ At p
-flag_found (At q) y p e = cc
-flag_found Nothing (At q) p e = absurd (let z : ◌≡◌ {A = ℕ} 0 1 = cc in omega arith)
-flag_found Nothing Nothing p e = absurd (let z : ◌≡◌ {A = ℕ} 0 1 = cc in omega arith)
+flag_found : (x y : Option ℕ) (p : ℕ) → flag_or x y ≡ Some (Flag p) → x ≡ Some p
+flag_found (Some q) y p e = cc
+flag_found None (Some q) p e = absurd (let z : ◌≡◌ {A = ℕ} 0 1 = cc in omega arith)
+flag_found None None p e = absurd (let z : ◌≡◌ {A = ℕ} 0 1 = cc in omega arith)
 
-option_found : (x y : Spot) (p : ℕ) → flag_or x y ≡ Opt p → (x ≡ Nothing) × (y ≡ At p)
-option_found (At q) y p e = absurd (let z : ◌≡◌ {A = ℕ} 0 1 = cc in omega arith)
-option_found Nothing (At q) p e = (refl, cc)
-option_found Nothing Nothing p e = absurd (let z : ◌≡◌ {A = ℕ} 0 1 = cc in omega arith)
+option_found : (x y : Option ℕ) (p : ℕ) → flag_or x y ≡ Some (Opt p) → (x ≡ None) × (y ≡ Some p)
+option_found (Some q) y p e = absurd (let z : ◌≡◌ {A = ℕ} 0 1 = cc in omega arith)
+option_found None (Some q) p e = (refl, cc)
+option_found None None p e = absurd (let z : ◌≡◌ {A = ℕ} 0 1 = cc in omega arith)
 
-none_found_lem : (x y : Spot) → flag_or x y ≡ Unknown → (x ≡ Nothing) × (y ≡ Nothing)
-none_found_lem (At q) y e = absurd (let z : ◌≡◌ {A = ℕ} 0 1 = cc in omega arith)
-none_found_lem Nothing (At q) e = absurd (let z : ◌≡◌ {A = ℕ} 0 1 = cc in omega arith)
-none_found_lem Nothing Nothing e = (refl, refl)
+none_found_lem : (x y : Option ℕ) → flag_or x y ≡ None → (x ≡ None) × (y ≡ None)
+none_found_lem (Some q) y e = absurd (let z : ◌≡◌ {A = ℕ} 0 1 = cc in omega arith)
+none_found_lem None (Some q) e = absurd (let z : ◌≡◌ {A = ℕ} 0 1 = cc in omega arith)
+none_found_lem None None e = (refl, refl)
 
 -- a flag or an option that was found: the frame there gives the meaning its name
 pub record Meant (image : List ℕ) (p : ℕ) (isIt : Frame → Bool) (m : List ℕ → Means) (means : Means) : Type 0 where
@@ -82,13 +81,13 @@ pub record Meant (image : List ℕ) (p : ℕ) (isIt : Frame → Bool) (m : List 
   pub is : means ≡ m (name_of frame_at.frame)
 
 module _ (has : Frame → Bool) (image : List ℕ) (at : ℕ) where
-  pub flag_meant : (p : ℕ) → Bytes image → defined has image at ≡ Flag p → Meant image p (flag_with has) a_flag (meaning has (definitions_at image at))
+  pub flag_meant : (p : ℕ) → Bytes image → defined has image at ≡ Some (Flag p) → Meant image p (flag_with has) a_flag (meaning has (definitions_at image at))
   unfolding defined meaning
   flag_meant p b e =
       let x = spot_named (flag_with has) image at p b (flag_found _ _ p e) in
-      record { frame_at = x.0; is = ap (λ (n : Option (List ℕ)). flag_else n (first_name (option_with has) (definitions_at image at))) x.1 }
+      record { frame_at = x.0; is = ap (λ (n : Maybe (List ℕ)). flag_else n (first_name (option_with has) (definitions_at image at))) x.1 }
 
-  pub option_meant : (p : ℕ) → Bytes image → defined has image at ≡ Opt p → Meant image p (option_with has) an_option (meaning has (definitions_at image at))
+  pub option_meant : (p : ℕ) → Bytes image → defined has image at ≡ Some (Opt p) → Meant image p (option_with has) an_option (meaning has (definitions_at image at))
   unfolding defined meaning
   option_meant p b e =
       let f = option_found _ _ p e in
@@ -96,16 +95,16 @@ module _ (has : Frame → Bool) (image : List ℕ) (at : ℕ) where
       record {
         frame_at = x.0;
         is =
-            ap (λ (n : Option (List ℕ)). flag_else n (first_name (option_with has) (definitions_at image at))) (spot_nameless (flag_with has) image at f.0)
-            ∙ ap (λ (n : Option (List ℕ)). flag_else none n) x.1;
+            ap (λ (n : Maybe (List ℕ)). flag_else n (first_name (option_with has) (definitions_at image at))) (spot_nameless (flag_with has) image at f.0)
+            ∙ ap (λ (n : Maybe (List ℕ)). flag_else none n) x.1;
       }
 
-  pub nothing_meant : defined has image at ≡ Unknown → meaning has (definitions_at image at) ≡ nothing
+  pub nothing_meant : defined has image at ≡ None → meaning has (definitions_at image at) ≡ nothing
   unfolding defined meaning
   nothing_meant e =
       let f = none_found_lem _ _ e in
-      ap (λ (n : Option (List ℕ)). flag_else n (first_name (option_with has) (definitions_at image at))) (spot_nameless (flag_with has) image at f.0)
-      ∙ ap (λ (n : Option (List ℕ)). flag_else none n) (spot_nameless (option_with has) image at f.1)
+      ap (λ (n : Maybe (List ℕ)). flag_else n (first_name (option_with has) (definitions_at image at))) (spot_nameless (flag_with has) image at f.0)
+      ∙ ap (λ (n : Maybe (List ℕ)). flag_else none n) (spot_nameless (option_with has) image at f.1)
 
 -- what was read, by the order of the variants of a head
 abbrev kind_of : Read → ℕ
@@ -200,15 +199,15 @@ wanted_same key (flag c name long ds) = refl
 first_same : (a b : Frame → Bool) → ((f : Frame) → a f ≡ b f) → (fs : List Frame) → first_name a fs ≡ first_name b fs
 unfolding first_name
 first_same a b s [] = refl
-first_same a b s (f ∷ l) = rw (s f) (ap (λ (n : Option (List ℕ)). cond (b f) (some (name_of f)) n) (first_same a b s l))
+first_same a b s (f ∷ l) = rw (s f) (ap (λ (n : Maybe (List ℕ)). cond (b f) (some (name_of f)) n) (first_same a b s l))
 
 module _ (key image : List ℕ) (at : ℕ) where
   keyed_by : is_option key (definitions_at image at) ≡ is_some (first_name (wanted OptionKeyed key) (definitions_at image at))
   unfolding is_option
   keyed_by = ap is_some (sym (first_same (wanted OptionKeyed key) (option_with (has_key key)) (wanted_same key) (definitions_at image at)))
 
-  pub is_option_lem : (p : ℕ) → Bytes image → spot (wanted OptionKeyed key) (ended_by OptionKeyed) image at ≡ At p → is_option key (definitions_at image at) ≡ true
+  pub is_option_lem : (p : ℕ) → Bytes image → spot (wanted OptionKeyed key) (ended_by OptionKeyed) image at ≡ Some p → is_option key (definitions_at image at) ≡ true
   is_option_lem p b e = keyed_by ∙ ap is_some (spot_named (wanted OptionKeyed key) image at p b e).1
 
-  pub no_option : spot (wanted OptionKeyed key) (ended_by OptionKeyed) image at ≡ Nothing → is_option key (definitions_at image at) ≡ false
+  pub no_option : spot (wanted OptionKeyed key) (ended_by OptionKeyed) image at ≡ None → is_option key (definitions_at image at) ≡ false
   no_option e = keyed_by ∙ ap is_some (spot_nameless (wanted OptionKeyed key) image at e)

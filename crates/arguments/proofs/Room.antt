@@ -7,8 +7,8 @@ use mathlib.Core.Option.{Option, none, some}
 use native.Mathlib.Omega.{arith}
 use lib.ListN.{length}
 use Rattle.buffer.specs.Compare.{order, same_bytes}
-use Rattle.buffer.specs.declared.order.Order.{Order}
-use Rattle.buffer.specs.declared.order.Order.TheVariants.{Less, Equal, Greater}
+use Rattle.std.specs.declared.cmp.Ordering.{Ordering}
+use Rattle.std.specs.declared.cmp.Ordering.TheVariants.{Less, Equal, Greater}
 use Rattle.buffer.proofs.Choices.{then_is, true_is_not_false}
 use Rattle.buffer.proofs.Ordering.{same_is, is_same}
 use Rattle.image.specs.Frames.{Perhaps, absent, present, Frame, node, option, flag}
@@ -213,7 +213,7 @@ unfolding put
 put_keys keys k v [] a x = (a, tt)
 put_keys keys k v (e ∷ m) a x = by (order k e.0) (put_keys keys k v m a x.1)
   where
-    by : (o : Order) → KeysIn keys (put k v m) → KeysIn keys (on_order o ((k, v) ∷ e ∷ m) ((k, v) ∷ m) (e ∷ put k v m))
+    by : (o : Ordering) → KeysIn keys (put k v m) → KeysIn keys (on_order o ((k, v) ∷ e ∷ m) ((k, v) ∷ m) (e ∷ put k v m))
     by Less more = (a, x)
     by Equal more = (a, x.1)
     by Greater more = (x.0, more)

@@ -3,6 +3,7 @@ use Prim.Native.Nat.{ℕ, suc, ◌+◌, ◌-◌, ◌<◌, ◌≤◌}
 use mathlib.Core.Path.{◌≡◌, refl, sym, ap, ◌∙◌}
 use mathlib.Core.Bool.{true, false}
 use mathlib.Core.List.{List, [], ◌∷◌}
+use Rattle.std.specs.Prelude.{Option}
 use native.Mathlib.Omega.{arith}
 use types.Run.{OneOf, miss}
 use denote.Enum.Declared.{tag_of}
@@ -39,7 +40,7 @@ pub moved_as : (words image : List ℕ) (s r : Scan) (f g : List ℕ → Stand) 
 moved_as words image s r f g m e = record { stand = λ rest. m.stand rest ∙ e rest; kept = m.kept; small = m.small }
 
 -- a place that is small, in a meaning that is known
-pub name_small : (r x : Meaning) → r ≡ x → NameSmall r → NameSmall x
+pub name_small : (r x : Option Meaning) → r ≡ x → NameSmall r → NameSmall x
 name_small r x e s = rw e at s
 
 pub key_small : (r x : Progress) → r ≡ x → KeySmall r → KeySmall x
@@ -75,18 +76,18 @@ module _ (words image : List ℕ) (s r : Scan) (defs : List Frame) (code : ℕ) 
       moved_as words image s r f _ m (λ rest. k rest ∙ ap (λ (y : Means). on_means y (λ name. go (with_flag stored (found_of words image rest s) name)) (λ name. wait (found_of words image rest s) name (dash ∷ encode code)) (unknown_option (dash ∷ encode code))) q
       ∙ sym (ap (λ (a : Stand). short_step stored defs a code) (stand_by_lem words image rest s Going e)))
 
-  pub short_flag : (m : Meaning) (start size : ℕ) → s.progress ≡ Going → means_of image m ≡ meaning (has_short code) defs → means_of image m ≡ a_flag (part_of image start size)
+  pub short_flag : (m : Option Meaning) (start size : ℕ) → s.progress ≡ Going → means_of image m ≡ meaning (has_short code) defs → means_of image m ≡ a_flag (part_of image start size)
       → Moved words image s r (λ rest. go (with_flag stored (found_of words image rest s) (part_of image start size))) → StepsTo
   short_flag m start size e q t o = short_goes (a_flag (part_of image start size)) _ e (sym t ∙ q) o (λ rest. refl)
 
-  pub short_option : (m : Meaning) (key : Span) (place size : ℕ) → s.progress ≡ Going → means_of image m ≡ meaning (has_short code) defs → means_of image m ≡ an_option (part_of image key.start key.length)
+  pub short_option : (m : Option Meaning) (key : Span) (place size : ℕ) → s.progress ≡ Going → means_of image m ≡ meaning (has_short code) defs → means_of image m ≡ an_option (part_of image key.start key.length)
       → part_of words place size ≡ encode code
       → Moved words image s r (λ rest. stand_by words image (found_of words image rest s) (Waiting Image key (record { dashes = 1; start = place; length = size }))) → StepsTo
   short_option m key place size e q t c o =
       short_goes (an_option (part_of image key.start key.length)) _ e (sym t ∙ q) o
       (λ rest. ap (λ (l : List ℕ). wait (found_of words image rest s) (part_of image key.start key.length) (dash ∷ l)) c)
 
-  pub short_unknown : (m : Meaning) (place size : ℕ) → s.progress ≡ Going → means_of image m ≡ meaning (has_short code) defs → means_of image m ≡ nothing → part_of words place size ≡ encode code
+  pub short_unknown : (m : Option Meaning) (place size : ℕ) → s.progress ≡ Going → means_of image m ≡ meaning (has_short code) defs → means_of image m ≡ nothing → part_of words place size ≡ encode code
       → Moved words image s r (λ rest. stand_by words image (found_of words image rest s) (UnknownOption (record { dashes = 1; start = place; length = size }))) → StepsTo
   short_unknown m place size e q t c o = short_goes nothing _ e (sym t ∙ q) o (λ rest. ap (λ (l : List ℕ). unknown_option (dash ∷ l)) c)
 

@@ -1,6 +1,6 @@
 -- What only contracts of inner calls cite. How the code holds where a line stands: tables for the maps, frames in a lent buffer for the positional words, parts of the split words
 -- and of the image for keys and texts.
-use Rattle.std.specs.Prelude.{ℕ, ◌+◌, ◌-◌, ◌<◌, ◌≤◌, ◌≡◌, List, ◌++◌, length, take, drop, replicate}
+use Rattle.std.specs.Prelude.{ℕ, ◌+◌, ◌-◌, ◌<◌, ◌≤◌, ◌≡◌, List, ◌++◌, length, take, drop, replicate, Option, Some, None}
 use Rattle.std.specs.Borrow.{MutBor}
 use denote.Triple.Both.{Both}
 use Rattle.text.specs.Unicode.{WellFormed}
@@ -28,7 +28,7 @@ use Rattle.arguments.specs.declared.standing.Progress.TheVariants.{Going, Waitin
 use Rattle.arguments.specs.declared.standing.Scan.{Scan}
 use Rattle.arguments.specs.declared.standing.Stage.{Stage}
 use Rattle.arguments.specs.declared.meaning.Meaning.{Meaning}
-use Rattle.arguments.specs.declared.meaning.Meaning.TheVariants.{Flag, Option, Unknown}
+use Rattle.arguments.specs.declared.meaning.Meaning.TheVariants.{Flag, Option as OptionOf}
 
 -- the definitions that stand in bytes from a place on
 unfoldable pub definitions_at : List ℕ → ℕ → List Frame
@@ -67,10 +67,10 @@ abbrev pub fresh : Stage
 fresh = record { options = 0; flags = 0; kept = 0; progress = Going }
 
 -- what a name means, told by where it stands in the image
-abbrev pub means_of : List ℕ → Meaning → Means
-means_of image (Flag name) = a_flag (part_of image name.start name.length)
-means_of image (Option name) = an_option (part_of image name.start name.length)
-means_of image Unknown = nothing
+abbrev pub means_of : List ℕ → Option Meaning → Means
+means_of image None = nothing
+means_of image (Some (Flag name)) = a_flag (part_of image name.start name.length)
+means_of image (Some (OptionOf name)) = an_option (part_of image name.start name.length)
 
 -- places small enough to be packed
 abbrev pub KeySmall : Progress → Type 0
@@ -79,10 +79,10 @@ KeySmall (Waiting source key told) = (key.start < 0x10000) × (key.length < 0x10
 KeySmall (UnknownOption told) = Unit
 KeySmall (MissingValue told) = Unit
 
-abbrev pub NameSmall : Meaning → Type 0
-NameSmall (Flag name) = (name.start < 0x10000) × (name.length < 0x10000)
-NameSmall (Option name) = (name.start < 0x10000) × (name.length < 0x10000)
-NameSmall Unknown = Unit
+abbrev pub NameSmall : Option Meaning → Type 0
+NameSmall None = Unit
+NameSmall (Some (Flag name)) = (name.start < 0x10000) × (name.length < 0x10000)
+NameSmall (Some (OptionOf name)) = (name.start < 0x10000) × (name.length < 0x10000)
 
 -- words as they are split: frames up to the end, each of a text that is well-formed
 pub record WellSplit (words : List ℕ) : Type 0 where
@@ -198,13 +198,13 @@ abbrev pub ArgsRead : List ℕ → List ℕ → ℕ → ℕ → List ℕ → Lis
 ArgsRead words image first start rest p g r left = ArgsScanned words image first start rest (held p g r) left × Fit r.options p × Fit r.flags g
 
 -- what a word of shorts asks
-abbrev pub ShortsAsk : List ℕ → List ℕ → ℕ → ℕ → List ℕ → Stage → Type 0
-ShortsAsk words image start end f s =
-    Sizes words image × (start ≤ end) × (end ≤ length words) × KeySmall s.progress × Fit s.flags f × WellFormed (take (end - start) (drop start words))
+abbrev pub ShortsAsk : List ℕ → ℕ → ℕ → List ℕ → Stage → Type 0
+ShortsAsk words start end f s =
+    (start ≤ end) × (end ≤ length words) × KeySmall s.progress × Fit s.flags f × WellFormed (take (end - start) (drop start words))
 
 -- a word at the place `at`: the frame of a well-formed text of n bytes
-abbrev pub WordThere : List ℕ → List ℕ → ℕ → ℕ → Type 0
-WordThere words image at n = Sizes words image × ((kind : ℕ) × (frame_first (drop at words) ≡ FrameOf kind n)) × WellFormed (part_of words (at + 3) n)
+abbrev pub WordThere : List ℕ → ℕ → ℕ → Type 0
+WordThere words at n = ((kind : ℕ) × (frame_first (drop at words) ≡ FrameOf kind n)) × WellFormed (part_of words (at + 3) n)
 
 -- what it asks of the stage, where it is no value, and where it may be one
 abbrev pub ArgumentAsks : ℕ → List ℕ → List ℕ → Stage → List ℕ → Type 0
@@ -214,6 +214,6 @@ abbrev pub WordAsks : ℕ → List ℕ → List ℕ → Stage → List ℕ → T
 WordAsks n o f s rest = Apt rest (held o f s) × (s.kept + 3 + n ≤ length rest) × Fit s.options o × Fit s.flags f
 
 -- what all words from the place `start` on ask: room for them, and tables of the full capacity
-abbrev pub ArgsAsk : List ℕ → List ℕ → ℕ → List ℕ → List ℕ → List ℕ → Type 0
-ArgsAsk words image start o f rest =
-    Sizes words image × (length words ≤ length rest) × (length o ≡ capacity) × (length f ≡ capacity) × WellSplit (drop start words)
+abbrev pub ArgsAsk : List ℕ → ℕ → List ℕ → List ℕ → List ℕ → Type 0
+ArgsAsk words start o f rest =
+    (length words ≤ length rest) × (length o ≡ capacity) × (length f ≡ capacity) × WellSplit (drop start words)

@@ -6,12 +6,5 @@ ghost use Rattle.arguments.specs.Forms.{before_equals};
 pub fn before_equals(s: &[u8]) -> usize
     ensures { (result ≡ before_equals s.now) × (result ≤ length s.now) }
 {
-    let mut at = 0;
-    while at < s.len() {
-        if s[at] == 0x3D {
-            return at;
-        }
-        at += 1;
-    }
-    at
+    s.iter().position(|b| *b == b'=').unwrap_or(s.len())
 }

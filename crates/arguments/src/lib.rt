@@ -3,6 +3,7 @@
 
 mod form;
 mod meaning;
+mod node;
 mod reading;
 mod standing;
 

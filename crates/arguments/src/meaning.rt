@@ -9,28 +9,28 @@ use image::{Head, head_at};
 use lookup::{Defined, definition_by_short};
 use table::Span;
 
-// A flag or an option, with the place of its name in the image; or nothing that the node knows.
+// A flag or an option, with the place of its name in the image.
 #[derive(Clone, Copy)]
 pub enum Meaning {
     Flag(Span),
     Option(Span),
-    Unknown,
 }
 
-// What the character of that code means as a short, among the definitions from a place on.
-pub fn meaning_by_short(image: &[u8], from: usize, code: usize) -> Meaning
+// What the character of that code means as a short, if anything, among the definitions from a place on.
+pub fn meaning_by_short(image: &[u8], from: usize, code: usize) -> Option<Meaning>
     requires { length image.now ≤ image_limit }
     ensures { (means_of image.now result ≡ meaning (has_short code) (definitions_at image.now from)) × NameSmall result }
 {
-    match definition_by_short(image, from, code) {
+    let defined = definition_by_short(image, from, code)?;
+    match defined {
         Defined::Flag(p) => {
             let Head::Flag { short: _, texts } = head_at(image, p) else {
-                return Meaning::Unknown;
+                return None;
             };
-            Meaning::Flag(Span {
+            Some(Meaning::Flag(Span {
                 start: p + 3,
                 length: texts.name,
-            })
+            }))
         }
         Defined::Option(p) => {
             let Head::Option {
@@ -39,13 +39,12 @@ pub fn meaning_by_short(image: &[u8], from: usize, code: usize) -> Meaning
                 texts,
             } = head_at(image, p)
             else {
-                return Meaning::Unknown;
+                return None;
             };
-            Meaning::Option(Span {
+            Some(Meaning::Option(Span {
                 start: p + 4,
                 length: texts.name,
-            })
+            }))
         }
-        Defined::Unknown => Meaning::Unknown,
     }
 }

@@ -4,6 +4,7 @@ ghost use Rattle.table.specs.Inner.{Fit};
 ghost use Rattle.arguments.specs.Arguments.{none_found, go};
 ghost use Rattle.arguments.specs.Inner.{stand_of, fresh, KeySmall, Apt, Turned, OptionTaken, FlagTaken, KeptBy};
 
+use super::node::Node;
 use buffer::push;
 use table::{Source, Span, Table, entry, put};
 
@@ -50,7 +51,7 @@ impl Scan {
     }
 }
 
-// The same while the words are read: the tables are lent, and of each so many entries count.
+// The same while the words are read: the tables are lent fixed memory, and of each so many entries count.
 #[derive(Clone, Copy)]
 pub struct Stage {
     pub options: usize,
@@ -76,73 +77,72 @@ impl Stage {
         requires { KeySmall progress }
         ensures { Turned progress self result }
     {
-        Self {
-            options: self.options,
-            flags: self.flags,
-            kept: self.kept,
-            progress,
-        }
+        Self { progress, ..self }
     }
 
     // Goes on with an option more: a later value replaces an earlier one.
     pub fn with_option<'a>(
         self,
-        words: &'a [u8],
-        image: &'a [u8],
+        node: Node<'a>,
         options: &mut [usize],
         source: Source,
         key: Span,
         value: Span,
     ) -> Self
         requires { (key.start < 0x10000) × (key.length < 0x10000) × (value.start < 0x2000) × (value.length < 0x2000) × Fit self.options options.old }
-        ensures { OptionTaken words.now image.now source key value options.old self options.new result }
+        ensures { OptionTaken node.entry.words.now node.entry.image.now source key value options.old self options.new result }
     {
         let count = put(
-            words,
-            image,
+            node.words,
+            node.image,
             options,
             self.options,
             entry(source, key, value),
         );
         Self {
             options: count,
-            flags: self.flags,
-            kept: self.kept,
             progress: Progress::Going,
+            ..self
         }
     }
 
-    // Goes on with a flag more, whose value is empty.
+    // Goes on with a flag more, whose value is empty. It shares `put` and `entry` with an option; what is left are the fields of another table.
     pub fn with_flag<'a>(
         self,
-        words: &'a [u8],
-        image: &'a [u8],
+        node: Node<'a>,
         flags: &mut [usize],
         source: Source,
         key: Span,
     ) -> Self
         requires { (key.start < 0x10000) × (key.length < 0x10000) × Fit self.flags flags.old }
-        ensures { FlagTaken words.now image.now source key flags.old self flags.new result }
+        ensures { FlagTaken node.entry.words.now node.entry.image.now source key flags.old self flags.new result }
     {
         let nothing = Span {
             start: 0,
             length: 0,
         };
-        let count = put(words, image, flags, self.flags, entry(source, key, nothing));
+        let count = put(
+            node.words,
+            node.image,
+            flags,
+            self.flags,
+            entry(source, key, nothing),
+        );
         Self {
-            options: self.options,
             flags: count,
-            kept: self.kept,
             progress: Progress::Going,
+            ..self
         }
     }
 
     // Keeps a frame after those that are kept.
-    pub fn keep(mut self, frame: &[u8], rest: &mut [u8]) -> Self
+    pub fn keep(self, frame: &[u8], rest: &mut [u8]) -> Self
         requires { self.kept + length frame.now ≤ length rest.old }
         ensures { KeptBy frame.now rest.old rest.new self result }
     {
-        self.kept = push(frame, rest, self.kept);
-        self
+        Self {
+            kept: push(frame, rest, self.kept),
+            ..self
+        }
     }
 }

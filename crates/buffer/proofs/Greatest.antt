@@ -1,21 +1,18 @@
 -- Laws of the greatest byte.
-use Prim.Native.Nat.{ℕ, zero, suc, ◌+◌, ◌-◌, ◌<◌, ◌≤◌, max}
+use Prim.Native.Nat.{ℕ, zero, suc, ◌+◌, ◌-◌, ◌≤◌, max}
 use mathlib.Core.Path.{◌≡◌, sym, ap, ◌∙◌}
 use mathlib.Core.List.{List, [], ◌∷◌, ◌++◌}
 use native.Mathlib.Omega.{arith}
-use lib.ListN.{length, take, drop, get_or, take-append-drop}
+use lib.ListN.{take, drop, get_or, take-append-drop}
 use lib.Seq.{drop-nil, drop-drop}
+use Rattle.std.specs.List.{fold}
 use Rattle.buffer.specs.Greatest.{greatest}
-use Rattle.buffer.proofs.Lists.{drop_step, drop_end}
 
--- a turn of the pass takes the element at its place
-pub greatest_step : (s : List ℕ) (i top : ℕ) → i < length s → max (max top (get_or s i 0)) (greatest (drop (i + 1) s)) ≡ max top (greatest (drop i s))
+-- a fold by the greater of two finds it
+pub greatest_fold : (s : List ℕ) (top : ℕ) → fold max top s ≡ max top (greatest s)
 unfolding greatest
-greatest_step s i top h = rw (drop_step s i 0) (omega arith)
-
-pub greatest_end : (s : List ℕ) (i top : ℕ) → length s ≤ i → max top (greatest (drop i s)) ≡ top
-unfolding greatest
-greatest_end s i top h = rw (drop_end s i) (omega arith)
+greatest_fold [] top = omega arith
+greatest_fold (x ∷ s) top = greatest_fold s (max top x) ∙ omega arith
 
 -- two parts that make up a list
 pub greatest_append : (s t : List ℕ) → greatest (s ++ t) ≡ max (greatest s) (greatest t)

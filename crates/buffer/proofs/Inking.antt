@@ -1,4 +1,5 @@
 -- Laws of a writer that also measures: texts one after the other, and a text with room or with none.
+use Rattle.std.specs.Prelude.{Ok, Err, Result}
 use Prim.Native.Nat.{ℕ, ◌+◌, ◌<◌, ◌≤◌}
 use mathlib.Core.Path.{◌≡◌, refl, sym, ap, ◌∙◌}
 use mathlib.Core.Bool.{Bool, true, false, cond}
@@ -10,8 +11,7 @@ use Rattle.buffer.specs.Write.{over_if_fits, over_at, Pushed}
 use Rattle.buffer.proofs.Lending.{over_at_both, over_at_nothing, over_at_front, length_over_at}
 use Rattle.buffer.specs.Inks.{Inked, Countable}
 use Rattle.buffer.specs.Showing.{show_answer, Showing}
-use Rattle.buffer.specs.declared.show.Shown.{Shown}
-use Rattle.buffer.specs.declared.show.Shown.TheVariants.{Text, NoRoom}
+use Rattle.buffer.specs.declared.show.TooShort.{TooShort}
 
 -- nothing, a text that fits, and one that does not
 pub inked_none : (out : List ℕ) (at : ℕ) → Inked [] out at at out
@@ -73,7 +73,7 @@ inked_three x y z out at p mid q next r left a b c = inked_both (x ++ y) z out a
 
 -- a text shown at the front, and one that lacks room
 module _ (text out : List ℕ) (n : ℕ) (e : n ≡ length text) where
-  pub shown : (r : ℕ) (left : List ℕ) → n ≤ length out → Inked text out 0 r left → Showing text out (Text r) left
+  pub shown : (r : ℕ) (left : List ℕ) → n ≤ length out → Inked text out 0 r left → Showing text out (Ok r) left
   unfolding show_answer over_if_fits
   shown r left h a =
       let k = a.place in
@@ -84,14 +84,14 @@ module _ (text out : List ℕ) (n : ℕ) (e : n ≡ length text) where
         bytes = rw (le-ltb (length out) (length text) t) (a.bytes (omega arith) ∙ over_at_front text out);
       }
 
-  pub no_room : length out < n → Showing text out (NoRoom n) out
+  pub no_room : length out < n → Showing text out (Err (record { needed = n })) out
   unfolding show_answer over_if_fits
   no_room h =
       let t : length out < length text = omega arith in
       record { answer = rw (lt-ltb (length out) (length text) t, e); bytes = rw (lt-ltb (length out) (length text) t) }
 
 -- no second answer satisfies the contract
-pub one_answer : (text out left other : List ℕ) (r q : Shown) → Showing text out r left → Showing text out q other → (r ≡ q) × (left ≡ other)
+pub one_answer : (text out left other : List ℕ) (r q : Result ℕ TooShort) → Showing text out r left → Showing text out q other → (r ≡ q) × (left ≡ other)
 one_answer text out left other r q a b = (a.answer ∙ sym b.answer, a.bytes ∙ sym b.bytes)
 
 -- a choice of two texts is as long as the longer

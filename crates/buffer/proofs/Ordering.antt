@@ -1,75 +1,54 @@
 -- Laws of the order by bytes, and of sameness.
-use Prim.Native.Nat.{ℕ, ◌+◌, ◌<◌, ◌≤◌}
+use Prim.Native.Nat.{ℕ, ◌<◌}
 use mathlib.Core.Path.{◌≡◌, refl, sym, ap, ◌∙◌}
-use mathlib.Core.Bool.{Bool, true, false, cond}
+use mathlib.Core.Bool.{Bool, true, false, cond, ◌&&◌}
 use mathlib.Core.List.{List, [], ◌∷◌, ◌++◌}
 use lib.Dec.{ltb, eqb}
-use lib.ListN.{length, drop, get_or}
+use Rattle.std.specs.Ordering.{nat_cmp, ordering_then}
+use Rattle.std.specs.Cmp.Lexicographic.{slice_cmp, pointwise}
+use lib.ListN.{length}
 use Rattle.buffer.specs.Compare.{order, same_bytes}
-use Rattle.buffer.specs.declared.order.Order.{Order}
-use Rattle.buffer.specs.declared.order.Order.TheVariants.{Less, Equal, Greater}
-use Rattle.buffer.proofs.Lists.{drop_step, drop_end}
-use Rattle.buffer.proofs.Choices.{then_is, else_is}
-use native.Mathlib.Nat.{le_of_lt, le_refl}
+use Rattle.std.specs.declared.cmp.Ordering.{Ordering}
+use Rattle.std.specs.declared.cmp.Ordering.TheVariants.{Less, Equal, Greater}
+use Rattle.buffer.proofs.Choices.{then_is, else_is, true_is_not_false}
+use native.Mathlib.Nat.{le_refl}
 use native.Mathlib.Omega.{arith}
-use borrow.Author.Tests.{lt-ltb, le-ltb, eq-eqb, ne_eqb, eqb-true, ltb-true, ltb-false}
+use borrow.Author.Tests.{lt-ltb, le-ltb, eq-eqb, eqb-true, ltb-true, ltb-false}
 
--- one step at a place inside both
-pub order_step : (a b : List ℕ) (i : ℕ) → i < length a → i < length b
-    → order (drop i a) (drop i b) ≡ cond (ltb (get_or a i 0) (get_or b i 0)) Less (cond (ltb (get_or b i 0) (get_or a i 0)) Greater (order (drop (i + 1) a) (drop (i + 1) b)))
+-- two heads that do not decide are equal
+heads : (x y : ℕ) → ltb x y ≡ false → ltb y x ≡ false → x ≡ y
+heads x y p q = let h = ltb-false x y p in let k = ltb-false y x q in omega arith
+
+-- the order is that of the library on lists of numbers
+pub order_cmp : (a b : List ℕ) → slice_cmp nat_cmp a b ≡ order a b
 unfolding order
-order_step a b i ha hb = rw (drop_step a i 0, drop_step b i 0)
-
--- the end of one or of both
-pub order_longer : (a b : List ℕ) (i : ℕ) → i < length a → length b ≤ i → order (drop i a) (drop i b) ≡ Greater
-unfolding order
-order_longer a b i ha hb = rw (drop_step a i 0, drop_end b i)
-
-pub order_shorter : (a b : List ℕ) (i : ℕ) → length a ≤ i → i < length b → order (drop i a) (drop i b) ≡ Less
-unfolding order
-order_shorter a b i ha hb = rw (drop_end a i, drop_step b i 0)
-
-pub order_ends : (a b : List ℕ) (i : ℕ) → length a ≤ i → length b ≤ i → order (drop i a) (drop i b) ≡ Equal
-unfolding order
-order_ends a b i ha hb = rw (drop_end a i, drop_end b i)
-
--- how a step inside both is decided
-module _ (a b : List ℕ) (i : ℕ) (ha : i < length a) (hb : i < length b) where
-  pub order_less : get_or a i 0 < get_or b i 0 → order (drop i a) (drop i b) ≡ Less
-  order_less h = order_step a b i ha hb ∙ then_is _ _ _ (lt-ltb _ _ h)
-
-  pub order_greater : get_or b i 0 < get_or a i 0 → order (drop i a) (drop i b) ≡ Greater
-  order_greater h = order_step a b i ha hb ∙ else_is _ _ _ (le-ltb _ _ (le_of_lt h)) ∙ then_is _ _ _ (lt-ltb _ _ h)
-
-  pub order_on : get_or b i 0 ≤ get_or a i 0 → get_or a i 0 ≤ get_or b i 0 → order (drop i a) (drop i b) ≡ order (drop (i + 1) a) (drop (i + 1) b)
-  order_on h k = order_step a b i ha hb ∙ else_is _ _ _ (le-ltb _ _ h) ∙ else_is _ _ _ (le-ltb _ _ k)
-
-  pub same_on : get_or a i 0 ≡ get_or b i 0 → same_bytes (drop i a) (drop i b) ≡ same_bytes (drop (i + 1) a) (drop (i + 1) b)
-  unfolding same_bytes
-  same_on e = rw (drop_step a i 0 ha, drop_step b i 0 hb) (then_is _ _ _ (eq-eqb _ _ e))
-
-  pub same_not : (get_or a i 0 ≡ get_or b i 0 → ⊥) → same_bytes (drop i a) (drop i b) ≡ false
-  unfolding same_bytes
-  same_not n = rw (drop_step a i 0 ha, drop_step b i 0 hb) (else_is _ _ _ (ne_eqb _ _ n))
-
-pub same_ends : (a b : List ℕ) (i : ℕ) → length a ≤ i → length b ≤ i → same_bytes (drop i a) (drop i b) ≡ true
-unfolding same_bytes
-same_ends a b i ha hb = rw (drop_end a i, drop_end b i)
-
--- a pass without an early exit: a turn, and the end
-pub same_turn : (a b : List ℕ) (i : ℕ) (t : Bool) → i < length a → i < length b
-    → cond (cond (eqb (get_or a i 0) (get_or b i 0)) t false) (same_bytes (drop (i + 1) a) (drop (i + 1) b)) false ≡ cond t (same_bytes (drop i a) (drop i b)) false
-unfolding same_bytes
-same_turn a b i t ha hb = rw (drop_step a i 0 ha, drop_step b i 0 hb) (by (eqb (get_or a i 0) (get_or b i 0)) t)
+order_cmp [] [] = refl
+order_cmp [] (y ∷ b) = refl
+order_cmp (x ∷ a) [] = refl
+order_cmp (x ∷ a) (y ∷ b) = by (ltb x y) (ltb y x) (eqb x y) refl refl refl (order_cmp a b)
   where
-    by : (u t : Bool) → cond (cond u t false) (same_bytes (drop (i + 1) a) (drop (i + 1) b)) false ≡ cond t (cond u (same_bytes (drop (i + 1) a) (drop (i + 1) b)) false) false
-    by true t = refl
-    by false true = refl
-    by false false = refl
+    equal : x ≡ y → eqb x y ≡ false → ⊥
+    equal h r = true_is_not_false (sym (eq-eqb x y h) ∙ r)
 
-pub same_stop : (a b : List ℕ) (i : ℕ) (t : Bool) → length a ≤ i → length b ≤ i → cond t (same_bytes (drop i a) (drop i b)) false ≡ t
-same_stop a b i true ha hb = same_ends a b i ha hb
-same_stop a b i false ha hb = refl
+    by : (t u v : Bool) → ltb x y ≡ t → ltb y x ≡ u → eqb x y ≡ v → slice_cmp nat_cmp a b ≡ order a b
+        → ordering_then (cond t Less (cond v Equal Greater)) (slice_cmp nat_cmp a b) ≡ cond t Less (cond u Greater (order a b))
+    by true u v p q r h = refl
+    by false true true p q r h = absurd (let k = ltb-true y x q in let l = eqb-true x y r in omega arith)
+    by false true false p q r h = refl
+    by false false true p q r h = h
+    by false false false p q r h = absurd (equal (heads x y p q) r)
+
+-- and sameness is the library's
+pub same_pointwise : (a b : List ℕ) → pointwise eqb a b ≡ same_bytes a b
+unfolding same_bytes
+same_pointwise [] [] = refl
+same_pointwise [] (y ∷ b) = refl
+same_pointwise (x ∷ a) [] = refl
+same_pointwise (x ∷ a) (y ∷ b) = by (eqb x y) (same_pointwise a b)
+  where
+    by : (t : Bool) → pointwise eqb a b ≡ same_bytes a b → (t && pointwise eqb a b) ≡ cond t (same_bytes a b) false
+    by true e = e
+    by false e = refl
 
 -- sameness is equality
 pub same_is : (a b : List ℕ) → same_bytes a b ≡ true → a ≡ b
@@ -131,10 +110,6 @@ unfolding order
 order_self [] = refl
 order_self (x ∷ a) = else_is _ _ _ (le-ltb x x (le_refl x)) ∙ else_is _ _ _ (le-ltb x x (le_refl x)) ∙ order_self a
 
--- two heads that do not decide are equal
-heads : (x y : ℕ) → ltb x y ≡ false → ltb y x ≡ false → x ≡ y
-heads x y p q = let h = ltb-false x y p in let k = ltb-false y x q in omega arith
-
 pub order_is : (a b : List ℕ) → order a b ≡ Equal → a ≡ b
 unfolding order
 order_is [] [] e = refl
@@ -148,7 +123,7 @@ order_is (x ∷ a) (y ∷ b) e = by (ltb x y) (ltb y x) refl refl (order_is a b)
     by false false p q h r = cc (heads x y p q, h r)
 
 -- the order looked at from the other side
-abbrev pub turned : Order → Order
+abbrev pub turned : Ordering → Ordering
 turned Less = Greater
 turned Equal = Equal
 turned Greater = Less

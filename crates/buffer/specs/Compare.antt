@@ -1,10 +1,10 @@
 -- Byte strings compared (STANDARD 1.3, 6.13).
 use Rattle.std.specs.Prelude.{ℕ, Bool, true, false, cond, List, [], ◌∷◌, ltb, eqb}
-use Rattle.buffer.specs.declared.order.Order.{Order}
-use Rattle.buffer.specs.declared.order.Order.TheVariants.{Less, Equal, Greater}
+use Rattle.std.specs.declared.cmp.Ordering.{Ordering}
+use Rattle.std.specs.declared.cmp.Ordering.TheVariants.{Less, Equal, Greater}
 
 -- the order by bytes: the first byte that differs decides, and a prefix comes first (1.3, 6.13)
-unfoldable pub order : List ℕ → List ℕ → Order
+unfoldable pub order : List ℕ → List ℕ → Ordering
 order [] [] = Equal
 order [] (y ∷ b) = Less
 order (x ∷ a) [] = Greater

@@ -1,5 +1,5 @@
 -- What the parts of a slice are that are there for all places, and bytes that are all zero (STANDARD 3.11).
-use Rattle.std.specs.Prelude.{ℕ, ◌<◌, ◌≡◌, List, get_or, replicate}
+use Rattle.std.specs.Prelude.{ℕ, ◌-◌, ◌<◌, ◌≡◌, List, get_or, replicate, take, drop}
 
 -- a byte that was read, 0 past the end
 pub record ByteAt (s : List ℕ) (at r : ℕ) : Type 0 where
@@ -9,3 +9,7 @@ pub record ByteAt (s : List ℕ) (at r : ℕ) : Type 0 where
 -- n bytes of zero (3.11)
 unfoldable pub zeros : ℕ → List ℕ
 zeros n = replicate n 0
+
+-- the part between two places
+abbrev pub between : List ℕ → ℕ → ℕ → List ℕ
+between s start end = take (end - start) (drop start s)

@@ -8,9 +8,9 @@ mod order;
 mod show;
 mod write;
 
-pub use lend::{byte_at, octet_at, part, rest};
-pub use maximum::{greater, greatest_byte};
+pub use lend::{Span, byte_at, octet_at, part, rest};
+pub use maximum::greatest_byte;
 pub use measuring::{put, put_byte};
-pub use order::{Order, compare, same, same_throughout};
-pub use show::Shown;
+pub use order::{compare, same, same_throughout};
+pub use show::{TooShort, show_by};
 pub use write::{copy, push, push_byte};

@@ -1,25 +1,12 @@
 // One pass over a part, without an early exit, so that the backend can take many bytes at a time.
-ghost use Rattle.std.specs.Prelude.{◌≡◌, max};
+ghost use Rattle.std.specs.Prelude.{◌≡◌};
 ghost use Rattle.buffer.specs.Greatest.{greatest};
-
-// The greater of two bytes.
-pub fn greater(a: u8, b: u8) -> u8
-    ensures { result ≡ max a b }
-{
-    if a < b { b } else { a }
-}
 
 // One byte after the other, without an early exit: the backend takes 32 at a time.
 fn pass(s: &[u8]) -> u8
     ensures { result ≡ greatest s.now }
 {
-    let mut top = 0;
-    let mut i = 0;
-    while i < s.len() {
-        top = greater(top, s[i]);
-        i += 1;
-    }
-    top
+    s.iter().copied().fold(0, u8::max)
 }
 
 // The greatest byte of s, 0 if there is none: below 80 it says that s is ASCII, 0 that s is all zeros.
@@ -33,5 +20,5 @@ pub fn greatest_byte(s: &[u8]) -> u8
     }
     let whole = n / 32 * 32;
     let last = n - 32;
-    greater(pass(&s[..whole]), pass(&s[last..]))
+    pass(&s[..whole]).max(pass(&s[last..]))
 }

@@ -2,7 +2,7 @@
 ghost use Rattle.std.specs.Prelude.{[], ◌∷◌};
 ghost use Rattle.buffer.specs.Inks.{Inked, Countable};
 
-use super::write::{push, push_byte};
+use super::write::push;
 
 // Writes src at the place `at` of out if it fits there, and returns the place after it.
 pub fn put(src: &[u8], out: &mut [u8], at: usize) -> usize
@@ -21,9 +21,5 @@ pub fn put_byte(byte: u8, out: &mut [u8], at: usize) -> usize
     requires { Countable (byte ∷ []) at }
     ensures { Inked (byte ∷ []) out.old at result out.new }
 {
-    let end = at + 1;
-    if at < out.len() {
-        push_byte(byte, out, at);
-    }
-    end
+    put(&[byte], out, at)
 }

@@ -7,12 +7,9 @@ pub fn copy(src: &[u8], out: &mut [u8]) -> usize
     requires { length src.now ≤ length out.old }
     ensures { Written src.now out.old result out.new }
 {
-    let mut i = 0;
-    while i < src.len() {
-        out[i] = src[i];
-        i += 1;
-    }
-    i
+    let n = src.len();
+    out[..n].copy_from_slice(src);
+    n
 }
 
 // Writes src at the place `at` of out and returns the place after it.

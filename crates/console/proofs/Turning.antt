@@ -1,6 +1,6 @@
 -- What follows from a step: the console stops, goes on with what is left of the piece, or reads the next.
 use Prim.Native.Nat.{ℕ, ◌+◌, ◌-◌, ◌≤◌}
-use mathlib.Core.Path.{◌≡◌, refl, sym, ap, ◌∙◌}
+use mathlib.Core.Path.{◌≡◌, sym, ap, ◌∙◌}
 use mathlib.Core.Bool.{false}
 use mathlib.Core.List.{List, []}
 use mathlib.Core.Logic.{inl, inr}
@@ -75,7 +75,3 @@ module _ (c : Console) (input line image slots out : List ℕ) (k : Ready c inpu
         after = ap (λ (x : Stream). stand_of x line' image' slots') p.stream ∙ after;
         kept = λ o. inr (sym left ∙ none, ap busy_with p.stream ∙ idle);
       }
-
--- at the input's end, and after a read that failed
-pub read_stops : (s : Stream) (input out : List ℕ) (q : Console) (input' out' : List ℕ) → q ≡ stopped s → length input' ≡ length input → length out' ≡ length out → ReadOn s input out q input' out'
-read_stops s input out q input' out' e i o = rw e (record { stream = refl; order = omega arith; within = omega arith; inputs = i; outs = o })

@@ -1,5 +1,6 @@
 -- Which words are taken: none, `keys=rust` or `keys=ecma-48`, and no other; and that the count and what is read of the first word are enough to tell.
 use Prim.Native.Nat.{ℕ, ◌<◌, ◌≤◌}
+use Rattle.std.proofs.Common.{Option, Some, None}
 use mathlib.Core.Path.{◌≡◌, refl, sym, ap, ◌∙◌, subst}
 use mathlib.Core.Bool.{Bool, true, false, cond}
 use mathlib.Core.List.{List, [], ◌∷◌}
@@ -14,8 +15,6 @@ use Rattle.buffer.proofs.Ordering.{same_is}
 use Rattle.keys.specs.declared.standing.Profile.{Profile}
 use Rattle.keys.specs.declared.standing.Profile.TheVariants.{Rust, Ecma48}
 use Rattle.console.specs.Settings.{keys_rust, keys_ecma48, setting_of, chosen, choice_of, word_room, read_of}
-use Rattle.console.specs.declared.settings.Chosen.{Chosen}
-use Rattle.console.specs.declared.settings.Chosen.TheVariants.{Keys, Refused}
 
 -- the words that are taken, each with its profile
 pub data Taken : List (List ℕ) → Profile → Type 0 where
@@ -24,45 +23,45 @@ pub data Taken : List (List ℕ) → Profile → Type 0 where
   ecma : Taken (keys_ecma48 ∷ []) Ecma48
 
 -- these are
-rust_set : setting_of keys_rust ≡ Keys Rust
+rust_set : setting_of keys_rust ≡ Some Rust
 unfolding setting_of same_bytes ascii
 rust_set = refl
 
-ecma_set : setting_of keys_ecma48 ≡ Keys Ecma48
+ecma_set : setting_of keys_ecma48 ≡ Some Ecma48
 unfolding setting_of same_bytes ascii
 ecma_set = refl
 
-pub taken_chosen : (words : List (List ℕ)) (profile : Profile) → Taken words profile → chosen words ≡ Keys profile
+pub taken_chosen : (words : List (List ℕ)) (profile : Profile) → Taken words profile → chosen words ≡ Some profile
 taken_chosen _ _ unsaid = refl
 taken_chosen _ _ rust = rust_set
 taken_chosen _ _ ecma = ecma_set
 
 -- and no other
-refused_not : (profile : Profile) → Refused ≡ Keys profile → ⊥
+refused_not : (profile : Profile) → None ≡ Some profile → ⊥
 refused_not profile e = let z : ◌≡◌ {A = ℕ} 0 1 = cc in omega arith
 
-same_profile : (p q : Profile) → Keys p ≡ Keys q → p ≡ q
+same_profile : (p q : Profile) → Some p ≡ Some q → p ≡ q
 same_profile p q e = cc
 
-word_taken : (word : List ℕ) (profile : Profile) → setting_of word ≡ Keys profile → Taken (word ∷ []) profile
+word_taken : (word : List ℕ) (profile : Profile) → setting_of word ≡ Some profile → Taken (word ∷ []) profile
 unfolding setting_of
 word_taken word profile = by (same_bytes word keys_rust) (same_bytes word keys_ecma48) refl refl
   where
     named : (x : List ℕ) (p : Profile) → Taken (x ∷ []) p → word ≡ x → p ≡ profile → Taken (word ∷ []) profile
     named x p t e q = rw e (subst (λ (y : Profile). Taken (x ∷ []) y) q t)
 
-    by : (a b : Bool) → same_bytes word keys_rust ≡ a → same_bytes word keys_ecma48 ≡ b → cond a (Keys Rust) (cond b (Keys Ecma48) Refused) ≡ Keys profile → Taken (word ∷ []) profile
+    by : (a b : Bool) → same_bytes word keys_rust ≡ a → same_bytes word keys_ecma48 ≡ b → cond a (Some Rust) (cond b (Some Ecma48) None) ≡ Some profile → Taken (word ∷ []) profile
     by true b e f q = named keys_rust Rust rust (same_is _ _ e) (same_profile Rust profile q)
     by false true e f q = named keys_ecma48 Ecma48 ecma (same_is _ _ f) (same_profile Ecma48 profile q)
     by false false e f q = absurd (refused_not profile q)
 
-pub chosen_taken : (words : List (List ℕ)) (profile : Profile) → chosen words ≡ Keys profile → Taken words profile
+pub chosen_taken : (words : List (List ℕ)) (profile : Profile) → chosen words ≡ Some profile → Taken words profile
 chosen_taken [] profile e = subst (Taken []) (same_profile Rust profile e) unsaid
 chosen_taken (word ∷ []) profile e = word_taken word profile e
 chosen_taken (word ∷ another ∷ words) profile e = absurd (refused_not profile e)
 
 -- the empty word is refused, and so is one that is longer than its room
-pub none_set : setting_of [] ≡ Refused
+pub none_set : setting_of [] ≡ None
 unfolding setting_of same_bytes ascii
 none_set = refl
 
@@ -81,7 +80,7 @@ ecma_size : length keys_ecma48 ≡ 12
 unfolding ascii
 ecma_size = refl
 
-long_set : (word : List ℕ) → word_room < length word → setting_of word ≡ Refused
+long_set : (word : List ℕ) → word_room < length word → setting_of word ≡ None
 unfolding setting_of
 long_set word h =
     let r = rust_size in
@@ -107,28 +106,28 @@ choice_told name (word ∷ another ∷ words) =
 
 -- what the code's tests tell of a word
 module _ (word : List ℕ) where
-  pub set_rust : same_bytes word keys_rust ≡ true → Keys Rust ≡ setting_of word
+  pub set_rust : same_bytes word keys_rust ≡ true → Some Rust ≡ setting_of word
   unfolding setting_of
   set_rust e = sym (then_is _ _ _ e)
 
-  pub set_ecma : same_bytes word keys_rust ≡ false → same_bytes word keys_ecma48 ≡ true → Keys Ecma48 ≡ setting_of word
+  pub set_ecma : same_bytes word keys_rust ≡ false → same_bytes word keys_ecma48 ≡ true → Some Ecma48 ≡ setting_of word
   unfolding setting_of
   set_ecma n e = sym (else_is _ _ _ n ∙ then_is _ _ _ e)
 
-  pub set_none : same_bytes word keys_rust ≡ false → same_bytes word keys_ecma48 ≡ false → Refused ≡ setting_of word
+  pub set_none : same_bytes word keys_rust ≡ false → same_bytes word keys_ecma48 ≡ false → None ≡ setting_of word
   unfolding setting_of
   set_none n m = sym (else_is _ _ _ n ∙ else_is _ _ _ m)
 
   -- and of a count
   module _ (count : ℕ) where
-    pub choice_unsaid : count ≤ 1 → Keys Rust ≡ choice_of count word
+    pub choice_unsaid : count ≤ 1 → Some Rust ≡ choice_of count word
     unfolding choice_of
     choice_unsaid h = sym (then_is _ _ _ (le-leb count 1 h))
 
-    pub choice_many : 2 < count → Refused ≡ choice_of count word
+    pub choice_many : 2 < count → None ≡ choice_of count word
     unfolding choice_of
     choice_many h = sym (else_is _ _ _ (lt-leb count 1 (omega arith)) ∙ then_is _ _ _ (lt-ltb 2 count h))
 
-    pub choice_one : 1 < count → count ≤ 2 → (r : Chosen) → r ≡ setting_of word → r ≡ choice_of count word
+    pub choice_one : 1 < count → count ≤ 2 → (r : Option Profile) → r ≡ setting_of word → r ≡ choice_of count word
     unfolding choice_of
     choice_one h l r e = e ∙ sym (else_is _ _ _ (lt-leb count 1 h) ∙ else_is _ _ _ (le-ltb 2 count l))

@@ -4,15 +4,7 @@ use Rattle.keys.specs.declared.standing.Profile.{Profile}
 use Rattle.stream.specs.Moves.{Went, step_by}
 use Rattle.stream.specs.Held.{starting as fresh, busy_with, stand_of, Sound}
 use Rattle.stream.specs.declared.standing.Stream.{Stream}
-use Rattle.console.specs.declared.channels.Got.{Got}
-use Rattle.console.specs.declared.channels.Got.TheVariants.{Bytes, End, Failed}
 use Rattle.console.specs.declared.turns.Console.{Console}
-
--- bytes that were read lie within their buffer
-abbrev pub Within : Got → ℕ → Type 0
-Within (Bytes n) room = n ≤ room
-Within End room = Unit {0}
-Within Failed room = Unit {0}
 
 -- what is left of the piece that was read
 abbrev pub piece_of : Console → List ℕ → List ℕ

@@ -1,29 +1,8 @@
 // Standard input and output: one read, a whole write. A call that was only interrupted is made again; a failure is told on standard error.
-ghost use Rattle.std.specs.Prelude.{◌≤◌, ◌≡◌, length, IfOk};
-ghost use Rattle.console.specs.Turns.{Within};
+ghost use Rattle.std.specs.Prelude.{◌≤◌, ◌≡◌, length, IfOk, IfSome};
 
-use buffer::rest;
 use std::io;
 use std::io::{Cursor, ErrorKind, Print, Read, Write};
-
-// What one read brought.
-#[derive(Clone, Copy)]
-pub enum Got {
-    // So many bytes, at the front of the buffer.
-    Bytes(usize),
-    // The input's end.
-    End,
-    // The read failed.
-    Failed,
-}
-
-// Whether a call was only interrupted.
-fn is_interrupted(error: io::Error) -> bool {
-    match error.kind() {
-        ErrorKind::Interrupted => true,
-        _ => false,
-    }
-}
 
 // Reads once, and returns how many bytes were read, 0 at the input's end; a read that was only interrupted is made again.
 fn read_once(rt: &HostRuntime, input: &mut [u8]) -> io::Result<usize>
@@ -31,44 +10,37 @@ fn read_once(rt: &HostRuntime, input: &mut [u8]) -> io::Result<usize>
     ensures kept { length input.new ≡ length input.old }
 {
     let mut stdin = rt.stdin();
-    let mut tries = u64::MAX;
-    while tries > 0 {
+    for _ in 0..u64::MAX {
         match stdin.read(input) {
             Ok(n) => return Ok(n),
             Err(error) => {
-                if !is_interrupted(error) {
+                if error.kind() != ErrorKind::Interrupted {
                     return Err(error);
                 }
             }
         }
-        tries -= 1;
     }
     Err(io::Error::from(ErrorKind::Interrupted))
 }
 
-// Writes all bytes, or as many as can be written; a write that was only interrupted is made again.
+// Writes all bytes, or as many as can be written; a write that was only interrupted is made again. The library's `write_all` would tell a write of no
+// byte by another text.
 fn write_whole(rt: &HostRuntime, bytes: &[u8]) -> io::Result<()> {
     let mut stdout = rt.stdout();
-    let mut done = 0;
-    let mut tries = u64::MAX;
-    while tries > 0 {
-        if bytes.len() <= done {
+    let mut left = bytes;
+    for _ in 0..u64::MAX {
+        if left.is_empty() {
             return Ok(());
         }
-        match stdout.write(rest(bytes, done)) {
-            Ok(n) => {
-                if n == 0 {
-                    return Err(io::Error::from(ErrorKind::WriteZero));
-                }
-                done += n;
-            }
+        match stdout.write(left) {
+            Ok(0) => return Err(io::Error::from(ErrorKind::WriteZero)),
+            Ok(n) => left = &left[n..],
             Err(error) => {
-                if !is_interrupted(error) {
+                if error.kind() != ErrorKind::Interrupted {
                     return Err(error);
                 }
             }
         }
-        tries -= 1;
     }
     Err(io::Error::from(ErrorKind::Interrupted))
 }
@@ -77,14 +49,10 @@ fn write_whole(rt: &HostRuntime, bytes: &[u8]) -> io::Result<()> {
 fn text_end(text: &[u8]) -> usize
     ensures { result ≤ length text.now }
 {
-    let mut at = text.len();
-    while at > 0 {
-        at -= 1;
-        if text[at] == b'(' {
-            return at.saturating_sub(1);
-        }
+    match text.iter().rposition(|byte| *byte == b'(') {
+        Some(at) => at.saturating_sub(1),
+        None => text.len(),
     }
-    text.len()
 }
 
 // Room for an error's text and its number.
@@ -104,31 +72,25 @@ fn fail(rt: &HostRuntime, what: &[u8], error: io::Error) {
     let _ = Print::write_all(&stderr, b"\n");
 }
 
-// Reads the next piece. A read that fails is told on standard error.
-pub fn read_piece(rt: &HostRuntime, input: &mut [u8]) -> Got
-    ensures { Within result (length input.old) × (length input.new ≡ length input.old) }
+// Reads the next piece, and returns how many bytes were read, 0 at the input's end. A read that fails is told on standard error.
+pub fn read_piece(rt: &HostRuntime, input: &mut [u8]) -> Option<usize>
+    ensures within { IfSome result (λ n. n ≤ length input.old) }
+    ensures kept { length input.new ≡ length input.old }
 {
     match read_once(rt, input) {
-        Ok(n) => {
-            if n == 0 {
-                return Got::End;
-            }
-            Got::Bytes(n)
-        }
+        Ok(n) => Some(n),
         Err(error) => {
             fail(rt, b"console: standard input", error);
-            Got::Failed
+            None
         }
     }
 }
 
 // Writes what was printed. A write that fails is told on standard error.
 pub fn write_out(rt: &HostRuntime, bytes: &[u8]) -> bool {
-    match write_whole(rt, bytes) {
-        Ok(()) => true,
-        Err(error) => {
-            fail(rt, b"console: standard output", error);
-            false
-        }
+    if let Err(error) = write_whole(rt, bytes) {
+        fail(rt, b"console: standard output", error);
+        return false;
     }
+    true
 }

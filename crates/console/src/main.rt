@@ -6,7 +6,7 @@ mod settings;
 mod turns;
 
 fn main(rt: HostRuntime) {
-    if let settings::Chosen::Keys(profile) = settings::choose(&rt) {
+    if let Some(profile) = settings::choose(&rt) {
         turns::run(&rt, profile);
     }
 }

@@ -6,13 +6,14 @@ ghost use Rattle.session.specs.Sizes.{last_line};
 ghost use Rattle.stream.specs.Bytes.{line_room};
 ghost use Rattle.console.specs.Turns.{piece_room, out_room, starting, stopped, Ready, ReadOn, Turning};
 
-use crate::channels::{Got, read_piece, write_out};
+use crate::channels::{read_piece, write_out};
 use buffer::{part, rest};
 use keys::Profile;
 use session::KEY_ROOM;
 use stream::{Stream, blank_image, blank_line, blank_slots, finish, step};
 
-// The stream, where what is left of the piece that was read lies in its buffer, and whether the console is at its end.
+// The stream, where what is left of the piece that was read lies in its buffer, and whether the console is at its end: the contract of a turn tells the stream
+// then too, so it is no Option.
 #[derive(Clone, Copy)]
 pub struct Console {
     pub stream: Stream,
@@ -53,18 +54,18 @@ fn read_on(rt: &HostRuntime, stream: Stream, input: &mut [u8], out: &mut [u8]) -
     ensures { ReadOn stream input.old out.old result input.new out.new }
 {
     match read_piece(rt, input) {
-        Got::Bytes(n) => Console {
+        Some(0) => {
+            let n = finish(stream, out);
+            write_out(rt, part(out, 0, n));
+            Console::stopped(stream)
+        }
+        Some(n) => Console {
             stream,
             at: 0,
             end: n,
             over: false,
         },
-        Got::End => {
-            let n = finish(stream, out);
-            write_out(rt, part(out, 0, n));
-            Console::stopped(stream)
-        }
-        Got::Failed => Console::stopped(stream),
+        None => Console::stopped(stream),
     }
 }
 
@@ -87,21 +88,10 @@ fn turn(
     let made = step(console.stream, piece, line, image, slots, out);
     let stream = made.stream;
     let next = at + made.took;
-    if !write_out(rt, part(out, 0, made.printed)) {
+    if !write_out(rt, part(out, 0, made.printed)) || stream.over {
         return Console::stopped(stream);
     }
-    if stream.over {
-        return Console::stopped(stream);
-    }
-    if next < end {
-        return Console {
-            stream,
-            at: next,
-            end,
-            over: false,
-        };
-    }
-    if stream.is_busy() {
+    if next < end || stream.is_busy() {
         return Console {
             stream,
             at: next,
@@ -112,7 +102,7 @@ fn turn(
     read_on(rt, stream, input, out)
 }
 
-// Turns up to the end. A proved loop has to end and an input need not, so turns are counted down from a number that no run uses up.
+// Turns up to the end. A proved loop has to end and an input need not, so turns are counted up to a number that no run uses up.
 fn turns(
     rt: &HostRuntime,
     profile: Profile,
@@ -125,13 +115,11 @@ fn turns(
     requires { (length input.old ≡ piece_room) × (length line.old ≡ line_room) × (length image.old ≡ image_limit) × (slots.old ≡ slots_of no_entries) × (length out.old ≡ out_room) }
 {
     let mut console = Console::start(profile);
-    let mut left = u64::MAX;
-    while left > 0 {
+    for _ in 0..u64::MAX {
         if console.over {
             return;
         }
         console = turn(rt, console, input, line, image, slots, out);
-        left -= 1;
     }
 }
 

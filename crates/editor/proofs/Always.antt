@@ -1,5 +1,6 @@
 -- What holds of every key: it has one answer only, it keeps the profile and leads to the mode that its byte means, an empty line touches nothing, a full line
 -- drops a byte.
+use Rattle.std.specs.Prelude.{Result}
 use Prim.Native.Nat.{ℕ, ◌≤◌}
 use mathlib.Core.Path.{◌≡◌, refl, sym, ap, ◌∙◌}
 use mathlib.Core.Bool.{Bool, true, false, cond}
@@ -17,6 +18,7 @@ use Rattle.keys.specs.declared.standing.Mode.TheVariants.{Typing}
 use Rattle.editor.specs.declared.line.Editor.{Editor}
 use Rattle.editor.specs.declared.drawing.KeyAnswer.{KeyAnswer}
 use Rattle.editor.specs.declared.drawing.Pressed.{Pressed}
+use Rattle.editor.specs.declared.drawing.KeyRefusal.{KeyRefusal}
 use Rattle.editor.specs.Line.{limit}
 use Rattle.keys.specs.declared.standing.Action.{Action}
 use Rattle.keys.specs.declared.standing.Action.TheVariants.{Nothing, Enter, Erase, Insert, Up, Down, Right, Left, Home, End, Delete}
@@ -35,7 +37,7 @@ module _ (e : Editor) (h : History) (slots prompt : List ℕ) (byte : ℕ) (line
 
   -- what stands either for the state before or for the one after
   chosen : {A : Type 0} (x y : A) → cond (refused k.answer) x y ≡ cond (refused k'.answer) x y
-  chosen x y = ap (λ (u : Pressed). cond (refused u) x y) same_answer
+  chosen x y = ap (λ (u : Result Pressed KeyRefusal). cond (refused u) x y) same_answer
 
   pub one_answer : (k.answer ≡ k'.answer) × (k.editor ≡ k'.editor) × (k.history ≡ k'.history) × (a ≡ a') × (b ≡ b') × (c ≡ c')
   one_answer = (

@@ -1,4 +1,5 @@
 -- Where a history begins: a key changes the bytes of one slot at most and drops no entry where there is room; and in two good states that differ in nothing else it answers, shows and submits the same, and leaves two such states.
+use Rattle.std.specs.Prelude.{Ok, Err, Result}
 use Prim.Native.Nat.{ℕ, ◌<◌}
 use mathlib.Core.Path.{◌≡◌, refl, sym, ap, ◌∙◌}
 use mathlib.Core.Bool.{Bool, true, false, cond}
@@ -23,7 +24,9 @@ use Rattle.keys.specs.Keys.{meaning}
 use Rattle.editor.specs.declared.line.Editor.{Editor}
 use Rattle.editor.specs.declared.drawing.KeyAnswer.{KeyAnswer}
 use Rattle.editor.specs.declared.drawing.Pressed.{Pressed}
-use Rattle.editor.specs.declared.drawing.Pressed.TheVariants.{Shown, Entered, BadPrompt, NoRoom}
+use Rattle.editor.specs.declared.drawing.KeyRefusal.{KeyRefusal}
+use Rattle.editor.specs.declared.drawing.Pressed.TheVariants.{Shown, Entered}
+use Rattle.editor.specs.declared.drawing.KeyRefusal.TheVariants.{BadPrompt, NoRoom}
 use Rattle.editor.specs.Line.{limit, content}
 use Rattle.editor.specs.Turns.{State, SameBut, Kind, shows, enters, drops, Turn, in_mode, redrawn, after_enter, entering, enter, erase, insert, up, on_place, down, right, left, go_to, delete, turn_by, turn_of, after_keys, shown_by}
 use Rattle.editor.specs.Answer.{state_of, slots_of, good_state, good_prompt, taken, turn_answer, key_answer, refused, Pressing}
@@ -212,8 +215,8 @@ module _ (e : Editor) (h : History) (slots prompt : List ℕ) (byte : ℕ) (line
 
 -- and in two good states that differ in where their history begins and in nothing else
 taken_alike : (t u : Turn) (c : Kind) → u.screen ≡ t.screen → u.submitted ≡ t.submitted → taken u c ≡ taken t c
-taken_alike t u shows q r = ap (λ (x : List ℕ). Shown (length x)) q
-taken_alike t u enters q r = ap (λ (x : List ℕ). Entered (length x)) r
+taken_alike t u shows q r = ap (λ (x : List ℕ). Ok (Shown (length x))) q
+taken_alike t u enters q r = ap (λ (x : List ℕ). Ok (Entered (length x))) r
 taken_alike t u drops q r = refl
 
 answer_alike : (prompt : List ℕ) (t u : Turn) (line screen : ℕ) → u.kind ≡ t.kind → u.screen ≡ t.screen → u.submitted ≡ t.submitted
@@ -221,9 +224,9 @@ answer_alike : (prompt : List ℕ) (t u : Turn) (line screen : ℕ) → u.kind �
 unfolding key_answer turn_answer
 answer_alike prompt t u line screen p q r = by q (ap (taken u) p ∙ taken_alike t u t.kind q r)
   where
-    by : {a b : List ℕ} {x y : Pressed} → a ≡ b → x ≡ y
-        → cond (good_prompt prompt) (cond (ltb line limit) (NoRoom limit) (cond (ltb screen (length a)) (NoRoom (length a)) x)) (BadPrompt (length prompt))
-        ≡ cond (good_prompt prompt) (cond (ltb line limit) (NoRoom limit) (cond (ltb screen (length b)) (NoRoom (length b)) y)) (BadPrompt (length prompt))
+    by : {a b : List ℕ} {x y : Result Pressed KeyRefusal} → a ≡ b → x ≡ y
+        → cond (good_prompt prompt) (cond (ltb line limit) (Err (NoRoom limit)) (cond (ltb screen (length a)) (Err (NoRoom (length a))) x)) (Err (BadPrompt (length prompt)))
+        ≡ cond (good_prompt prompt) (cond (ltb line limit) (Err (NoRoom limit)) (cond (ltb screen (length b)) (Err (NoRoom (length b))) y)) (Err (BadPrompt (length prompt)))
     by v w = cc
 
 module _ (e : Editor) (h : History) (slots : List ℕ) (e₂ : Editor) (h₂ : History) (slots₂ : List ℕ)
@@ -252,7 +255,7 @@ module _ (e : Editor) (h : History) (slots : List ℕ) (e₂ : Editor) (h₂ : H
   kept : (x y buffer : List ℕ) → x ≡ y → cond (refused k₂.answer) buffer (over x buffer) ≡ cond (refused k.answer) buffer (over y buffer)
   kept x y buffer z = both same_answer z
     where
-      both : {c d : Pressed} → c ≡ d → x ≡ y → cond (refused c) buffer (over x buffer) ≡ cond (refused d) buffer (over y buffer)
+      both : {c d : Result Pressed KeyRefusal} → c ≡ d → x ≡ y → cond (refused c) buffer (over x buffer) ≡ cond (refused d) buffer (over y buffer)
       both v w = cc
 
   pub same_given : line₂' ≡ line'

@@ -1,4 +1,5 @@
 -- What holds of keys as they are called: so many of a profile bring typing back, a full line drops a byte, the values count the bytes shown and submitted, and what is held after a key is the turn's state.
+use Rattle.std.specs.Prelude.{Ok, Err, Result}
 use Prim.Native.Nat.{ℕ, zero, suc, ◌-◌, ◌≤◌}
 use mathlib.Core.Path.{◌≡◌, refl, sym, ap, ◌∙◌}
 use mathlib.Core.Bool.{Bool, true, false, cond}
@@ -19,7 +20,9 @@ use Rattle.keys.specs.declared.standing.Mode.TheVariants.{Typing}
 use Rattle.editor.specs.declared.line.Editor.{Editor}
 use Rattle.editor.specs.declared.drawing.KeyAnswer.{KeyAnswer}
 use Rattle.editor.specs.declared.drawing.Pressed.{Pressed}
-use Rattle.editor.specs.declared.drawing.Pressed.TheVariants.{Dropped, BadState, BadPrompt, NoRoom}
+use Rattle.editor.specs.declared.drawing.KeyRefusal.{KeyRefusal}
+use Rattle.editor.specs.declared.drawing.Pressed.TheVariants.{Dropped}
+use Rattle.editor.specs.declared.drawing.KeyRefusal.TheVariants.{BadState, BadPrompt, NoRoom}
 use Rattle.editor.specs.Line.{limit, holding}
 use Rattle.keys.specs.declared.standing.Action.{Action}
 use Rattle.keys.specs.declared.standing.Action.TheVariants.{Nothing, Enter, Erase, Insert, Up, Down, Right, Left, Home, End, Delete}
@@ -54,8 +57,8 @@ taken_if : (is : Bool) (prompt : List ℕ) (t : Turn) (line screen : ℕ) → re
 unfolding key_answer turn_answer
 taken_if is prompt t line screen = by is (good_prompt prompt) (ltb line limit) (ltb screen (length t.screen))
   where
-    answer : Bool → Bool → Bool → Bool → Pressed
-    answer a b c d = cond a (cond b (cond c (NoRoom limit) (cond d (NoRoom (length t.screen)) (taken t t.kind))) (BadPrompt (length prompt))) BadState
+    answer : Bool → Bool → Bool → Bool → Result Pressed KeyRefusal
+    answer a b c d = cond a (cond b (cond c (Err (NoRoom limit)) (cond d (Err (NoRoom (length t.screen))) (taken t t.kind))) (Err (BadPrompt (length prompt)))) (Err BadState)
 
     by : (a b c d : Bool) → refused (answer a b c d) ≡ false → answer a b c d ≡ taken t t.kind
     by true true false false q = refl
@@ -117,7 +120,7 @@ module _ (e : Editor) (h : History) (slots prompt : List ℕ) (byte : ℕ) (line
         let n = (length_of_lem e (good_line_lem e (good_parts e h slots g).0)).1 in
         full_drops prompt (state_of e h slots) byte typing (rw n full) shown not-del
 
-    pub dropped : (k.answer ≡ Dropped) × (k.editor ≡ e) × (k.history ≡ h) × (slots' ≡ slots) × (line' ≡ line) × (screen' ≡ screen)
+    pub dropped : (k.answer ≡ Ok Dropped) × (k.editor ≡ e) × (k.history ≡ h) × (slots' ≡ slots) × (line' ≡ line) × (screen' ≡ screen)
     unfolding turn key_answer turn_answer
     dropped =
         let good = good_parts e h slots g in (

@@ -1,4 +1,5 @@
 -- What the public calls of history and editor hand out by value, from the fresh editor and a fresh history on, is a good state.
+use Rattle.std.specs.Prelude.{Result, ⊤, Some, Option}
 use Prim.Native.Nat.{ℕ, ◌≤◌}
 use mathlib.Core.Path.{◌≡◌, sym, ap, ◌∙◌}
 use mathlib.Core.Bool.{true}
@@ -13,17 +14,14 @@ use Rattle.history.specs.Steps.{back, onward}
 use Rattle.history.specs.Saved.{restored as restored_history}
 use Rattle.history.specs.declared.stepping.History.{History}
 use Rattle.history.specs.declared.stepping.Step.{Step}
-use Rattle.history.specs.declared.adding.Added.{Added}
-use Rattle.history.specs.declared.forgetting.Forgot.{Forgot}
-use Rattle.history.specs.declared.saving.Restored.{Restored as RestoredHistory}
-use Rattle.history.specs.declared.saving.Restored.TheVariants.{Good}
+use Rattle.history.specs.declared.adding.AddRefusal.{AddRefusal}
+use Rattle.history.specs.declared.forgetting.ForgetRefusal.{ForgetRefusal}
 use Rattle.history.proofs.Journals.{back_good, onward_good}
 use Rattle.history.proofs.Lasting.{emptied_good, offered_good, added_good, forgets_good}
 use Rattle.history.proofs.Saved.{restored_good as restored_history_good}
 use Rattle.keys.specs.declared.standing.Profile.{Profile}
 use Rattle.editor.specs.declared.line.Editor.{Editor}
 use Rattle.editor.specs.declared.drawing.KeyAnswer.{KeyAnswer}
-use Rattle.editor.specs.declared.saving.Restored.{Restored}
 use Rattle.editor.specs.Line.{limit, holding, fresh_editor, good_line, good_editor}
 use Rattle.editor.specs.Answer.{good_state, Pressing}
 use Rattle.editor.specs.Saved.{restored}
@@ -39,16 +37,16 @@ pub data Reached : Editor → History → List ℕ → Type 0 where
   by_fresh_editor : {e : Editor} {h : History} {slots : List ℕ} (profile : Profile) → Reached e h slots → Reached (fresh_editor profile) h slots
   by_recalled : {e r : Editor} {h : History} {slots : List ℕ} (text : List ℕ) → Reached e h slots → length text ≤ limit → r ≡ holding text (length text) e.mode e.profile
       → Reached r h slots
-  by_restored_editor : {e : Editor} {h : History} {slots : List ℕ} {r : Restored} (bytes : List ℕ) → Reached e h slots → r ≡ restored bytes → Reached r.editor h slots
+  by_restored_editor : {e r : Editor} {h : History} {slots : List ℕ} {told : Option Editor} (bytes : List ℕ) → Reached e h slots → told ≡ restored bytes → told ≡ Some r → Reached r h slots
   by_fresh_in : {e : Editor} {h r : History} {slots left : List ℕ} → Reached e h slots → Emptied r left → Reached e r left
-  by_restored_history : {e : Editor} {h r : History} {slots left : List ℕ} {told : RestoredHistory} (bytes : List ℕ) → Reached e h slots → told ≡ restored_history bytes left
-      → told ≡ Good r → Reached e r left
+  by_restored_history : {e : Editor} {h r : History} {slots left : List ℕ} {told : Option History} (bytes : List ℕ) → Reached e h slots → told ≡ restored_history bytes left
+      → told ≡ Some r → Reached e r left
   by_previous : {e : Editor} {h : History} {slots : List ℕ} {step : Step} → Reached e h slots → step ≡ back h → Reached e step.history slots
   by_next : {e : Editor} {h : History} {slots : List ℕ} {step : Step} → Reached e h slots → step ≡ onward h → Reached e step.history slots
   by_offer : {e : Editor} {h r : History} {slots left : List ℕ} (text : List ℕ) → Reached e h slots → length text ≤ 255 → well_formed text ≡ true → Offered h slots text r left
       → Reached e r left
-  by_add_command : {e : Editor} {h r : History} {slots text left : List ℕ} {told : Added} → Reached e h slots → Addition h slots text r told left → Reached e r left
-  by_forget : {e : Editor} {h r : History} {slots left : List ℕ} {k : ℕ} {told : Forgot} → Reached e h slots → Forgets h slots k r told left → Reached e r left
+  by_add_command : {e : Editor} {h r : History} {slots text left : List ℕ} {told : Result ⊤ AddRefusal} → Reached e h slots → Addition h slots text r told left → Reached e r left
+  by_forget : {e : Editor} {h r : History} {slots left : List ℕ} {k : ℕ} {told : Result ℕ ForgetRefusal} → Reached e h slots → Forgets h slots k r told left → Reached e r left
   by_key : {e : Editor} {h : History} {slots prompt line screen slots' line' screen' : List ℕ} {byte : ℕ} {k : KeyAnswer} → Reached e h slots
       → Pressing e h slots prompt byte line screen k slots' line' screen' → Reached k.editor k.history slots'
 
@@ -67,8 +65,8 @@ never_reached_bad _ h slots (by_fresh_editor {e} profile r) = good_state_lem (fr
 never_reached_bad r h slots (by_recalled {e} text t l q) =
     let b = state_parts e h slots (never_reached_bad e h slots t) in
     good_state_lem r h slots (ap good_editor q ∙ recalled_good e text l b.0) b.1
-never_reached_bad _ h slots (by_restored_editor {e} {r = r} bytes t q) =
-    good_state_lem r.editor h slots (ap (λ (x : Restored). good_editor x.editor) q ∙ restored_good bytes) (state_parts e h slots (never_reached_bad e h slots t)).1
+never_reached_bad r h slots (by_restored_editor {e} bytes t q p) =
+    good_state_lem r h slots (restored_good bytes r (sym q ∙ p)) (state_parts e h slots (never_reached_bad e h slots t)).1
 never_reached_bad e r left (by_fresh_in {h = h} {slots = slots} t o) =
     good_state_lem e r left (state_parts e h slots (never_reached_bad e h slots t)).0 (emptied_good r left o)
 never_reached_bad e r left (by_restored_history {h = h} {slots = slots} bytes t q p) =

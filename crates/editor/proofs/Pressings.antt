@@ -1,4 +1,5 @@
 -- The contract of `key`, from its refusals and from what a turn comes to; that it has one answer only.
+use Rattle.std.specs.Prelude.{Err, Result}
 use Prim.Native.Nat.{ℕ, ◌<◌, ◌≤◌}
 use mathlib.Core.Path.{◌≡◌, refl, sym, ap, ◌∙◌}
 use mathlib.Core.Bool.{Bool, true, false, cond}
@@ -12,7 +13,8 @@ use Rattle.history.specs.declared.stepping.History.{History}
 use Rattle.editor.specs.declared.line.Editor.{Editor}
 use Rattle.editor.specs.declared.drawing.KeyAnswer.{KeyAnswer}
 use Rattle.editor.specs.declared.drawing.Pressed.{Pressed}
-use Rattle.editor.specs.declared.drawing.Pressed.TheVariants.{BadState, BadPrompt, NoRoom}
+use Rattle.editor.specs.declared.drawing.KeyRefusal.{KeyRefusal}
+use Rattle.editor.specs.declared.drawing.KeyRefusal.TheVariants.{BadState, BadPrompt, NoRoom}
 use Rattle.editor.specs.Line.{limit}
 use Rattle.editor.specs.Turns.{Turn, turn_of}
 use Rattle.editor.specs.Answer.{state_of, editor_of, history_of, good_state, good_prompt, taken, turn_answer, key_answer, refused, Pressing}
@@ -29,7 +31,7 @@ module _ (e : Editor) (h : History) (slots prompt : List ℕ) (byte : ℕ) (line
   t = turn_of prompt (state_of e h slots) byte
 
   -- a refusal
-  stays : (told : Pressed) → key_answer (good_state e h slots) prompt (turn_of prompt (state_of e h slots) byte) (length line) (length screen) ≡ told → refused told ≡ true
+  stays : (told : Result Pressed KeyRefusal) → key_answer (good_state e h slots) prompt (turn_of prompt (state_of e h slots) byte) (length line) (length screen) ≡ told → refused told ≡ true
       → Pressing e h slots prompt byte line screen (key_of e h told) slots line screen
   stays told q r =
       record {
@@ -41,21 +43,21 @@ module _ (e : Editor) (h : History) (slots prompt : List ℕ) (byte : ℕ) (line
         shown = sym (then_is _ _ _ r);
       }
 
-  pub bad_state_lem : good_state e h slots ≡ false → Pressing e h slots prompt byte line screen (key_of e h BadState) slots line screen
+  pub bad_state_lem : good_state e h slots ≡ false → Pressing e h slots prompt byte line screen (key_of e h (Err BadState)) slots line screen
   unfolding key_answer
-  bad_state_lem g = stays BadState (else_is _ _ _ g) refl
+  bad_state_lem g = stays (Err BadState) (else_is _ _ _ g) refl
 
   module _ (g : good_state e h slots ≡ true) where
-    pub bad_prompt : good_prompt prompt ≡ false → Pressing e h slots prompt byte line screen (key_of e h (BadPrompt (length prompt))) slots line screen
+    pub bad_prompt : good_prompt prompt ≡ false → Pressing e h slots prompt byte line screen (key_of e h (Err (BadPrompt (length prompt)))) slots line screen
     unfolding key_answer
-    bad_prompt p = stays (BadPrompt (length prompt)) (then_is _ _ _ g ∙ else_is _ _ _ p) refl
+    bad_prompt p = stays (Err (BadPrompt (length prompt))) (then_is _ _ _ g ∙ else_is _ _ _ p) refl
 
     module _ (p : good_prompt prompt ≡ true) where
-      pub short_line : length line < limit → Pressing e h slots prompt byte line screen (key_of e h (NoRoom limit)) slots line screen
+      pub short_line : length line < limit → Pressing e h slots prompt byte line screen (key_of e h (Err (NoRoom limit))) slots line screen
       unfolding key_answer turn_answer
-      short_line l = stays (NoRoom limit) (then_is _ _ _ g ∙ then_is _ _ _ p ∙ then_is _ _ _ (lt-ltb (length line) limit l)) refl
+      short_line l = stays (Err (NoRoom limit)) (then_is _ _ _ g ∙ then_is _ _ _ p ∙ then_is _ _ _ (lt-ltb (length line) limit l)) refl
 
-      answers : limit ≤ length line → (u : Pressed) → cond (ltb (length screen) (length t.screen)) (NoRoom (length t.screen)) (taken t t.kind) ≡ u
+      answers : limit ≤ length line → (u : Result Pressed KeyRefusal) → cond (ltb (length screen) (length t.screen)) (Err (NoRoom (length t.screen))) (taken t t.kind) ≡ u
           → key_answer (good_state e h slots) prompt (turn_of prompt (state_of e h slots) byte) (length line) (length screen) ≡ u
       unfolding key_answer turn_answer t
       answers l u q = then_is _ _ _ g ∙ then_is _ _ _ p ∙ else_is _ _ _ (le-ltb (length line) limit l) ∙ q
@@ -70,10 +72,10 @@ module _ (e : Editor) (h : History) (slots prompt : List ℕ) (byte : ℕ) (line
           by : (b : Bool) → ltb (length screen) (length t.screen) ≡ b → Pressing e h slots prompt byte line screen k slots' line' screen'
           by true q =
               let room = ltb-true _ _ q in
-              let m : k ≡ key_of e h (NoRoom (length t.screen)) = d.acts.made ∙ attempt_short t.screen (length screen) _ _ room in
+              let m : k ≡ key_of e h (Err (NoRoom (length t.screen))) = d.acts.made ∙ attempt_short t.screen (length screen) _ _ room in
               let r : refused k.answer ≡ true = ap (λ (x : KeyAnswer). refused x.answer) m in
               record {
-                answer = ap (λ (x : KeyAnswer). x.answer) m ∙ sym (answers l (NoRoom (length t.screen)) (then_is _ _ _ q));
+                answer = ap (λ (x : KeyAnswer). x.answer) m ∙ sym (answers l (Err (NoRoom (length t.screen))) (then_is _ _ _ q));
                 editor = ap (λ (x : KeyAnswer). x.editor) m ∙ sym (then_is _ _ _ r);
                 history = ap (λ (x : KeyAnswer). x.history) m ∙ sym (then_is _ _ _ r);
                 held = d.held ∙ attempt_short t.screen (length screen) _ _ room ∙ sym (then_is _ _ _ r);

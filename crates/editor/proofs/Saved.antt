@@ -1,4 +1,6 @@
 -- Laws of the bytes that are saved of an editor: what was saved is restored, nothing in the bytes is lost, and what is restored is good.
+use Rattle.std.specs.Prelude.{Some, None, Option}
+use Rattle.std.specs.Result.{result_ok}
 use Prim.Native.Nat.{ℕ, ◌+◌, ◌-◌, ◌≤◌}
 use mathlib.Core.Path.{◌≡◌, refl, sym, ap, ◌∙◌}
 use mathlib.Core.Bool.{Bool, true, false}
@@ -15,19 +17,16 @@ use Rattle.buffer.specs.Write.{Pushed}
 use Rattle.buffer.specs.Lend.{zeros}
 use Rattle.history.proofs.States.{holds}
 use Rattle.keys.specs.declared.standing.Profile.{Profile}
-use Rattle.keys.specs.declared.standing.Profile.TheVariants.{Rust}
 use Rattle.keys.specs.declared.standing.Progress.{Progress}
 use Rattle.keys.specs.declared.standing.Mode.{Mode}
 use Rattle.keys.specs.declared.standing.Mode.TheVariants.{Typing}
-use Rattle.keys.specs.Modes.{is_profile, profile_number, profile_of, mode_number, progress_of, is_mode, mode_of}
-use Rattle.keys.proofs.Modes.{profile_back, profile_is, profile_number_lem, mode_back, mode_is, numbered}
+use Rattle.keys.specs.Modes.{is_profile, profile_number, profile_of, mode_number, progress_of, is_mode, mode_of, profile_in, mode_in}
+use Rattle.keys.proofs.Modes.{profile_read, profile_unread, mode_read, mode_unread, profile_back, profile_is, profile_number_lem, mode_back, mode_is, numbered}
 use Rattle.editor.specs.declared.line.Editor.{Editor}
-use Rattle.editor.specs.declared.saving.Restored.{Restored}
 use Rattle.editor.specs.Line.{limit, fresh_editor, good_editor, padded, holding}
-use Rattle.editor.specs.Saved.{saved_size, saved_of, progress_in, saved_in, has_keys, has_form, is_saved, nothing, restored, Fits}
+use Rattle.editor.specs.Saved.{saved_size, saved_of, progress_in, saved_in, has_keys, has_form, is_saved, restored, Fits}
 use Rattle.editor.proofs.Lines.{good_line_lem}
 use Rattle.editor.proofs.States.{editor_parts}
-use Rattle.editor.proofs.Fine.{fresh_good}
 
 -- restoring what was saved gives it back
 abbrev tail : Editor → List ℕ
@@ -210,37 +209,68 @@ unfolding has_form has_keys saved_size
 with_profile s h k = sym (then_is _ _ _ (eq-eqb _ _ h) ∙ then_is _ _ _ k)
 
 -- what is restored
-pub restored_is : (s : List ℕ) → is_saved s ≡ true → restored s ≡ record { valid = true; editor = saved_in s }
+pub restored_is : (s : List ℕ) → is_saved s ≡ true → restored s ≡ Some (saved_in s)
 unfolding restored
 restored_is s h = then_is _ _ _ h
 
-pub restored_not : (s : List ℕ) → is_saved s ≡ false → restored s ≡ nothing
+pub restored_not : (s : List ℕ) → is_saved s ≡ false → restored s ≡ None
 unfolding restored
 restored_not s h = else_is _ _ _ h
 
--- a good editor that was saved is restored; and whatever the bytes, what is handed out is good
-pub restored_saved : (e : Editor) → length e.line ≡ 255 → good_editor e ≡ true → restored (saved_of e) ≡ record { valid = true; editor = e }
-restored_saved e l g =
-    restored_is (saved_of e) (saved_is e l ∙ g) ∙ ap (λ (x : Editor). record { valid = true; editor = x }) (saved_in_lem e l)
+-- a good editor that was saved is restored, and what is restored is good
+pub restored_saved : (e : Editor) → length e.line ≡ 255 → good_editor e ≡ true → restored (saved_of e) ≡ Some e
+restored_saved e l g = restored_is (saved_of e) (saved_is e l ∙ g) ∙ ap Some (saved_in_lem e l)
 
-pub restored_good : (s : List ℕ) → good_editor (restored s).editor ≡ true
-restored_good s = by (is_saved s) refl
+pub record Back (e : Editor) (s : List ℕ) : Type 0 where
+  pub is : is_saved s ≡ true
+  pub held : e ≡ saved_in s
+
+pub good_back : (s : List ℕ) (e : Editor) → restored s ≡ Some e → Back e s
+good_back s e q = by (is_saved s) refl
   where
-    by : (t : Bool) → is_saved s ≡ t → good_editor (restored s).editor ≡ true
-    by true h = ap (λ (r : Restored). good_editor r.editor) (restored_is s h) ∙ (saved_has s h).is_good_lem
-    by false h = ap (λ (r : Restored). good_editor r.editor) (restored_not s h) ∙ fresh_good Rust
+    by : (t : Bool) → is_saved s ≡ t → Back e s
+    by true p = record { is = p; held = let r = sym q ∙ restored_is s p in cc }
+    by false p = absurd (let r = sym q ∙ restored_not s p in let z : ◌≡◌ {A = ℕ} 0 1 = cc in omega arith)
+
+pub bad_back : (s : List ℕ) → restored s ≡ None → is_saved s ≡ false
+bad_back s q = by (is_saved s) refl
+  where
+    by : (t : Bool) → is_saved s ≡ t → t ≡ false
+    by true p = absurd (let r = sym (restored_is s p) ∙ q in let z : ◌≡◌ {A = ℕ} 0 1 = cc in omega arith)
+    by false p = refl
+
+pub restored_good : (s : List ℕ) (e : Editor) → restored s ≡ Some e → good_editor e ≡ true
+restored_good s e q =
+    let k = good_back s e q in
+    ap good_editor k.held ∙ (saved_has s k.is).is_good_lem
 
 -- the ways through the code
-pub no_form : (s : List ℕ) (r : Restored) → has_form s ≡ false → r ≡ nothing → r ≡ restored s
+pub no_form : (s : List ℕ) → has_form s ≡ false → None ≡ restored s
 unfolding is_saved
-no_form s r h q = q ∙ sym (restored_not s (else_is _ _ _ h))
+no_form s h = sym (restored_not s (else_is _ _ _ h))
 
-pub bad_editor : (s : List ℕ) (e : Editor) (r : Restored) → has_form s ≡ true → e ≡ saved_in s → good_editor e ≡ false → r ≡ nothing → r ≡ restored s
-bad_editor s e r h p g q = q ∙ sym (restored_not s (right_form s h ∙ ap good_editor (sym p) ∙ g))
+pub bad_editor : (s : List ℕ) (e : Editor) → has_form s ≡ true → e ≡ saved_in s → good_editor e ≡ false → None ≡ restored s
+bad_editor s e h p g = sym (restored_not s (right_form s h ∙ ap good_editor (sym p) ∙ g))
 
-pub editor_restored : (s : List ℕ) (e : Editor) → has_form s ≡ true → e ≡ saved_in s → good_editor e ≡ true → record { valid = true; editor = e } ≡ restored s
-editor_restored s e h p g =
-    ap (λ (x : Editor). record { valid = true; editor = x }) p ∙ sym (restored_is s (right_form s h ∙ ap good_editor (sym p) ∙ g))
+pub editor_restored : (s : List ℕ) (e : Editor) → has_form s ≡ true → e ≡ saved_in s → good_editor e ≡ true → Some e ≡ restored s
+editor_restored s e h p g = ap Some p ∙ sym (restored_is s (right_form s h ∙ ap good_editor (sym p) ∙ g))
+
+-- the parts of an editor, read one after the other
+module _ (s : List ℕ) (l : length s ≡ 261) (told : Option Profile) (a : told ≡ result_ok (profile_in (get_or s 258 0))) where
+  pub profile_missing : told ≡ None → None ≡ restored s
+  profile_missing q = no_form s (no_profile s l (profile_unread (get_or s 258 0) (sym a ∙ q)))
+
+  module _ (p : Profile) (q : told ≡ Some p) (found : Option Mode) (b : found ≡ mode_in (get_or s 0 0) (progress_in s)) where
+    known : (is_profile (get_or s 258 0) ≡ true) × (p ≡ profile_of (get_or s 258 0))
+    known = profile_read (get_or s 258 0) p (sym a ∙ q)
+
+    pub mode_missing : found ≡ None → None ≡ restored s
+    mode_missing d = no_form s (sym (with_profile s l known.0) ∙ mode_unread (get_or s 0 0) (progress_in s) (sym b ∙ d))
+
+    pub parts_read : (m : Mode) → found ≡ Some m → (has_form s ≡ true) × (m ≡ mode_of (get_or s 0 0) (progress_in s)) × (p ≡ profile_of (get_or s 258 0))
+    parts_read m d =
+        let n = mode_read (get_or s 0 0) (progress_in s) m (sym b ∙ d) in
+        (sym (with_profile s l known.0) ∙ n.0, n.1, known.1)
 
 pub form_size : (s : List ℕ) → has_form s ≡ true → length s ≡ saved_size
 unfolding saved_size

@@ -1,4 +1,5 @@
 -- Laws of states: who holds a good state holds just what the state says, and what a turn comes to.
+use Rattle.std.specs.Prelude.{Ok, Err}
 use Prim.Native.Nat.{ℕ, ◌<◌, ◌≤◌}
 use mathlib.Core.Path.{◌≡◌, refl, sym, ap, ◌∙◌}
 use mathlib.Core.Bool.{true}
@@ -19,7 +20,8 @@ use Rattle.keys.specs.declared.standing.Mode.{Mode}
 use Rattle.keys.specs.Modes.{good_mode}
 use Rattle.editor.specs.declared.line.Editor.{Editor}
 use Rattle.editor.specs.declared.drawing.KeyAnswer.{KeyAnswer}
-use Rattle.editor.specs.declared.drawing.Pressed.TheVariants.{Shown, Dropped, NoRoom}
+use Rattle.editor.specs.declared.drawing.Pressed.TheVariants.{Shown, Dropped}
+use Rattle.editor.specs.declared.drawing.KeyRefusal.TheVariants.{NoRoom}
 use Rattle.editor.specs.Line.{limit, padded, holding, line_of, good_line, good_editor, content}
 use Rattle.editor.specs.Turns.{State, Turn, dropping, showing, redrawn, redrawing}
 use Rattle.editor.specs.Answer.{state_of, editor_of, history_of, slots_of, good_state}
@@ -125,19 +127,19 @@ unfolding over
 over_nothing d = refl
 
 module _ (e : Editor) (h : History) (screen : List ℕ) where
-  pub acts_quiet : (s : State) (e' : Editor) (h' : History) → e' ≡ editor_of s → ActsTo e h (showing s []) h' screen (key_of e' h' (Shown 0)) screen
+  pub acts_quiet : (s : State) (e' : Editor) (h' : History) → e' ≡ editor_of s → ActsTo e h (showing s []) h' screen (key_of e' h' (Ok (Shown 0))) screen
   unfolding made_by
   acts_quiet s e' h' p =
       record {
-        made = ap (λ (x : Editor). key_of x h' (Shown 0)) p ∙ sym (attempt_fits [] (length screen) _ _ (omega arith));
+        made = ap (λ (x : Editor). key_of x h' (Ok (Shown 0))) p ∙ sym (attempt_fits [] (length screen) _ _ (omega arith));
         shown = sym (attempt_fits [] (length screen) screen (over [] screen) (omega arith) ∙ over_nothing screen);
       }
 
-  pub acts_dropped : (s : State) (e' : Editor) (h' : History) → e' ≡ editor_of s → ActsTo e h (dropping s) h' screen (key_of e' h' Dropped) screen
+  pub acts_dropped : (s : State) (e' : Editor) (h' : History) → e' ≡ editor_of s → ActsTo e h (dropping s) h' screen (key_of e' h' (Ok Dropped)) screen
   unfolding made_by
   acts_dropped s e' h' p =
       record {
-        made = ap (λ (x : Editor). key_of x h' Dropped) p ∙ sym (attempt_fits [] (length screen) _ _ (omega arith));
+        made = ap (λ (x : Editor). key_of x h' (Ok Dropped)) p ∙ sym (attempt_fits [] (length screen) _ _ (omega arith));
         shown = sym (attempt_fits [] (length screen) screen (over [] screen) (omega arith) ∙ over_nothing screen);
       }
 
@@ -147,7 +149,7 @@ module _ (e : Editor) (h : History) (screen : List ℕ) where
   unfolding made_by
   acts_shown s bytes goes h' k left p a =
       record {
-        made = a.made ∙ ap (λ (x : Editor). attempt bytes (length screen) (key_of e h (NoRoom (length bytes))) (key_of x h' (Shown (length bytes)))) p;
+        made = a.made ∙ ap (λ (x : Editor). attempt bytes (length screen) (key_of e h (Err (NoRoom (length bytes)))) (key_of x h' (Ok (Shown (length bytes))))) p;
         shown = a.shown;
       }
 

@@ -1,5 +1,5 @@
 -- What `key` answers and leaves (STANDARD 10: 12, 11, 9, a line buffer under 255 first).
-use Rattle.std.specs.Prelude.{ℕ, ◌≡◌, Bool, true, false, cond, List, ltb, leb, length}
+use Rattle.std.specs.Prelude.{ℕ, ◌≡◌, Bool, false, cond, List, ltb, leb, length, Ok, Err, Result, is_err}
 use Rattle.buffer.specs.Write.{over}
 use Rattle.text.specs.Decoding.{well_formed}
 use Rattle.history.specs.Journal.{record_of, slots_of as journal_slots, journal_of, good}
@@ -7,7 +7,9 @@ use Rattle.history.specs.declared.stepping.History.{History}
 use Rattle.editor.specs.declared.line.Editor.{Editor}
 use Rattle.editor.specs.declared.drawing.KeyAnswer.{KeyAnswer}
 use Rattle.editor.specs.declared.drawing.Pressed.{Pressed}
-use Rattle.editor.specs.declared.drawing.Pressed.TheVariants.{Shown, Entered, Dropped, BadState, BadPrompt, NoRoom}
+use Rattle.editor.specs.declared.drawing.KeyRefusal.{KeyRefusal}
+use Rattle.editor.specs.declared.drawing.Pressed.TheVariants.{Shown, Entered, Dropped}
+use Rattle.editor.specs.declared.drawing.KeyRefusal.TheVariants.{BadState, BadPrompt, NoRoom}
 use Rattle.editor.specs.Line.{limit, holding, line_of, good_editor}
 use Rattle.editor.specs.Turns.{State, Kind, shows, enters, drops, Turn, turn_of}
 
@@ -35,34 +37,29 @@ unfoldable pub good_prompt : List ℕ → Bool
 good_prompt prompt = cond (leb (length prompt) 128) (well_formed prompt) false
 
 -- what a key that is taken answers (10.14)
-abbrev pub taken : Turn → Kind → Pressed
-taken t shows = Shown (length t.screen)
-taken t enters = Entered (length t.submitted)
-taken t drops = Dropped
+abbrev pub taken : Turn → Kind → Result Pressed KeyRefusal
+taken t shows = Ok (Shown (length t.screen))
+taken t enters = Ok (Entered (length t.submitted))
+taken t drops = Ok Dropped
 
 -- the answer for a turn, and buffers of so many bytes for the line and for the screen (10.14)
-unfoldable pub turn_answer : Turn → ℕ → ℕ → Pressed
+unfoldable pub turn_answer : Turn → ℕ → ℕ → Result Pressed KeyRefusal
 turn_answer t line screen =
-    cond (ltb line limit) (NoRoom limit)
-    (cond (ltb screen (length t.screen)) (NoRoom (length t.screen))
+    cond (ltb line limit) (Err (NoRoom limit))
+    (cond (ltb screen (length t.screen)) (Err (NoRoom (length t.screen)))
     (taken t t.kind))
 
 -- (10.14)
-unfoldable pub key_answer : Bool → List ℕ → Turn → ℕ → ℕ → Pressed
+unfoldable pub key_answer : Bool → List ℕ → Turn → ℕ → ℕ → Result Pressed KeyRefusal
 key_answer is prompt t line screen =
     cond is
     (cond (good_prompt prompt) (turn_answer t line screen)
-    (BadPrompt (length prompt)))
-    BadState
+    (Err (BadPrompt (length prompt))))
+    (Err BadState)
 
 -- a refusal keeps the state and every byte (2.4)
-abbrev pub refused : Pressed → Bool
-refused (Shown n) = false
-refused (Entered n) = false
-refused Dropped = false
-refused BadState = true
-refused (BadPrompt n) = true
-refused (NoRoom n) = true
+abbrev pub refused : Result Pressed KeyRefusal → Bool
+refused told = is_err told
 
 -- (2.4, 2.8)
 pub record Pressing (e : Editor) (h : History) (slots prompt : List ℕ) (byte : ℕ) (line screen : List ℕ)
@@ -75,22 +72,20 @@ pub record Pressing (e : Editor) (h : History) (slots prompt : List ℕ) (byte :
   pub shown : screen' ≡ cond (refused k.answer) screen (over (turn_of prompt (state_of e h slots) byte).screen screen)
 
 -- the refusal's number (STANDARD 10.1; 0: none), and the value that goes with it
-abbrev pub number : Pressed → ℕ
-number (Shown n) = 0
-number (Entered n) = 0
-number Dropped = 0
-number BadState = 12
-number (BadPrompt n) = 11
-number (NoRoom n) = 9
+abbrev pub number : Result Pressed KeyRefusal → ℕ
+number (Ok pressed) = 0
+number (Err BadState) = 12
+number (Err (BadPrompt n)) = 11
+number (Err (NoRoom n)) = 9
 
 -- at Enter one byte is shown (10.14)
-abbrev pub value : Pressed → ℕ
-value (Shown n) = n
-value (Entered n) = 1
-value Dropped = 0
-value BadState = 0
-value (BadPrompt n) = n
-value (NoRoom n) = n
+abbrev pub value : Result Pressed KeyRefusal → ℕ
+value (Ok (Shown n)) = n
+value (Ok (Entered n)) = 1
+value (Ok Dropped) = 0
+value (Err BadState) = 0
+value (Err (BadPrompt n)) = n
+value (Err (NoRoom n)) = n
 
 -- a key that is taken has one of three kinds, by number: it shows bytes 0, enters 1, drops its byte 2. The kind of an answer; a refusal has none, 0
 -- (10.14)
@@ -100,19 +95,15 @@ kind_number enters = 1
 kind_number drops = 2
 
 -- (10.14)
-abbrev pub kind : Pressed → ℕ
-kind (Shown n) = 0
-kind (Entered n) = 1
-kind Dropped = 2
-kind BadState = 0
-kind (BadPrompt n) = 0
-kind (NoRoom n) = 0
+abbrev pub kind : Result Pressed KeyRefusal → ℕ
+kind (Ok (Shown n)) = 0
+kind (Ok (Entered n)) = 1
+kind (Ok Dropped) = 2
+kind (Err refusal) = 0
 
 -- the second value: the length of the line that is submitted (10.14)
-abbrev pub beside : Pressed → ℕ
-beside (Shown n) = 0
-beside (Entered n) = n
-beside Dropped = 0
-beside BadState = 0
-beside (BadPrompt n) = 0
-beside (NoRoom n) = 0
+abbrev pub beside : Result Pressed KeyRefusal → ℕ
+beside (Ok (Shown n)) = 0
+beside (Ok (Entered n)) = n
+beside (Ok Dropped) = 0
+beside (Err refusal) = 0

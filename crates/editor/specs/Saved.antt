@@ -1,12 +1,10 @@
 -- An editor's part of a saved state: 261 bytes, the mode, the line's length, the cursor, the 255 bytes of the line, then the profile and how far a
 -- sequence is read. What they hold counts where it is good (STANDARD 4.2, 4.4).
-use Rattle.std.specs.Prelude.{ℕ, ◌≤◌, Bool, true, false, cond, List, [], ◌∷◌, ◌++◌, eqb, length, take, drop, get_or}
-use Rattle.keys.specs.declared.standing.Profile.TheVariants.{Rust}
+use Rattle.std.specs.Prelude.{ℕ, ◌≤◌, Bool, false, cond, List, [], ◌∷◌, ◌++◌, eqb, length, take, drop, get_or, Some, None, Option}
 use Rattle.keys.specs.declared.standing.Progress.{Progress}
 use Rattle.keys.specs.Modes.{is_profile, profile_number, profile_of, mode_number, progress_of, is_mode, mode_of}
 use Rattle.editor.specs.declared.line.Editor.{Editor}
-use Rattle.editor.specs.declared.saving.Restored.{Restored}
-use Rattle.editor.specs.Line.{fresh_editor, good_editor}
+use Rattle.editor.specs.Line.{good_editor}
 
 -- how many bytes that is: `Editor::SAVED`
 unfoldable pub saved_size : ℕ
@@ -45,13 +43,9 @@ has_form bytes = cond (eqb (length bytes) saved_size) (has_keys bytes) false
 unfoldable pub is_saved : List ℕ → Bool
 is_saved bytes = cond (has_form bytes) (good_editor (saved_in bytes)) false
 
--- what is restored: from bytes that are no editor, the fresh one
-abbrev pub nothing : Restored
-nothing = record { valid = false; editor = fresh_editor Rust }
-
--- (4.2)
-unfoldable pub restored : List ℕ → Restored
-restored bytes = cond (is_saved bytes) (record { valid = true; editor = saved_in bytes }) nothing
+-- what is restored: the editor, or none (4.2)
+unfoldable pub restored : List ℕ → Option Editor
+restored bytes = cond (is_saved bytes) (Some (saved_in bytes)) None
 
 -- numbers that fit their bytes, as those of a good editor do
 pub record Fits (e : Editor) : Type 0 where

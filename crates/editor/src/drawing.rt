@@ -3,54 +3,55 @@ ghost use Rattle.std.specs.Prelude.{◌≤◌, ◌≡◌, length};
 ghost use Rattle.screen.specs.Redraw.{redraw};
 ghost use Rattle.editor.specs.Line.{limit, line_of, content};
 ghost use Rattle.editor.specs.Turns.{arrow};
-ghost use Rattle.editor.specs.Answer.{refused};
-ghost use Rattle.editor.specs.Inner.{Shows};
+ghost use Rattle.editor.specs.Inner.{key_of, Shows};
 
 use super::line::Editor;
-use buffer::push;
+use buffer::{TooShort, push};
 use history::History;
-use screen::{Redrawn, clear_line_and_redraw};
+use screen::clear_line_and_redraw;
 use text::well_formed_prefix;
 
-// What a key answers.
+// What a key that is taken does.
 #[derive(Clone, Copy)]
 pub enum Pressed {
-    // So many bytes are shown.
+    // So many bytes are shown; 0 where the key changes nothing that is seen.
     Shown(usize),
     // Enter: a line feed is shown, and a line of so many bytes is submitted; 0 for an empty line.
     Entered(usize),
     // The line is full: the byte is dropped, and nothing changes.
     Dropped,
+}
+
+// Why a key is refused: then the state and every buffer stay as they were.
+#[derive(Clone, Copy)]
+pub enum KeyRefusal {
     // The state is bad.
     BadState,
     // The prompt is over 128 bytes or ill-formed: its length.
     BadPrompt(usize),
-    // A buffer is too short: the length needed.
+    // The buffer for the line or the screen is too short: the length needed.
     NoRoom(usize),
 }
 
-impl Pressed {
-    // Whether it is a refusal: then the state stays.
-    pub fn is_refusal(self) -> bool
-        ensures { result ≡ refused self }
-    {
-        match self {
-            Pressed::Shown(_) => false,
-            Pressed::Entered(_) => false,
-            Pressed::Dropped => false,
-            Pressed::BadState => true,
-            Pressed::BadPrompt(_) => true,
-            Pressed::NoRoom(_) => true,
-        }
-    }
-}
-
-// The state after a key, and its answer.
+// The state after a key, and what the key did or why it was refused.
 #[derive(Clone, Copy)]
 pub struct KeyAnswer {
     pub editor: Editor,
     pub history: History,
-    pub answer: Pressed,
+    pub answer: Result<Pressed, KeyRefusal>,
+}
+
+impl Editor {
+    // The editor as it is, beside a history and an answer.
+    pub(crate) fn answers(self, history: History, answer: Result<Pressed, KeyRefusal>) -> KeyAnswer
+        ensures { result ≡ key_of self history answer }
+    {
+        KeyAnswer {
+            editor: self,
+            history,
+            answer,
+        }
+    }
 }
 
 // What is shown of a line: nothing if it is ill-formed.
@@ -75,19 +76,10 @@ pub fn redraw(
     requires { (goes.length ≤ limit) × (length goes.line ≡ limit) × (length prompt.now ≤ 128) }
     ensures { Shows (redraw prompt.now (content (line_of goes)) goes.cursor) stays before goes history screen.old result screen.new }
 {
-    let line = goes.line;
-    let length = goes.length;
-    match clear_line_and_redraw(prompt, shown_part(&line[..length]), goes.cursor, screen) {
-        Redrawn::Shown(n) => KeyAnswer {
-            editor: goes,
-            history,
-            answer: Pressed::Shown(n),
-        },
-        Redrawn::NoRoom(n) => KeyAnswer {
-            editor: stays,
-            history: before,
-            answer: Pressed::NoRoom(n),
-        },
+    let shown = shown_part(&goes.line[..goes.length]);
+    match clear_line_and_redraw(prompt, shown, goes.cursor, screen) {
+        Ok(n) => goes.answers(history, Ok(Pressed::Shown(n))),
+        Err(TooShort { needed }) => stays.answers(before, Err(KeyRefusal::NoRoom(needed))),
     }
 }
 
@@ -102,17 +94,8 @@ pub fn show_arrow(
     ensures { Shows (arrow byte) stays history goes history screen.old result screen.new }
 {
     if screen.len() < 3 {
-        return KeyAnswer {
-            editor: stays,
-            history,
-            answer: Pressed::NoRoom(3),
-        };
+        return stays.answers(history, Err(KeyRefusal::NoRoom(3)));
     }
-    let bytes = [0x1B, 0x5B, byte];
-    push(&bytes, screen, 0);
-    KeyAnswer {
-        editor: goes,
-        history,
-        answer: Pressed::Shown(3),
-    }
+    push(&[0x1B, 0x5B, byte], screen, 0);
+    goes.answers(history, Ok(Pressed::Shown(3)))
 }

@@ -9,6 +9,5 @@ mod pressing;
 mod saving;
 mod typing;
 
-pub use drawing::{KeyAnswer, Pressed};
+pub use drawing::{KeyAnswer, KeyRefusal, Pressed};
 pub use line::Editor;
-pub use saving::Restored;

@@ -5,6 +5,7 @@ ghost use Rattle.editor.specs.Line.{limit, holding, line_of, fresh_editor, good_
 use buffer::greatest_byte;
 use keys::{Mode, Profile, is_good_mode};
 
+// The line in fixed memory, of which the first `length` bytes count: so it lies in a saved state.
 #[derive(Clone, Copy)]
 pub struct Editor {
     pub line: [u8; 255],
@@ -35,10 +36,10 @@ impl Editor {
     pub(crate) fn emptied(self) -> Editor
         ensures { result ≡ holding [] 0 self.mode self.profile }
     {
-        let mode = self.mode;
-        let profile = self.profile;
-        let fresh = Editor::fresh(profile);
-        fresh.in_mode(mode)
+        Editor {
+            mode: self.mode,
+            ..Editor::fresh(self.profile)
+        }
     }
 
     // The same editor holding a text, with the cursor at its end.
@@ -46,21 +47,14 @@ impl Editor {
         requires { length text.now ≤ limit }
         ensures { result ≡ holding text.now (length text.now) self.mode self.profile }
     {
-        let blank = self.emptied();
-        let mode = self.mode;
-        let profile = self.profile;
-        let mut line = blank.line;
-        let mut i = 0;
-        while i < text.len() {
-            line[i] = text[i];
-            i += 1;
-        }
+        let length = text.len();
+        let mut line = self.emptied().line;
+        line[..length].copy_from_slice(text);
         Editor {
             line,
-            length: i,
-            cursor: i,
-            mode,
-            profile,
+            length,
+            cursor: length,
+            ..self
         }
     }
 
@@ -68,27 +62,17 @@ impl Editor {
     fn is_good_line(self) -> bool
         ensures { result ≡ good_line self }
     {
-        let length = self.length;
-        if Editor::LIMIT < length {
+        if Editor::LIMIT < self.length || self.length < self.cursor {
             return false;
         }
-        if length < self.cursor {
-            return false;
-        }
-        let line = self.line;
-        greatest_byte(&line[length..]) == 0
+        greatest_byte(&self.line[self.length..]) == 0
     }
 
     // Whether the line keeps its rules, and keys lead to the mode.
     pub fn is_good(self) -> bool
         ensures { result ≡ good_editor self }
     {
-        let mode = self.mode;
-        let profile = self.profile;
-        if is_good_mode(profile, mode) {
-            return self.is_good_line();
-        }
-        false
+        is_good_mode(self.profile, self.mode) && self.is_good_line()
     }
 
     // A byte typed at the cursor: what stood there and after it moves on by one.
@@ -97,17 +81,12 @@ impl Editor {
         ensures { result ≡ holding (inserted (line_of self) self.cursor byte) (self.cursor + 1) self.mode self.profile }
     {
         let length = self.length;
+        let cursor = self.cursor;
         let mut line = self.line;
-        let mut carried = byte;
-        let mut i = self.cursor;
-        while i <= length {
-            let next = line[i];
-            line[i] = carried;
-            carried = next;
-            i += 1;
-        }
+        line.copy_within(cursor..length, cursor + 1);
+        line[cursor] = byte;
         self.line = line;
-        self.length = length + 1;
+        self.length += 1;
         self.cursor += 1;
         self
     }
@@ -117,13 +96,11 @@ impl Editor {
         requires { (good_line self ≡ true) × (0 < self.cursor) }
         ensures { result ≡ holding (erased (line_of self) self.cursor) (self.cursor - 1) self.mode self.profile }
     {
-        let last = self.length - 1;
+        let length = self.length;
+        let cursor = self.cursor;
+        let last = length - 1;
         let mut line = self.line;
-        let mut i = self.cursor - 1;
-        while i < last {
-            line[i] = line[i + 1];
-            i += 1;
-        }
+        line.copy_within(cursor..length, cursor - 1);
         line[last] = 0;
         self.line = line;
         self.length = last;
@@ -140,20 +117,9 @@ impl Editor {
     }
 
     // The same line, in another mode.
-    pub(crate) fn in_mode(mut self, mode: Mode) -> Editor
+    pub(crate) fn in_mode(self, mode: Mode) -> Editor
         ensures { result ≡ record { line = self.line; length = self.length; cursor = self.cursor; mode = mode; profile = self.profile } }
     {
-        let line = self.line;
-        let length = self.length;
-        let cursor = self.cursor;
-        let profile = self.profile;
-        self = Editor {
-            line,
-            length,
-            cursor,
-            mode,
-            profile,
-        };
-        self
+        Editor { mode, ..self }
     }
 }

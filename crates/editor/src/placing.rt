@@ -22,11 +22,7 @@ impl Editor {
         ensures { ActsFor (λ slots. go_to prompt.now (state_of self history slots) place) self history screen.old result screen.new }
     {
         if self.cursor == place {
-            return KeyAnswer {
-                editor: self,
-                history,
-                answer: Pressed::Shown(0),
-            };
+            return self.answers(history, Ok(Pressed::Shown(0)));
         }
         let before = self;
         self = self.moved(place);
@@ -45,15 +41,10 @@ impl Editor {
     {
         let cursor = self.cursor;
         if self.length <= cursor {
-            return KeyAnswer {
-                editor: self,
-                history,
-                answer: Pressed::Shown(0),
-            };
+            return self.answers(history, Ok(Pressed::Shown(0)));
         }
         let before = self;
-        self = self.moved(cursor + 1);
-        self = self.erase();
+        self = self.moved(cursor + 1).erase();
         redraw(before, history, self, history, prompt, screen)
     }
 }

@@ -4,7 +4,7 @@ ghost use Rattle.editor.specs.Line.{limit};
 ghost use Rattle.editor.specs.Answer.{good_state, good_prompt, Pressing};
 ghost use Rattle.editor.specs.Inner.{DoesAction, DoesKey};
 
-use super::drawing::{KeyAnswer, Pressed};
+use super::drawing::{KeyAnswer, KeyRefusal, Pressed};
 use super::line::Editor;
 use history::{History, is_good};
 use keys::{Action, meaning_of};
@@ -14,10 +14,7 @@ use text::well_formed_prefix;
 fn is_good_prompt(prompt: &[u8]) -> bool
     ensures { result ≡ good_prompt prompt.now }
 {
-    if 128 < prompt.len() {
-        return false;
-    }
-    well_formed_prefix(prompt) == prompt.len()
+    prompt.len() <= 128 && well_formed_prefix(prompt) == prompt.len()
 }
 
 impl Editor {
@@ -25,15 +22,12 @@ impl Editor {
     fn is_good_with(self, history: History, slots: &[u8]) -> bool
         ensures { result ≡ good_state self history slots.now }
     {
-        if self.is_good() {
-            return is_good(history, slots);
-        }
-        false
+        self.is_good() && is_good(history, slots)
     }
 
     // What an action does, in a good state.
     fn act(
-        mut self,
+        self,
         action: Action,
         history: History,
         slots: &mut [u8],
@@ -46,11 +40,7 @@ impl Editor {
         ensures { DoesAction action self history slots.old prompt.now line.old screen.old result slots.new line.new screen.new }
     {
         match action {
-            Action::Nothing => KeyAnswer {
-                editor: self,
-                history,
-                answer: Pressed::Shown(0),
-            },
+            Action::Nothing => self.answers(history, Ok(Pressed::Shown(0))),
             Action::Enter => self.enter(history, slots, line, screen),
             Action::Erase => self.erase_key(history, prompt, screen),
             Action::Insert(byte) => self.insert_key(history, prompt, byte, screen),
@@ -78,28 +68,19 @@ impl Editor {
         requires prompt_len_bound { (length prompt.now ≤ 128) × (limit ≤ length line.old) }
         ensures { DoesKey byte self history slots.old prompt.now line.old screen.old result slots.new line.new screen.new }
     {
+        let meant = meaning_of(self.profile, self.mode, byte);
         let before = self;
-        let mode = self.mode;
-        let profile = self.profile;
-        let meant = meaning_of(profile, mode, byte);
-        let action = meant.action;
-        let next = meant.mode;
-        self = self.in_mode(next);
-        let done = self.act(action, history, slots, prompt, line, screen);
-        let answer = done.answer;
-        if answer.is_refusal() {
-            return KeyAnswer {
-                editor: before,
-                history,
-                answer,
-            };
+        self = self.in_mode(meant.mode);
+        let done = self.act(meant.action, history, slots, prompt, line, screen);
+        if done.answer.is_err() {
+            return before.answers(history, done.answer);
         }
         done
     }
 
     // One key, in a state that was tested and is good, with any buffers.
     pub fn key_tested(
-        mut self,
+        self,
         history: History,
         slots: &mut [u8],
         prompt: &[u8],
@@ -111,25 +92,17 @@ impl Editor {
         ensures { Pressing self history slots.old prompt.now byte line.old screen.old result slots.new line.new screen.new }
     {
         if !is_good_prompt(prompt) {
-            return KeyAnswer {
-                editor: self,
-                history,
-                answer: Pressed::BadPrompt(prompt.len()),
-            };
+            return self.answers(history, Err(KeyRefusal::BadPrompt(prompt.len())));
         }
         if line.len() < Editor::LIMIT {
-            return KeyAnswer {
-                editor: self,
-                history,
-                answer: Pressed::NoRoom(Editor::LIMIT),
-            };
+            return self.answers(history, Err(KeyRefusal::NoRoom(Editor::LIMIT)));
         }
         self.press(history, slots, prompt, byte, line, screen)
     }
 
     // One key, in any state and with any buffers.
     pub fn key(
-        mut self,
+        self,
         history: History,
         slots: &mut [u8],
         prompt: &[u8],
@@ -140,11 +113,7 @@ impl Editor {
         ensures { Pressing self history slots.old prompt.now byte line.old screen.old result slots.new line.new screen.new }
     {
         if !self.is_good_with(history, slots) {
-            return KeyAnswer {
-                editor: self,
-                history,
-                answer: Pressed::BadState,
-            };
+            return self.answers(history, Err(KeyRefusal::BadState));
         }
         self.key_tested(history, slots, prompt, byte, line, screen)
     }

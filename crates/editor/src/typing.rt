@@ -5,7 +5,7 @@ ghost use Rattle.editor.specs.Turns.{erase, insert};
 ghost use Rattle.editor.specs.Answer.{state_of, good_state};
 ghost use Rattle.editor.specs.Inner.{ActsFor, DoesEnter};
 
-use super::drawing::{KeyAnswer, Pressed, redraw, shown_part};
+use super::drawing::{KeyAnswer, KeyRefusal, Pressed, redraw, shown_part};
 use super::line::Editor;
 use buffer::{push, push_byte};
 use history::{History, offer};
@@ -13,7 +13,7 @@ use history::{History, offer};
 impl Editor {
     // The line is offered to history and submitted; an empty one touches nothing.
     pub(crate) fn enter(
-        mut self,
+        self,
         history: History,
         slots: &mut [u8],
         line: &mut [u8],
@@ -24,30 +24,17 @@ impl Editor {
         ensures { DoesEnter self history slots.old line.old screen.old result slots.new line.new screen.new }
     {
         if screen.len() == 0 {
-            return KeyAnswer {
-                editor: self,
-                history,
-                answer: Pressed::NoRoom(1),
-            };
+            return self.answers(history, Err(KeyRefusal::NoRoom(1)));
         }
         push_byte(0x0A, screen, 0);
         let n = self.length;
         if n == 0 {
-            return KeyAnswer {
-                editor: self,
-                history,
-                answer: Pressed::Entered(0),
-            };
+            return self.answers(history, Ok(Pressed::Entered(0)));
         }
-        let typed = self.line;
-        let offered = offer(history, slots, shown_part(&typed[..n]));
-        push(&typed[..n], line, 0);
-        self = self.emptied();
-        KeyAnswer {
-            editor: self,
-            history: offered,
-            answer: Pressed::Entered(n),
-        }
+        let typed = &self.line[..n];
+        let offered = offer(history, slots, shown_part(typed));
+        push(typed, line, 0);
+        self.emptied().answers(offered, Ok(Pressed::Entered(n)))
     }
 
     // The byte before the cursor goes.
@@ -61,11 +48,7 @@ impl Editor {
         ensures { ActsFor (λ slots. erase prompt.now (state_of self history slots)) self history screen.old result screen.new }
     {
         if self.cursor == 0 {
-            return KeyAnswer {
-                editor: self,
-                history,
-                answer: Pressed::Shown(0),
-            };
+            return self.answers(history, Ok(Pressed::Shown(0)));
         }
         let before = self;
         self = self.erase();
@@ -84,11 +67,7 @@ impl Editor {
         ensures { ActsFor (λ slots. insert prompt.now (state_of self history slots) byte) self history screen.old result screen.new }
     {
         if Editor::LIMIT <= self.length {
-            return KeyAnswer {
-                editor: self,
-                history,
-                answer: Pressed::Dropped,
-            };
+            return self.answers(history, Ok(Pressed::Dropped));
         }
         let before = self;
         self = self.insert(byte);

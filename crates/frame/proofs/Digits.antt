@@ -7,13 +7,14 @@ use native.Mathlib.Omega.{arith}
 use lib.Dec.{ltb, leb}
 use lib.ListN.{length, take, drop, set, get_or}
 use borrow.Author.Tests.{lt-ltb, le-ltb, le-leb, lt-leb, leb-true, leb-false, ltb-true, ltb-false}
-use Rattle.buffer.proofs.Lists.{drop_step, drop_end}
+use Rattle.std.specs.List.{AllWithin, HoldsAt}
+use Rattle.std.specs.Option.{unwrap_or, is_none, MatchOption}
+use Rattle.std.proofs.lemmas.Iterator.{index_from_first}
 use Rattle.buffer.proofs.Choices.{then_is, else_is}
 use Rattle.buffer.proofs.Lending.{copy_step}
 use Rattle.buffer.specs.Numbers.{Bytes}
-use Rattle.frame.specs.Hex.{digit_of, hex_of, in_range, digit_value, is_digit, value_of, pair_of, unhex, first_bad}
-use Rattle.frame.specs.declared.hex.Digit.{Digit}
-use Rattle.frame.specs.declared.hex.Digit.TheVariants.{Value, Other}
+use Rattle.frame.specs.Hex.{digit_of, hex_of, in_range, digit_value, is_digit, value_of, pair_of, unhex, first_bad, bad_place}
+use Rattle.std.proofs.Common.{Option, Some, None}
 
 -- a test on a range
 range_in : (low high b : ℕ) → low ≤ b → b ≤ high → in_range low high b ≡ true
@@ -31,23 +32,23 @@ range_over low high b h = by (leb low b)
 
 -- what a byte is as a digit, in each range
 module _ (b : ℕ) where
-  pub digit_under : b < 48 → digit_value b ≡ Other
+  pub digit_under : b < 48 → digit_value b ≡ None
   unfolding digit_value
   digit_under h = else_is _ _ _ (range_under 48 57 b h) ∙ else_is _ _ _ (range_under 97 102 b (omega arith))
 
-  pub digit_number : 48 ≤ b → b ≤ 57 → digit_value b ≡ Value (b - 48)
+  pub digit_number : 48 ≤ b → b ≤ 57 → digit_value b ≡ Some (b - 48)
   unfolding digit_value
   digit_number h k = then_is _ _ _ (range_in 48 57 b h k)
 
-  pub digit_gap : 57 < b → b < 97 → digit_value b ≡ Other
+  pub digit_gap : 57 < b → b < 97 → digit_value b ≡ None
   unfolding digit_value
   digit_gap h k = else_is _ _ _ (range_over 48 57 b h) ∙ else_is _ _ _ (range_under 97 102 b k)
 
-  pub digit_letter : 97 ≤ b → b ≤ 102 → digit_value b ≡ Value (b - 97 + 10)
+  pub digit_letter : 97 ≤ b → b ≤ 102 → digit_value b ≡ Some (b - 97 + 10)
   unfolding digit_value
   digit_letter h k = else_is _ _ _ (range_over 48 57 b (omega arith)) ∙ then_is _ _ _ (range_in 97 102 b h k)
 
-  pub digit_over : 102 < b → digit_value b ≡ Other
+  pub digit_over : 102 < b → digit_value b ≡ None
   unfolding digit_value
   digit_over h = else_is _ _ _ (range_over 48 57 b (omega arith)) ∙ else_is _ _ _ (range_over 97 102 b h)
 
@@ -79,22 +80,22 @@ range b = first (leb 48 b) refl
     first false e = under (leb-false 48 b e)
 
 -- the digit of a value has that value
-pub digit_read : (v : ℕ) → v < 16 → digit_value (digit_of v) ≡ Value v
+pub digit_read : (v : ℕ) → v < 16 → digit_value (digit_of v) ≡ Some v
 unfolding digit_of
 digit_read v h = by (ltb v 10) refl
   where
-    by : (t : Bool) → ltb v 10 ≡ t → digit_value (cond t (48 + v) (97 + (v - 10))) ≡ Value v
+    by : (t : Bool) → ltb v 10 ≡ t → digit_value (cond t (48 + v) (97 + (v - 10))) ≡ Some v
     by true e =
         let k : v < 10 = ltb-true v 10 e in
         let same : 48 + v - 48 ≡ v = omega arith in
-        digit_number (48 + v) (omega arith) (omega arith) ∙ ap Value same
+        digit_number (48 + v) (omega arith) (omega arith) ∙ ap Some same
     by false e =
         let k : 10 ≤ v = ltb-false v 10 e in
         let same : 97 + (v - 10) - 97 + 10 ≡ v = omega arith in
-        digit_letter (97 + (v - 10)) (omega arith) (omega arith) ∙ ap Value same
+        digit_letter (97 + (v - 10)) (omega arith) (omega arith) ∙ ap Some same
 
 -- a byte that is a digit is the digit of its value, and a value is below 16
-pub digit_back : (b v : ℕ) → digit_value b ≡ Value v → digit_of v ≡ b
+pub digit_back : (b v : ℕ) → digit_value b ≡ Some v → digit_of v ≡ b
 unfolding digit_of
 digit_back b v e = by (range b)
   where
@@ -176,9 +177,9 @@ digits_first : (b : ℕ) (s : List ℕ) → length (b ∷ s) ≤ first_bad (b �
 unfolding first_bad
 digits_first b s h = by (digit_value b) refl h
   where
-    by : (d : Digit) → digit_value b ≡ d → suc (length s) ≤ cond (is_digit d) (suc (first_bad s)) 0 → (digit_of (value_of (digit_value b)) ≡ b) × (length s ≤ first_bad s)
-    by (Value v) e k = (rw e (digit_back b v e), omega arith)
-    by Other e k = absurd (omega arith)
+    by : (d : Option ℕ) → digit_value b ≡ d → suc (length s) ≤ cond (is_digit d) (suc (first_bad s)) 0 → (digit_of (value_of (digit_value b)) ≡ b) × (length s ≤ first_bad s)
+    by (Some v) e k = (rw e (digit_back b v e), omega arith)
+    by None e k = absurd (omega arith)
 
 pub hex_back : (s : List ℕ) → length s % 2 ≡ 0 → length s ≤ first_bad s → hex_of (unhex s) ≡ s
 unfolding hex_of unhex pair_of
@@ -213,19 +214,33 @@ unhex_at (a ∷ b ∷ s) (suc i) h =
     let f : 2 * suc i + 1 ≡ suc (suc (2 * i + 1)) = omega arith in
     rw (f, e) (unhex_at s i (omega arith))
 
--- the search for the first byte that is no digit, from a place on
-module _ (s : List ℕ) (i : ℕ) where
-  pub bad_on : (v : ℕ) → i < length s → digit_value (get_or s i 0) ≡ Value v → i + first_bad (drop i s) ≡ i + 1 + first_bad (drop (i + 1) s)
-  unfolding first_bad
-  bad_on v h e = rw (drop_step s i 0 h, e) (omega arith)
+-- the first byte that is no digit, as the library finds it
+abbrev pub Bad : ℕ → Type 0
+Bad b = is_none (digit_value b) ≡ true
 
-  pub bad_here : i < length s → digit_value (get_or s i 0) ≡ Other → i + first_bad (drop i s) ≡ i
-  unfolding first_bad
-  bad_here h e = rw (drop_step s i 0 h, e) (omega arith)
+abbrev pub Fine : ℕ → Type 0
+Fine b = is_none (digit_value b) ≡ false
 
-  pub bad_end : length s ≤ i → i + first_bad (drop i s) ≡ i
-  unfolding first_bad
-  bad_end h = rw (drop_end s i h) (omega arith)
+bad_first : (s : List ℕ) (r : Option ℕ) → MatchOption r (AllWithin Fine s 0 (length s)) (λ i. (i < length s) × HoldsAt Bad s i × AllWithin Fine s 0 i)
+    → first_bad s ≡ unwrap_or r (length s)
+unfolding first_bad
+bad_first = index_from_first first_bad Bad Fine refl (λ b s h. bad s (digit_value b) h) (λ b s h. fine s (digit_value b) h)
+  where
+    bad : (t : List ℕ) (d : Option ℕ) → is_none d ≡ true → cond (is_digit d) (suc (first_bad t)) 0 ≡ 0
+    bad t None e = refl
+    bad t (Some v) e = cc
+
+    fine : (t : List ℕ) (d : Option ℕ) → is_none d ≡ false → cond (is_digit d) (suc (first_bad t)) 0 ≡ first_bad t + 1
+    fine t None e = cc
+    fine t (Some v) e = omega arith
+
+pub bad_found : (s : List ℕ) (r : Option ℕ) → MatchOption r (AllWithin Fine s 0 (length s)) (λ i. (i < length s) × HoldsAt Bad s i × AllWithin Fine s 0 i) → r ≡ bad_place s
+unfolding bad_place
+bad_found s None m = let e = bad_first s None m in sym (else_is _ _ _ (le-ltb (first_bad s) (length s) (omega arith)))
+bad_found s (Some i) m =
+    let e = bad_first s (Some i) m in
+    let h = m.0 in
+    ap Some (sym e) ∙ sym (then_is _ _ _ (lt-ltb (first_bad s) (length s) (omega arith)))
 
 -- a turn of the writing of digits: those of the first i bytes stand in front of what out had after them
 pub hex_step : (s out : List ℕ) (i high low : ℕ) → i < length s → length (hex_of s) ≤ length out

@@ -8,8 +8,7 @@ use Rattle.buffer.proofs.Lists.{drop_step, drop_end}
 use Rattle.buffer.specs.Numbers.{Bytes}
 use Rattle.frame.specs.Text.{read_text}
 use Rattle.frame.specs.Framed.{frame_of, framed, frame_first}
-use Rattle.frame.specs.declared.prefixed.Text.{Text}
-use Rattle.frame.specs.declared.prefixed.Text.TheVariants.{Sized, Broken as NoText}
+use Rattle.std.proofs.Common.{Option, Some, None}
 use Rattle.frame.specs.declared.framed.Framed.TheVariants.{Frame, End}
 use Rattle.frame.proofs.Texts.{length_text_of, text_read, text_found, text_back, read_told}
 
@@ -22,7 +21,7 @@ pub first_end : (s : List ℕ) (at : ℕ) → length s ≤ at → frame_first (d
 unfolding frame_first
 first_end s at h = rw (drop_end s at)
 
-pub first_at : (s : List ℕ) (at : ℕ) (x : Text) → at < length s → read_text 2 (drop (at + 1) s) ≡ x → frame_first (drop at s) ≡ framed (get_or s at 0) x
+pub first_at : (s : List ℕ) (at : ℕ) (x : Option ℕ) → at < length s → read_text 2 (drop (at + 1) s) ≡ x → frame_first (drop at s) ≡ framed (get_or s at 0) x
 unfolding frame_first
 first_at s at x h e = rw (drop_step s at 0 h, e)
 
@@ -37,13 +36,13 @@ module _ (kind : ℕ) (t rest : List ℕ) where
   frame_found = text_found 2 t rest
 
 -- a frame that was read: its kind is the first byte, and its text is read after that
-first_told : (k : ℕ) (s : List ℕ) (kind n : ℕ) → frame_first (k ∷ s) ≡ Frame kind n → (k ≡ kind) × (read_text 2 s ≡ Sized n)
+first_told : (k : ℕ) (s : List ℕ) (kind n : ℕ) → frame_first (k ∷ s) ≡ Frame kind n → (k ≡ kind) × (read_text 2 s ≡ Some n)
 unfolding frame_first
 first_told k s kind n e = by (read_text 2 s) refl e
   where
-    by : (x : Text) → read_text 2 s ≡ x → framed k x ≡ Frame kind n → (k ≡ kind) × (read_text 2 s ≡ Sized n)
-    by (Sized m) q r = let size : m ≡ n = cc in (cc, q ∙ ap Sized size)
-    by NoText q r = absurd (let z : ◌≡◌ {A = ℕ} 0 1 = cc in omega arith)
+    by : (x : Option ℕ) → read_text 2 s ≡ x → framed k x ≡ Frame kind n → (k ≡ kind) × (read_text 2 s ≡ Some n)
+    by (Some m) q r = let size : m ≡ n = cc in (cc, q ∙ ap Some size)
+    by None q r = absurd (let z : ◌≡◌ {A = ℕ} 0 1 = cc in omega arith)
 
 -- a frame that is read lies within the list
 pub frame_within : (s : List ℕ) (kind n : ℕ) → frame_first s ≡ Frame kind n → 3 + n ≤ length s

@@ -1,25 +1,26 @@
 -- Laws of house lines: what is written is read, what is read was so written, and there is one answer.
+use Rattle.std.specs.Prelude.{Ok, Err, Result}
 use Prim.Native.Nat.{ℕ, suc, ◌+◌, ◌-◌, ◌*◌, ◌/◌, ◌%◌, ◌≤◌, ◌<◌}
 use mathlib.Core.Path.{◌≡◌, refl, sym, ap, ◌∙◌}
-use mathlib.Core.Bool.{Bool, true, false, cond}
+use mathlib.Core.Bool.{Bool, true, false, cond, ◌&&◌}
 use mathlib.Core.List.{List, [], ◌∷◌, ◌++◌}
 use native.Mathlib.Omega.{arith}
 use lib.Dec.{ltb, eqb}
-use lib.ListN.{length, take, get_or, length-append}
+use lib.ListN.{length, take, drop, get_or, length-append}
 use lib.Seq.{take-suc, take-length, take_at, get_or_at}
-use borrow.Author.Tests.{le-ltb, lt-ltb, eq-eqb, ne_eqb, eqb-true, eqb-false, ltb-false}
+use borrow.Author.Tests.{le-ltb, lt-ltb, ne_eqb, eqb-true, eqb-false, ltb-false}
 use types.Run.{OneOf, miss}
 use denote.Enum.Declared.{tag_of}
 use Rattle.buffer.specs.Write.{over, Written, Pushed, over_if_fits}
 use Rattle.buffer.proofs.Choices.{then_is, else_is}
+use Rattle.std.specs.Cmp.Lexicographic.{pointwise}
+use Rattle.buffer.proofs.Lists.{drop_step, drop_end}
 use Rattle.buffer.specs.Numbers.{Bytes}
 use Rattle.frame.specs.Hex.{hex_of, unhex, first_bad}
 use Rattle.frame.specs.House.{LF, house_line, ends_in_lF, digits_of, read_digits, read_house, left_by, house_leaves, HouseRead, write_house, HouseWritten}
-use Rattle.frame.specs.declared.house.House.{House}
-use Rattle.frame.specs.declared.house.House.TheVariants.{Frame, Unended, Empty, TooLong, Odd, NoDigit, Short}
-use Rattle.frame.specs.declared.house.Lined.{Lined}
-use Rattle.frame.specs.declared.house.Lined.TheVariants.{Written as Done, Short as NoRoom}
-use Rattle.frame.specs.contracts.house.House.{the_type}
+use Rattle.frame.specs.declared.house.HouseRefusal.{HouseRefusal}
+use Rattle.frame.specs.declared.house.HouseRefusal.TheVariants.{Unended, Empty, TooLong, Odd, NoDigit, Short}
+use Rattle.buffer.specs.declared.show.TooShort.{TooShort}
 use Rattle.buffer.proofs.Writing.{pushed_both, pushed_front, front_pushed}
 use Rattle.frame.proofs.Digits.{length_hex_of, length_unhex, hex_digits_lem, hex_read, hex_back}
 
@@ -44,11 +45,6 @@ pub house_digits : (bytes : List ℕ) → digits_of (house_line bytes) ≡ hex_o
 unfolding house_line
 house_digits bytes = line_digits (hex_of bytes)
 
-pub ended_empty : (line : List ℕ) → length line ≡ 0 → ends_in_lF line ≡ false
-unfolding ends_in_lF
-ended_empty [] e = refl
-ended_empty (b ∷ s) e = absurd (omega arith)
-
 pub ended_some : (line : List ℕ) → ends_in_lF line ≡ true → 0 < length line
 unfolding ends_in_lF
 ended_some [] e = absurd (let z : ◌≡◌ {A = ℕ} 0 1 = cc in omega arith)
@@ -63,39 +59,29 @@ ended_back line e =
     let one : get_or line k 0 ≡ LF = eqb-true _ _ e in
     sym (take-length line) ∙ ap (λ (n : ℕ). take n line) (sym all) ∙ take-suc line k 0 (omega arith) ∙ ap (λ (b : ℕ). take k line ++ (b ∷ [])) one
 
+-- the last byte by itself
+pub suffix_is : (line : List ℕ) → pointwise eqb (drop (length line - 1) line) (LF ∷ []) ≡ ends_in_lF line
+unfolding ends_in_lF
+suffix_is [] = refl
+suffix_is (b ∷ s) =
+    rw (drop_step (b ∷ s) (length (b ∷ s) - 1) 0 (omega arith), drop_end (b ∷ s) (length (b ∷ s) - 1 + 1) (omega arith))
+    (alone (eqb (get_or (b ∷ s) (length (b ∷ s) - 1) 0) LF))
+  where
+    alone : (t : Bool) → (t && true) ≡ t
+    alone true = refl
+    alone false = refl
+
 -- what digits are, in the order of the tests
 module _ (d : List ℕ) (room : ℕ) where
-  pub digits_empty : length d ≡ 0 → read_digits d room ≡ Empty
-  unfolding read_digits
-  digits_empty h = then_is _ _ _ (eq-eqb (length d) 0 h)
-
-  pub digits_long : 1024 < length d → read_digits d room ≡ TooLong
-  unfolding read_digits
-  digits_long h = else_is _ _ _ (ne_eqb (length d) 0 (λ e. omega arith)) ∙ then_is _ _ _ (lt-ltb 1024 (length d) h)
-
-  pub digits_odd : length d ≤ 1024 → length d % 2 ≡ 1 → read_digits d room ≡ Odd
-  unfolding read_digits
-  digits_odd few h =
-      else_is _ _ _ (ne_eqb (length d) 0 (λ e. omega arith))
-      ∙ else_is _ _ _ (le-ltb 1024 (length d) few)
-      ∙ then_is _ _ _ (eq-eqb (length d % 2) 1 h)
-
   module _ (some : 0 < length d) (few : length d ≤ 1024) (even : length d % 2 ≡ 0) where
-    paired : read_digits d room ≡ cond (ltb (first_bad d) (length d)) (NoDigit (first_bad d)) (cond (ltb room (length d / 2)) (Short (length d / 2)) (Frame (length d / 2)))
+    paired : read_digits d room ≡ cond (ltb (first_bad d) (length d)) (Err (NoDigit (first_bad d))) (cond (ltb room (length d / 2)) (Err (Short (length d / 2))) (Ok (length d / 2)))
     unfolding read_digits
     paired =
         else_is _ _ _ (ne_eqb (length d) 0 (λ e. omega arith))
         ∙ else_is _ _ _ (le-ltb 1024 (length d) few)
         ∙ else_is _ _ _ (ne_eqb (length d % 2) 1 (λ e. omega arith))
 
-    pub digits_bad : first_bad d < length d → read_digits d room ≡ NoDigit (first_bad d)
-    digits_bad h = paired ∙ then_is _ _ _ (lt-ltb (first_bad d) (length d) h)
-
-    pub digits_short : length d ≤ first_bad d → room < length d / 2 → read_digits d room ≡ Short (length d / 2)
-    digits_short all h =
-        paired ∙ else_is _ _ _ (le-ltb (first_bad d) (length d) all) ∙ then_is _ _ _ (lt-ltb room (length d / 2) h)
-
-    pub digits_frame : length d ≤ first_bad d → length d / 2 ≤ room → read_digits d room ≡ Frame (length d / 2)
+    pub digits_frame : length d ≤ first_bad d → length d / 2 ≤ room → read_digits d room ≡ Ok (length d / 2)
     digits_frame all h =
         paired ∙ else_is _ _ _ (le-ltb (first_bad d) (length d) all) ∙ else_is _ _ _ (le-ltb room (length d / 2) h)
 
@@ -109,7 +95,7 @@ pub record Framing (digits : List ℕ) (room n : ℕ) : Type 0 where
   pub count : n ≡ length digits / 2
 
 module _ (d : List ℕ) (room n : ℕ) where
-  pub digits_told : read_digits d room ≡ Frame n → Framing d room n
+  pub digits_told : read_digits d room ≡ Ok n → Framing d room n
   unfolding read_digits
   digits_told e =
       by (eqb (length d) 0) (ltb 1024 (length d)) (eqb (length d % 2) 1) (ltb (first_bad d) (length d)) (ltb room (length d / 2))
@@ -119,7 +105,7 @@ module _ (d : List ℕ) (room n : ℕ) where
       never z = absurd (omega arith)
 
       by : (p q r s t : Bool) → eqb (length d) 0 ≡ p → ltb 1024 (length d) ≡ q → eqb (length d % 2) 1 ≡ r → ltb (first_bad d) (length d) ≡ s → ltb room (length d / 2) ≡ t
-          → cond p Empty (cond q TooLong (cond r Odd (cond s (NoDigit (first_bad d)) (cond t (Short (length d / 2)) (Frame (length d / 2)))))) ≡ Frame n → Framing d room n
+          → cond p (Err Empty) (cond q (Err TooLong) (cond r (Err Odd) (cond s (Err (NoDigit (first_bad d))) (cond t (Err (Short (length d / 2))) (Ok (length d / 2)))))) ≡ Ok n → Framing d room n
       by true q r s t e1 e2 e3 e4 e5 e = never (cc)
       by false true r s t e1 e2 e3 e4 e5 e = never (cc)
       by false false true s t e1 e2 e3 e4 e5 e = never (cc)
@@ -137,39 +123,29 @@ module _ (d : List ℕ) (room n : ℕ) where
             count = cc;
           }
 
--- a line that ends is what its digits are, and one that doesn't is refused
-module _ (line : List ℕ) (room : ℕ) where
-  pub house_ended : ends_in_lF line ≡ true → read_house line room ≡ read_digits (digits_of line) room
-  unfolding read_house
-  house_ended e = then_is _ _ _ e
-
-  pub house_unended : ends_in_lF line ≡ false → read_house line room ≡ Unended
-  unfolding read_house
-  house_unended e = else_is _ _ _ e
-
 module _ (line : List ℕ) (room n : ℕ) where
-  pub house_told : read_house line room ≡ Frame n → (ends_in_lF line ≡ true) × Framing (digits_of line) room n
+  pub house_told : read_house line room ≡ Ok n → (ends_in_lF line ≡ true) × Framing (digits_of line) room n
   unfolding read_house
   house_told e = by (ends_in_lF line) refl e
     where
-      by : (t : Bool) → ends_in_lF line ≡ t → cond t (read_digits (digits_of line) room) Unended ≡ Frame n → (ends_in_lF line ≡ true) × Framing (digits_of line) room n
+      by : (t : Bool) → ends_in_lF line ≡ t → cond t (read_digits (digits_of line) room) (Err Unended) ≡ Ok n → (ends_in_lF line ≡ true) × Framing (digits_of line) room n
       by true q r = (q, digits_told (digits_of line) room n r)
       by false q r = absurd (let z : ◌≡◌ {A = ℕ} 0 1 = cc in omega arith)
 
   -- what is read as a frame is the line of it, in as many bytes as are answered
-  pub line_back : read_house line room ≡ Frame n → line ≡ house_line (unhex (digits_of line))
+  pub line_back : read_house line room ≡ Ok n → line ≡ house_line (unhex (digits_of line))
   unfolding house_line
   line_back e =
       let told = house_told e in
       ended_back line told.0
       ∙ ap (λ (l : List ℕ). l ++ (LF ∷ [])) (sym (hex_back (digits_of line) told.1.even told.1.all))
 
-  pub line_count : read_house line room ≡ Frame n → n ≡ length (unhex (digits_of line))
+  pub line_count : read_house line room ≡ Ok n → n ≡ length (unhex (digits_of line))
   line_count e = (house_told e).1.count ∙ sym (length_unhex (digits_of line))
 
 -- what is written is read
 module _ (bytes : List ℕ) (b : Bytes bytes) (some : 1 ≤ length bytes) (few : length bytes ≤ 512) where
-  pub line_read : (room : ℕ) → length bytes ≤ room → read_house (house_line bytes) room ≡ Frame (length bytes)
+  pub line_read : (room : ℕ) → length bytes ≤ room → read_house (house_line bytes) room ≡ Ok (length bytes)
   unfolding house_line read_house
   line_read room fits =
       let d : List ℕ = hex_of bytes in
@@ -177,21 +153,20 @@ module _ (bytes : List ℕ) (b : Bytes bytes) (some : 1 ≤ length bytes) (few :
       let all = hex_digits_lem bytes b in
       let half : length d / 2 ≡ length bytes = omega arith in
       rw (line_ended d, line_digits d)
-      (digits_frame d room (omega arith) (omega arith) (omega arith) (omega arith) (omega arith) ∙ ap Frame half)
+      (digits_frame d room (omega arith) (omega arith) (omega arith) (omega arith) (omega arith) ∙ ap Ok half)
 
   pub line_leaves : (out : List ℕ) → length bytes ≤ length out → house_leaves (house_line bytes) out ≡ over bytes out
   unfolding house_leaves
   line_leaves out fits = rw (line_read (length out) fits) (ap (λ (x : List ℕ). over x out) (ap unhex (house_digits bytes) ∙ hex_read bytes b))
 
--- a refusal, which the code knows by the number of its variant, leaves the buffer as it was
-pub refusal_keeps : (a : House) (bytes out : List ℕ) → OneOf (1 ∷ 2 ∷ 3 ∷ 4 ∷ 5 ∷ 6 ∷ []) (tag_of the_type a) → left_by a bytes out ≡ out
-refusal_keeps (Frame n) bytes out k = absurd (miss (1 ∷ 2 ∷ 3 ∷ 4 ∷ 5 ∷ 6 ∷ []) 0 tt k)
-refusal_keeps Unended bytes out k = refl
-refusal_keeps Empty bytes out k = refl
-refusal_keeps TooLong bytes out k = refl
-refusal_keeps Odd bytes out k = refl
-refusal_keeps (NoDigit place) bytes out k = refl
-refusal_keeps (Short needed) bytes out k = refl
+-- a refusal leaves the buffer as it was
+pub refusal_keeps : (e : HouseRefusal) (bytes out : List ℕ) → left_by (Err e) bytes out ≡ out
+refusal_keeps Unended bytes out = refl
+refusal_keeps Empty bytes out = refl
+refusal_keeps TooLong bytes out = refl
+refusal_keeps Odd bytes out = refl
+refusal_keeps (NoDigit place) bytes out = refl
+refusal_keeps (Short needed) bytes out = refl
 
 -- the line of bytes is their digits and then LF
 pub line_pushed : (bytes out mid left : List ℕ) (at r : ℕ) → length (house_line bytes) ≤ length out → Written (hex_of bytes) out at mid → Pushed (LF ∷ []) mid at r left → left ≡ over (house_line bytes) out
@@ -202,27 +177,27 @@ line_pushed bytes out mid left at r h w p =
 
 -- what writing answers and leaves, where there is room and where there is none
 module _ (bytes out : List ℕ) where
-  pub write_short : (r : ℕ) (left : List ℕ) → length out < r → r ≡ length (house_line bytes) → left ≡ out → HouseWritten bytes out (NoRoom r) left
+  pub write_short : (r : ℕ) (left : List ℕ) → length out < r → r ≡ length (house_line bytes) → left ≡ out → HouseWritten bytes out (Err (record { needed = r })) left
   unfolding write_house over_if_fits
   write_short r left h e k =
       let none : length out < length (house_line bytes) = omega arith in
       record {
-        answer = ap NoRoom e ∙ sym (then_is _ _ _ (lt-ltb _ _ none));
+        answer = ap (λ (n : ℕ). Err (record { needed = n })) e ∙ sym (then_is _ _ _ (lt-ltb _ _ none));
         bytes = k ∙ sym (then_is _ _ _ (lt-ltb _ _ none));
       }
 
-  pub write_whole : (r : ℕ) (left : List ℕ) → r ≤ length out → r ≡ length (house_line bytes) → left ≡ over (house_line bytes) out → HouseWritten bytes out (Done r) left
+  pub write_whole : (r : ℕ) (left : List ℕ) → r ≤ length out → r ≡ length (house_line bytes) → left ≡ over (house_line bytes) out → HouseWritten bytes out (Ok r) left
   unfolding write_house over_if_fits
   write_whole r left h e k =
       let room : length (house_line bytes) ≤ length out = omega arith in
       record {
-        answer = ap Done e ∙ sym (else_is _ _ _ (le-ltb _ _ room));
+        answer = ap Ok e ∙ sym (else_is _ _ _ (le-ltb _ _ room));
         bytes = k ∙ sym (else_is _ _ _ (le-ltb _ _ room));
       }
 
 -- there is one answer
-pub read_once : (line out : List ℕ) (r s : House) (x y : List ℕ) → HouseRead line out r x → HouseRead line out s y → (r ≡ s) × (x ≡ y)
+pub read_once : (line out : List ℕ) (r s : Result ℕ HouseRefusal) (x y : List ℕ) → HouseRead line out r x → HouseRead line out s y → (r ≡ s) × (x ≡ y)
 read_once line out r s x y p q = (p.answer ∙ sym q.answer, p.bytes ∙ sym q.bytes)
 
-pub write_once : (bytes out : List ℕ) (r s : Lined) (x y : List ℕ) → HouseWritten bytes out r x → HouseWritten bytes out s y → (r ≡ s) × (x ≡ y)
+pub write_once : (bytes out : List ℕ) (r s : Result ℕ TooShort) (x y : List ℕ) → HouseWritten bytes out r x → HouseWritten bytes out s y → (r ≡ s) × (x ≡ y)
 write_once bytes out r s x y p q = (p.answer ∙ sym q.answer, p.bytes ∙ sym q.bytes)

@@ -12,7 +12,7 @@ use Rattle.buffer.proofs.Choices.{then_is, else_is}
 use Rattle.buffer.specs.Numbers.{Bytes, number_bytes, number_of}
 use Rattle.buffer.proofs.Numbers.{length_number, number_value, number_one, number_two, value_number, bytes_take}
 use Rattle.frame.specs.Text.{text_of, read_text}
-use Rattle.frame.specs.declared.prefixed.Text.TheVariants.{Sized, Broken}
+use Rattle.std.proofs.Common.{Some, None}
 
 pub length_text_of : (w : ℕ) (t : List ℕ) → length (text_of w t) ≡ w + length t
 unfolding text_of
@@ -20,28 +20,28 @@ length_text_of w t = length-append (number_bytes w (length t)) t ∙ ap (λ (k :
 
 -- how reading decides, by the number in front
 module _ (w : ℕ) (s : List ℕ) where
-  pub read_by : (v : ℕ) → number_of (take w s) ≡ v → read_text w s ≡ cond (leb (w + v) (length s)) (Sized v) Broken
+  pub read_by : (v : ℕ) → number_of (take w s) ≡ v → read_text w s ≡ cond (leb (w + v) (length s)) (Some v) None
   unfolding read_text
   read_by v e = rw e
 
-  pub read_short : length s < w → read_text w s ≡ Broken
+  pub read_short : length s < w → read_text w s ≡ None
   unfolding read_text
   read_short h = let k : length s < w + number_of (take w s) = omega arith in else_is _ _ _ (lt-leb _ _ k)
 
-  pub read_told : (n : ℕ) → read_text w s ≡ Sized n → (number_of (take w s) ≡ n) × (w + n ≤ length s)
+  pub read_told : (n : ℕ) → read_text w s ≡ Some n → (number_of (take w s) ≡ n) × (w + n ≤ length s)
   unfolding read_text
   read_told n e = by (leb (w + number_of (take w s)) (length s)) refl e
     where
-      by : (t : Bool) → leb (w + number_of (take w s)) (length s) ≡ t → cond t (Sized (number_of (take w s))) Broken ≡ Sized n → (number_of (take w s) ≡ n) × (w + n ≤ length s)
+      by : (t : Bool) → leb (w + number_of (take w s)) (length s) ≡ t → cond t (Some (number_of (take w s))) None ≡ Some n → (number_of (take w s) ≡ n) × (w + n ≤ length s)
       by true q r = let k : number_of (take w s) ≡ n = cc in (k, rw k at (leb-true (w + number_of (take w s)) (length s) q))
       by false q r = absurd (let z : ◌≡◌ {A = ℕ} 0 1 = cc in omega arith)
 
 -- the same at a place of a list, as the code counts what is left
 module _ (w : ℕ) (s : List ℕ) (at left : ℕ) (l : left ≡ length s - at) where
-  pub read_end : left < w → read_text w (drop at s) ≡ Broken
+  pub read_end : left < w → read_text w (drop at s) ≡ None
   read_end h = read_short w (drop at s) (rw (length-drop at s) (omega arith))
 
-  pub read_at : (v : ℕ) → number_of (take w (drop at s)) ≡ v → read_text w (drop at s) ≡ cond (leb (w + v) left) (Sized v) Broken
+  pub read_at : (v : ℕ) → number_of (take w (drop at s)) ≡ v → read_text w (drop at s) ≡ cond (leb (w + v) left) (Some v) None
   read_at v e = rw (l, ← length-drop at s) (read_by w (drop at s) v e)
 
 -- what is written is read, whatever stands after it
@@ -50,7 +50,7 @@ module _ (w : ℕ) (t rest : List ℕ) where
   unfolding text_of
   apart = append_assoc (number_bytes w (length t)) t rest
 
-  pub text_read : length t < 256 ^ w → read_text w (text_of w t ++ rest) ≡ Sized (length t)
+  pub text_read : length t < 256 ^ w → read_text w (text_of w t ++ rest) ≡ Some (length t)
   text_read h =
       let e : number_of (take w (text_of w t ++ rest)) ≡ length t =
       rw (apart, take_at (number_bytes w (length t)) (t ++ rest) w (length_number w (length t))) (number_value w (length t) h)
@@ -64,7 +64,7 @@ module _ (w : ℕ) (t rest : List ℕ) where
       rw (apart, drop_at (number_bytes w (length t)) (t ++ rest) w (length_number w (length t))) (take_at t rest (length t) refl)
 
 -- what is read as a text is the writing of it, and what stands after
-pub text_back : (w : ℕ) (s : List ℕ) (n : ℕ) → Bytes s → read_text w s ≡ Sized n → s ≡ text_of w (take n (drop w s)) ++ drop (w + n) s
+pub text_back : (w : ℕ) (s : List ℕ) (n : ℕ) → Bytes s → read_text w s ≡ Some n → s ≡ text_of w (take n (drop w s)) ++ drop (w + n) s
 unfolding text_of
 text_back w s n h e =
     let told = read_told w s n e in

@@ -3,10 +3,11 @@ ghost use Rattle.std.specs.Prelude.{◌≡◌, ℕ, ◌≤◌, ◌<◌, ◌^◌,
 ghost use Rattle.buffer.specs.Write.{Written};
 ghost use Rattle.frame.specs.Framed.{frame_of, frame_first};
 
-use super::prefixed::{Text, long_text, long_text_size, write_long_text};
+use super::prefixed::{long_text, long_text_size, write_long_text};
 use buffer::push_byte;
 
 // What stands at a place: a frame with a text of that many bytes, a frame that runs past the end, or nothing.
+// Three cases that callers part by name: an Option of a Result would be no plainer.
 #[derive(Clone, Copy)]
 pub enum Framed {
     Frame { kind: u8, length: usize },
@@ -21,12 +22,12 @@ pub fn read_frame(s: &[u8], at: usize) -> Framed
     if s.len() <= at {
         return Framed::End;
     }
-    let Text::Sized(n) = long_text(s, at + 1) else {
+    let Some(length) = long_text(s, at + 1) else {
         return Framed::Broken;
     };
     Framed::Frame {
         kind: s[at],
-        length: n,
+        length,
     }
 }
 

@@ -8,7 +8,7 @@ mod limits;
 mod prefixed;
 
 pub use framed::{Framed, frame_size, read_frame, write_frame};
-pub use hex::unhex_into;
-pub use house::{House, Lined, read_line, write_line};
+pub use hex::{hex_digit, unhex_into};
+pub use house::{HouseRefusal, read_line, write_line};
 pub use limits::{FRAMES_LIMIT, LINE_LIMIT, told_length};
 pub use prefixed::{long_text_size, write_long_text};

@@ -15,5 +15,5 @@ const VALUE_LIMIT: usize = 65535;
 pub fn told_length(n: usize) -> usize
     ensures { result ≡ min n value_limit }
 {
-    if n < VALUE_LIMIT { n } else { VALUE_LIMIT }
+    n.min(VALUE_LIMIT)
 }

@@ -1,45 +1,20 @@
 // A text after its length, which takes two bytes, the highest first: read, measured and written.
-ghost use Rattle.std.specs.Prelude.{◌≡◌, cond, ◌+◌, ◌-◌, ◌≤◌, ◌<◌, ◌^◌, leb, length, drop};
+ghost use Rattle.std.specs.Prelude.{◌≡◌, ◌≤◌, ◌<◌, ◌^◌, length, drop};
 ghost use Rattle.buffer.specs.Write.{Written};
 ghost use Rattle.frame.specs.Text.{text_of, read_text};
 
 use buffer::{push, push_byte};
 
-// What stands at a place: a text of that many bytes, or a length or a text that runs past the end.
-#[derive(Clone, Copy)]
-pub enum Text {
-    Sized(usize),
-    Broken,
-}
-
-// How many bytes of s stand at the place `at` and after it.
-fn left_of(s: &[u8], at: usize) -> usize
-    ensures { result ≡ length s.now - at }
-{
-    if at < s.len() { s.len() - at } else { 0 }
-}
-
-// A text of n bytes after a length of `width` bytes, if `left` bytes hold both.
-fn within(left: usize, width: usize, n: usize) -> Text
-    requires { width + n < 65538 }
-    ensures { result ≡ cond (leb (width + n) left) (Text.Sized n) Text.Broken }
-{
-    if width + n <= left {
-        Text::Sized(n)
-    } else {
-        Text::Broken
-    }
-}
-
-// The text at the place `at` of s, after a length of two bytes.
-pub fn long_text(s: &[u8], at: usize) -> Text
+// The length of the text at the place `at` of s, after a length of two bytes, unless the length or the text runs past the end.
+pub fn long_text(s: &[u8], at: usize) -> Option<usize>
     ensures { result ≡ read_text 2 (drop at s.now) }
 {
-    let left = left_of(s, at);
+    let left = s.len().saturating_sub(at);
     if left < 2 {
-        return Text::Broken;
+        return None;
     }
-    within(left, 2, s[at] as usize * 256 + s[at + 1] as usize)
+    let n = usize::from(s[at]) * 256 + usize::from(s[at + 1]);
+    if 2 + n <= left { Some(n) } else { None }
 }
 
 // How many bytes t takes after a length of two bytes.

@@ -1,15 +1,15 @@
 -- Laws of the help of a node: its own lines, then its lists.
+use Rattle.std.specs.Prelude.{Option as Maybe, Some, None}
 use Prim.Native.Nat.{ℕ, ◌<◌, ◌≤◌}
 use mathlib.Core.Path.{◌≡◌, ap, ◌∙◌}
 use mathlib.Core.List.{List, [], ◌∷◌, ◌++◌, append_assoc, append-nil}
 use native.Mathlib.Omega.{arith}
 use lib.ListN.{length, take, drop, length-take, length-drop}
-use borrow.Author.Tests.{eq-eqb, ne_eqb}
 use types.Run.{OneOf, miss}
 use denote.Enum.Declared.{tag_of}
 use Rattle.buffer.specs.Numbers.{Bytes}
 use Rattle.image.specs.Frames.{Perhaps}
-use Rattle.image.specs.Reading.{perhaps_in, head_first, read_first, node_in, option_in, flag_in}
+use Rattle.image.specs.Reading.{span, perhaps_in, head_first, read_first, node_in, option_in, flag_in}
 use Rattle.image.specs.declared.head.Lengths.{Lengths}
 use Rattle.image.specs.declared.head.Head.{Head}
 use Rattle.image.specs.declared.head.Head.TheVariants.{Node, Option, Flag, Bad, End}
@@ -31,13 +31,18 @@ pub drop_most : (n : ℕ) (t l : List ℕ) → t ≡ drop n l → length t ≤ l
 drop_most n t l e = let k = ap length e ∙ length-drop n l in omega arith
 
 -- the line of a usage, if there is one
-pub usage_none : (n : ℕ) (s : List ℕ) → n ≡ 0xff → [] ≡ usage_line (perhaps_in n s)
+pub usage_none : (o : Maybe ℕ) (s : List ℕ) → o ≡ None → [] ≡ usage_line (perhaps_in o s)
 unfolding perhaps_in
-usage_none n s e = rw (eq-eqb n 0xff e)
+usage_none o s e = rw e
 
-pub usage_some : (n : ℕ) (s t : List ℕ) → (n ≡ 0xff → ⊥) → t ≡ take n s → ascii "Usage: " ++ t ++ ascii "\n" ≡ usage_line (perhaps_in n s)
+pub usage_some : (o : Maybe ℕ) (n : ℕ) (s t : List ℕ) → o ≡ Some n → t ≡ take n s → ascii "Usage: " ++ t ++ ascii "\n" ≡ usage_line (perhaps_in o s)
 unfolding perhaps_in
-usage_some n s t k e = rw (ne_eqb n 0xff k, e)
+usage_some o n s t k e = rw (k, e)
+
+-- how long it is
+pub usage_short : (o : Maybe ℕ) (n m : ℕ) → o ≡ Some n → span o < m → n < m
+unfolding span
+usage_short o n m k h = rw k at h
 
 -- the Rust's `join(" ")`: words each after a space are a space and the words joined
 abbrev pub joined : List ℕ → List (List ℕ) → List ℕ

@@ -1,4 +1,5 @@
 -- No command but the named one matters: two well-formed trees in which it is absent, or has the same subtree, give the same help.
+use Rattle.std.specs.Prelude.{Err, Result, Ok}
 use Prim.Native.Nat.{ℕ, ◌≤◌, min}
 use mathlib.Core.Path.{◌≡◌, refl, sym, ap, ◌∙◌}
 use mathlib.Core.Bool.{Bool, true, false, cond}
@@ -12,11 +13,10 @@ use Rattle.text.specs.Apart.{words_between}
 use Rattle.text.proofs.Prefix.{prefix_fits}
 use Rattle.tree.specs.Images.{frames_of}
 use Rattle.tree.specs.Rules.{check_tree}
-use Rattle.tree.specs.declared.check.Checked.TheVariants.{Good}
 use Rattle.tree.specs.Subtrees.{subtree}
 use Rattle.help.specs.Answer.{Reply, help_of, help_line, bytes_of, answer_by, answer_in, answer_for, leaves_by, leaves_for, Helping}
-use Rattle.help.specs.declared.call.Helped.{Helped}
-use Rattle.help.specs.declared.call.Helped.TheVariants.{LineTooLong, IllFormed}
+use Rattle.help.specs.declared.call.HelpRefusal.{HelpRefusal}
+use Rattle.help.specs.declared.call.HelpRefusal.TheVariants.{LineTooLong, IllFormed}
 
 -- a line names its first word, split on white space only, if it is neither over-long nor ill-formed and has one
 pub record Names (line word : List ℕ) : Type 0 where
@@ -50,12 +50,12 @@ module _ (image other line : List ℕ) (alike : Alike image other line) where
   short_line : ltb 1024 (length line) ≡ false → length line ≤ 1024
   short_line e = ltb-false 1024 (length line) e
 
-  module _ (good : check_tree image ≡ Good) (good₂ : check_tree other ≡ Good) where
+  module _ (good : check_tree image ≡ Ok tt) (good₂ : check_tree other ≡ Ok tt) where
     pub same_answer : (room : ℕ) → answer_for image line room ≡ answer_for other line room
     unfolding answer_for answer_in
     same_answer room =
         rw (good, good₂)
-        (choice Helped (ltb 1024 (length line)) (ltb (well_formed_length line) (length line)) _ _ _ _
+        (choice (Result ℕ HelpRefusal) (ltb 1024 (length line)) (ltb (well_formed_length line) (length line)) _ _ _ _
         (λ d e. ap (λ (x : Reply). answer_by x room) (same_help (short_line d) (whole_line e))))
 
     pub same_bytes_lem : (out : List ℕ) → leaves_for image line out ≡ leaves_for other line out
@@ -65,12 +65,12 @@ module _ (image other line : List ℕ) (alike : Alike image other line) where
         (leaves_choice (ltb 1024 (length line)) (ltb (well_formed_length line) (length line)) (λ d e. same_help (short_line d) (whole_line e)))
       where
         leaves_choice : (t u : Bool) → (t ≡ false → u ≡ false → help_line image line ≡ help_line other line)
-            → leaves_by (cond t (LineTooLong (min (length line) 65535)) (cond u (IllFormed (well_formed_length line)) (answer_by (help_line image line) (length out)))) (bytes_of (help_line image line)) out
-            ≡ leaves_by (cond t (LineTooLong (min (length line) 65535)) (cond u (IllFormed (well_formed_length line)) (answer_by (help_line other line) (length out)))) (bytes_of (help_line other line)) out
+            → leaves_by (cond t (Err (LineTooLong (min (length line) 65535))) (cond u (Err (IllFormed (well_formed_length line))) (answer_by (help_line image line) (length out)))) (bytes_of (help_line image line)) out
+            ≡ leaves_by (cond t (Err (LineTooLong (min (length line) 65535))) (cond u (Err (IllFormed (well_formed_length line))) (answer_by (help_line other line) (length out)))) (bytes_of (help_line other line)) out
         leaves_choice true u e = refl
         leaves_choice false true e = refl
         leaves_choice false false e = ap (λ (x : Reply). leaves_by (answer_by x (length out)) (bytes_of x) out) (e refl refl)
 
     -- whatever two calls answer and leave, it is the same
-    pub same_command : (out left last : List ℕ) (r q : Helped) → Helping image line out r left → Helping other line out q last → (r ≡ q) × (left ≡ last)
+    pub same_command : (out left last : List ℕ) (r q : Result ℕ HelpRefusal) → Helping image line out r left → Helping other line out q last → (r ≡ q) × (left ≡ last)
     same_command out left last r q a b = (a.answer ∙ same_answer (length out) ∙ sym b.answer, a.bytes ∙ same_bytes_lem out ∙ sym b.bytes)

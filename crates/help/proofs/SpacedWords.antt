@@ -1,32 +1,42 @@
 -- Laws of the words of a line, one after the other, each after a space.
+use Rattle.std.specs.Prelude.{Some, None, Option}
+use Rattle.std.specs.Option.{is_some}
 use Prim.Native.Nat.{ℕ, ◌+◌, ◌-◌, ◌*◌, ◌<◌, ◌≤◌}
 use mathlib.Core.Path.{◌≡◌, refl, sym, ap, ◌∙◌}
-use mathlib.Core.Bool.{true, false}
+use mathlib.Core.Bool.{Bool, true, false, not}
 use mathlib.Core.List.{List, [], ◌∷◌, ◌++◌}
 use native.Mathlib.Omega.{arith}
-use lib.ListN.{length, take, drop, length-append, length-take, length-drop}
+use lib.ListN.{length, drop, length-append, length-take, length-drop}
 use lib.Seq.{drop-drop}
-use Rattle.buffer.proofs.Lists.{drop_end}
 use Rattle.text.specs.Decoding.{Piece, pieces_of, bytes_of, bytes_all}
 use Rattle.text.specs.Apart.{run_of, after_run, words_between, word_at, next_word}
-use Rattle.text.specs.declared.apart.Word.{Word}
-use Rattle.text.specs.declared.apart.Word.TheVariants.{At, Nothing}
 use Rattle.text.proofs.Pieces.{pieces_bytes, piece_some}
 use Rattle.text.proofs.Splits.{words_next, run_splits}
 use Rattle.buffer.specs.Ascii.{ascii}
+use Rattle.buffer.specs.Lend.{between}
+use Rattle.buffer.specs.declared.lend.Span.{Span}
 use Rattle.buffer.specs.Inks.{Inked, InkedFrom, Countable}
 use Rattle.help.specs.Texts.{spaced}
+use Rattle.buffer.proofs.Choices.{true_is_not_false}
 use Rattle.buffer.proofs.Inking.{inked_nothing, inked_both, inked_as}
 
--- what the next word of a text tells
-pub record NextTold (s : List ℕ) (start end : ℕ) : Type 0 where
-  pub some : start < end
-  pub fits : end ≤ length s
-  pub words : words_between s ≡ take (end - start) (drop start s) ∷ words_between (drop end s)
+-- what the next word of a line from a place on tells
+pub record NextTold (line : List ℕ) (place : ℕ) (word : Span) : Type 0 where
+  pub after : place ≤ word.start
+  pub some : word.start < word.end
+  pub fits : word.end ≤ length line
+  pub words : words_between (drop place line) ≡ between line word.start word.end ∷ words_between (drop word.end line)
 
-next_within : (s : List ℕ) (start end : ℕ) → next_word 0 s ≡ At start end → (start < end) × (end ≤ length s)
+-- where a word lies, and where it lies if the text is taken for the beginning
+record Next (s : List ℕ) (at : ℕ) (word : Span) : Type 0 where
+  after : at ≤ word.start
+  some : word.start < word.end
+  fits : word.end ≤ at + length s
+  front : next_word 0 s ≡ Some (record { start = word.start - at; end = word.end - at })
+
+next_within : (s : List ℕ) (at : ℕ) (word : Span) → next_word at s ≡ Some word → Next s at word
 unfolding next_word bytes_all
-next_within s start end e = by (run_of false (after_run true (pieces_of s))) refl e
+next_within s at word e = by (run_of false (after_run true (pieces_of s))) refl e
   where
     before : List ℕ
     before = bytes_all (run_of true (pieces_of s))
@@ -34,35 +44,64 @@ next_within s start end e = by (run_of false (after_run true (pieces_of s))) ref
     beyond : List ℕ
     beyond = bytes_all (after_run false (after_run true (pieces_of s)))
 
-    by : (word : List Piece) → run_of false (after_run true (pieces_of s)) ≡ word → word_at (0 + length before) word ≡ At start end → (start < end) × (end ≤ length s)
+    by : (w : List Piece) → run_of false (after_run true (pieces_of s)) ≡ w → word_at (at + length before) w ≡ Some word → Next s at word
     by [] q k = absurd (let z : ◌≡◌ {A = ℕ} 0 1 = cc in omega arith)
-    by (p ∷ word) q k =
-        let a : 0 + length before ≡ start = cc in
-        let b : 0 + length before + length (bytes_all (p ∷ word)) ≡ end = cc in
-        let whole : s ≡ before ++ (bytes_all (p ∷ word) ++ beyond) =
+    by (p ∷ w) q k =
+        let whole : record { start = at + length before; end = at + length before + length (bytes_all (p ∷ w)) } ≡ word = cc in
+        let a : at + length before ≡ word.start = ap (λ (x : Span). x.start) whole in
+        let b : at + length before + length (bytes_all (p ∷ w)) ≡ word.end = ap (λ (x : Span). x.end) whole in
+        let split : s ≡ before ++ (bytes_all (p ∷ w) ++ beyond) =
         sym (pieces_bytes s) ∙ run_splits true (pieces_of s) ∙ ap (λ (l : List ℕ). before ++ l) (run_splits false (after_run true (pieces_of s)) ∙ ap (λ (w : List Piece). bytes_all w ++ beyond) q)
         in
-        let l = ap length whole ∙ length-append before (bytes_all (p ∷ word) ++ beyond) in
-        let m = length-append (bytes_all (p ∷ word)) beyond in
-        let n = length-append (bytes_of p) (bytes_all word) in
+        let l = ap length split ∙ length-append before (bytes_all (p ∷ w) ++ beyond) in
+        let m = length-append (bytes_all (p ∷ w)) beyond in
+        let n = length-append (bytes_of p) (bytes_all w) in
         let o = piece_some p in
-        (omega arith, omega arith)
+        let c : 0 + length before ≡ word.start - at = omega arith in
+        let d : 0 + length before + length (bytes_all (p ∷ w)) ≡ word.end - at = omega arith in
+        record { after = omega arith; some = omega arith; fits = omega arith; front = rw (q, ← c, ← d) refl }
 
-pub next_told : (s : List ℕ) (start end : ℕ) → next_word 0 s ≡ At start end → NextTold s start end
-next_told s start end e =
-    let w = next_within s start end e in
-    record { some = w.0; fits = w.1; words = rw e at (words_next s) }
+pub next_told : (line : List ℕ) (place : ℕ) (word : Span) → next_word place (drop place line) ≡ Some word → NextTold line place word
+next_told line place word e =
+    let w = next_within (drop place line) place word e in
+    let after = w.after in
+    let some = w.some in
+    let fits = w.fits in
+    let l = length-drop place line in
+    let a : place + (word.start - place) ≡ word.start = omega arith in
+    let b : place + (word.end - place) ≡ word.end = omega arith in
+    let n : word.end - place - (word.start - place) ≡ word.end - word.start = omega arith in
+    record {
+      after = after;
+      some = some;
+      fits = omega arith;
+      words = rw (n, drop-drop (word.start - place) place line, drop-drop (word.end - place) place line, a, b) at (rw w.front at (words_next (drop place line)));
+    }
 
-pub next_nothing : (s : List ℕ) → next_word 0 s ≡ Nothing → words_between s ≡ []
-next_nothing s e = rw e at (words_next s)
+pub next_nothing : (s : List ℕ) (at : ℕ) → next_word at s ≡ None → words_between s ≡ []
+unfolding next_word
+next_nothing s at e = rw (by (run_of false (after_run true (pieces_of s))) e) at (words_next s)
+  where
+    by : (w : List Piece) → word_at (at + length (bytes_all (run_of true (pieces_of s)))) w ≡ None → word_at (0 + length (bytes_all (run_of true (pieces_of s)))) w ≡ None
+    by [] k = refl
+    by (p ∷ w) k = absurd (let z : ◌≡◌ {A = ℕ} 0 1 = cc in omega arith)
+
+-- a line has no words, or some, by the test for a first one
+module _ (line : List ℕ) (t : Bool) where
+  pub no_words : (w : Option Span) → w ≡ next_word 0 (drop 0 line) → is_some w ≡ not t → t ≡ true → words_between line ≡ []
+  no_words None e q h = next_nothing line 0 (sym e)
+  no_words (Some word) e q h = absurd (true_is_not_false (rw h at q))
+
+  pub some_words : (w : Option Span) → w ≡ next_word 0 (drop 0 line) → is_some w ≡ not t → t ≡ false → words_between line ≡ [] → ⊥
+  some_words (Some word) e q h n = let k = (next_told line 0 word (sym e)).words in let z : ◌≡◌ {A = ℕ} 0 1 = cc (k, n) in omega arith
+  some_words None e q h n = true_is_not_false (sym (rw h at q))
 
 pub words_none : words_between [] ≡ []
-unfolding next_word
-words_none = next_nothing [] (by (next_word 0 []) refl)
+words_none = next_nothing [] 0 (by (next_word 0 []) refl)
   where
-    by : (w : Word) → next_word 0 [] ≡ w → next_word 0 [] ≡ Nothing
-    by (At start end) e = absurd (let k = next_within [] start end e in omega arith)
-    by Nothing e = e
+    by : (w : Option Span) → next_word 0 [] ≡ w → next_word 0 [] ≡ None
+    by (Some word) e = absurd (let k = next_within [] 0 word e in let a = k.after in let b = k.some in let f = k.fits in omega arith)
+    by None e = e
 
 -- a line on its way: whoever writes the words that are left has written them all
 pub record OnLine (line out₀ : List ℕ) (at : ℕ) (out : List ℕ) (place end : ℕ) : Type 0 where
@@ -83,61 +122,53 @@ module _ (line out₀ : List ℕ) (at : ℕ) where
         let w = way.within in
         record { inked = way.finish end out (inked_nothing _ out end (rw e)); most = omega arith }
 
-    pub arrives : length line ≤ place → InkedFrom line (spaced (words_between line)) out₀ at end out
-    arrives h = ends (ap words_between (drop_end line place h) ∙ words_none)
+    module _ (w : Option Span) (e : w ≡ next_word place (drop place line)) where
+      pub stops : w ≡ None → InkedFrom line (spaced (words_between line)) out₀ at end out
+      stops z = ends (next_nothing (drop place line) place (sym e ∙ z))
 
-    module _ (s : List ℕ) (lent : s ≡ drop place line) where
-      pub stops : (w : Word) → w ≡ next_word 0 s → w ≡ Nothing → InkedFrom line (spaced (words_between line)) out₀ at end out
-      stops w e z = ends (rw lent at (next_nothing s (sym e ∙ z)))
-
-      module _ (w : Word) (e : w ≡ next_word 0 s) (start stop : ℕ) (k : w ≡ At start stop) where
-        told : NextTold s start stop
-        told = next_told s start stop (sym e ∙ k)
+      module _ (word : Span) (k : w ≡ Some word) where
+        told : NextTold line place word
+        told = next_told line place word (sym e ∙ k)
 
         -- the places of a word, and how far the writer gets with it
         pub record WordHere : Type 0 where
-          pub some : start < stop
-          pub fits : place + stop ≤ length line
-          pub room : end + 1 + (stop - start) ≤ at + 64 * (place + stop)
+          pub on : place < word.end
+          pub fits : word.end ≤ length line
+          pub room : end + 1 + (word.end - word.start) ≤ at + 64 * word.end
 
         pub word_here : WordHere
         word_here =
             let t = told in
+            let after = t.after in
             let some = t.some in
-            let fits = t.fits in
-            let l = ap length lent ∙ length-drop place line in
             let m = way.most in
-            let h = way.within in
-            record { some = some; fits = omega arith; room = omega arith }
+            record { on = omega arith; fits = t.fits; room = omega arith }
 
-        word_length : (word : List ℕ) → word ≡ take (stop - start) (drop start s) → length word ≤ stop - start
-        word_length word q = let l = ap length q ∙ length-take (stop - start) (drop start s) in omega arith
+        word_length : (text : List ℕ) → text ≡ between line word.start word.end → length text ≤ word.end - word.start
+        word_length text q = let l = ap length q ∙ length-take (word.end - word.start) (drop word.start line) in omega arith
 
-        pub word_counts : (word : List ℕ) (p : ℕ) (mid : List ℕ) → word ≡ take (stop - start) (drop start s) → Inked (ascii " ") out end p mid
-            → at + 64 * length line < 4294967296 → Countable word p
+        pub word_counts : (text : List ℕ) (p : ℕ) (mid : List ℕ) → text ≡ between line word.start word.end → Inked (ascii " ") out end p mid
+            → at + 64 * length line < 4294967296 → Countable text p
         unfolding ascii
-        word_counts word p mid q a h =
-            let l = word_length word q in
+        word_counts text p mid q a h =
+            let l = word_length text q in
             let t = word_here in
             let fits = t.fits in
             let room = t.room in
             let m = a.place in
             omega arith
 
-        pub goes_on_lem : (word : List ℕ) (p : ℕ) (mid : List ℕ) (r : ℕ) (left : List ℕ) → word ≡ take (stop - start) (drop start s) → Inked (ascii " ") out end p mid → Inked word mid p r left
-            → OnLine line out₀ at left (place + stop) r
+        pub goes_on_lem : (text : List ℕ) (p : ℕ) (mid : List ℕ) (r : ℕ) (left : List ℕ) → text ≡ between line word.start word.end → Inked (ascii " ") out end p mid → Inked text mid p r left
+            → OnLine line out₀ at left word.end r
         unfolding spaced ascii
-        goes_on_lem word p mid r left q a b =
-            let l = word_length word q in
+        goes_on_lem text p mid r left q a b =
+            let l = word_length text q in
             let t = word_here in
             let room = t.room in
-            let i = inked_both (ascii " ") word out end p mid r left a b in
+            let i = inked_both (ascii " ") text out end p mid r left a b in
             let m = a.place in
             let n = b.place in
-            let beyond : drop stop s ≡ drop (place + stop) line = ap (drop stop) lent ∙ drop-drop stop place line in
-            let words : words_between (drop place line) ≡ word ∷ words_between (drop (place + stop) line) =
-            ap words_between (sym lent) ∙ told.words ∙ ap (λ (x : List ℕ). x ∷ words_between (drop stop s)) (sym q) ∙ ap (λ (x : List ℕ). word ∷ words_between x) beyond
-            in
+            let words : words_between (drop place line) ≡ text ∷ words_between (drop word.end line) = told.words ∙ ap (λ (x : List ℕ). x ∷ words_between (drop word.end line)) (sym q) in
             record {
               within = t.fits;
               size = i.size ∙ way.size;

@@ -1,11 +1,11 @@
 -- Where words lead (STANDARD 9): the first to a node of depth 0, each further one to a child of the node before.
-use Rattle.std.specs.Prelude.{ℕ, suc, ◌-◌, ◌≤◌, ◌≡◌, List, [], ◌∷◌, length, take, drop}
+use Rattle.std.specs.Prelude.{ℕ, suc, ◌≤◌, ◌≡◌, List, [], ◌∷◌, length, Ok, Err, Result}
+use Rattle.buffer.specs.Lend.{between}
+use Rattle.buffer.specs.declared.lend.Span.{Span}
 use Rattle.text.specs.Apart.{words_between}
 use Rattle.image.specs.Frames.{Frame}
 use Rattle.tree.specs.Images.{frames_of}
 use Rattle.tree.specs.Subtrees.{subtree}
-use Rattle.help.specs.declared.path.Followed.{Followed}
-use Rattle.help.specs.declared.path.Followed.TheVariants.{Found, Lost}
 
 -- to the subtree of the last word's node, or to nothing, with the first word that names none (9.12)
 pub data Led : Type 0 where
@@ -22,10 +22,6 @@ unfoldable pub followed : ℕ → List Frame → List (List ℕ) → Led
 followed d frames [] = found frames
 followed d frames (word ∷ words) = on_subtree word (subtree d word frames) (λ below. followed (suc d) below words)
 
--- the part of an image, or of a line, between two places
-abbrev pub between : List ℕ → ℕ → ℕ → List ℕ
-between s start end = take (end - start) (drop start s)
-
 -- what following the words of a line tells: the part of the image with the subtree that is found, or the part of the line with the lost word
 pub record FoundAt (image line : List ℕ) (start end : ℕ) : Type 0 where
   pub order : start ≤ end
@@ -37,6 +33,6 @@ pub record LostAt (image line : List ℕ) (start end : ℕ) : Type 0 where
   pub within : end ≤ length line
   pub leads : followed 0 (frames_of image) (words_between line) ≡ lost (between line start end)
 
-abbrev pub Follows : List ℕ → List ℕ → Followed → Type 0
-Follows image line (Found start end) = FoundAt image line start end
-Follows image line (Lost start end) = LostAt image line start end
+abbrev pub Follows : List ℕ → List ℕ → Result Span Span → Type 0
+Follows image line (Ok part) = FoundAt image line part.start part.end
+Follows image line (Err part) = LostAt image line part.start part.end

@@ -1,24 +1,21 @@
 // The call: help for the words of a line, or the first refusal in the order of the standard.
-ghost use Rattle.std.specs.Prelude.{◌≡◌, List, ℕ, ◌≤◌, length};
-ghost use Rattle.buffer.specs.Showing.{Showing};
+ghost use Rattle.std.specs.Prelude.{◌≡◌, ◌≤◌, length, Ok, Err};
 ghost use Rattle.tree.specs.Rules.{check_tree};
-ghost use Rattle.tree.specs.declared.check.Checked.TheVariants.{Good};
-ghost use Rattle.help.specs.Answer.{said, unknown, help_line, Helping};
+ghost use Rattle.help.specs.Answer.{unknown, help_line, Helping};
+ghost use Rattle.help.specs.declared.call.HelpRefusal.TheVariants.{BadTree, NoRoom};
 ghost use Rattle.help.specs.Inner.{Replied};
 ghost use Rattle.frame.specs.Limits.{line_limit};
 
-use super::path::{Followed, follow};
+use super::path::follow;
 use super::show::show_help;
-use buffer::{Shown, part};
+use buffer::TooShort;
 use frame::{LINE_LIMIT, frame_size, told_length, write_frame};
-use text::{Word, next_word, well_formed_prefix};
-use tree::{Checked, check_tree};
+use text::{next_word, well_formed_prefix};
+use tree::{BadFrame, check_tree};
 
-// What help answers.
+// Why no help is shown.
 #[derive(Clone, Copy)]
-pub enum Helped {
-    // The help stands in the buffer, so many bytes.
-    Text(usize),
+pub enum HelpRefusal {
     // The image is bad: the number of the first frame that breaks a rule.
     BadTree(usize),
     // The line has over 1,024 bytes: its length, 65,535 if more.
@@ -33,57 +30,62 @@ pub enum Helped {
     NoRoom(usize),
 }
 
-// The frame 1E with a word that is unknown.
-fn put_unknown(word: &[u8], out: &mut [u8]) -> Helped
+impl From<BadFrame> for HelpRefusal {
+    ghost from_gives = { λ bad refusal. refusal ≡ BadTree bad.number };
+
+    fn from(bad: BadFrame) -> HelpRefusal {
+        HelpRefusal::BadTree(bad.number)
+    }
+}
+
+impl From<TooShort> for HelpRefusal {
+    ghost from_gives = { λ short refusal. refusal ≡ NoRoom short.needed };
+
+    fn from(short: TooShort) -> HelpRefusal {
+        HelpRefusal::NoRoom(short.needed)
+    }
+}
+
+// The refusal of a word that is unknown, with the frame 1E of it.
+fn put_unknown(word: &[u8], out: &mut [u8]) -> HelpRefusal
     requires { length word.now ≤ line_limit }
-    ensures { Replied (unknown word.now) out.old result out.new }
+    ensures { Replied (unknown word.now) out.old (Err result) out.new }
 {
     let needed = frame_size(word);
     if out.len() < needed {
-        return Helped::NoRoom(needed);
+        return HelpRefusal::NoRoom(needed);
     }
-    Helped::UnknownCommand(write_frame(0x1E, word, out))
-}
-
-// What showing the help of a node answers here.
-fn shown(answer: Shown) -> Helped
-    ensures { (text out left : List ℕ) → Showing text out answer left → Replied (said text) out result left }
-{
-    match answer {
-        Shown::Text(n) => Helped::Text(n),
-        Shown::NoRoom(n) => Helped::NoRoom(n),
-    }
+    HelpRefusal::UnknownCommand(write_frame(0x1E, word, out))
 }
 
 // The reply to the words of a line.
-fn reply(image: &[u8], line: &[u8], out: &mut [u8]) -> Helped
-    requires { (check_tree image.now ≡ Good) × (length line.now ≤ line_limit) }
+fn reply(image: &[u8], line: &[u8], out: &mut [u8]) -> Result<usize, HelpRefusal>
+    requires { (check_tree image.now ≡ Ok tt) × (length line.now ≤ line_limit) }
     ensures { Replied (help_line image.now line.now) out.old result out.new }
 {
-    let Word::At { start: _, end: _ } = next_word(line, 0) else {
-        return Helped::NoWords;
-    };
+    if next_word(line, 0).is_none() {
+        return Err(HelpRefusal::NoWords);
+    }
     match follow(image, line) {
-        Followed::Found { start, end } => {
-            shown(show_help(part(image, start, end - start), line, out))
+        Ok(node) => {
+            let length = show_help(node.of(image), line, out)?;
+            Ok(length)
         }
-        Followed::Lost { start, end } => put_unknown(part(line, start, end - start), out),
+        Err(word) => Err(put_unknown(word.of(line), out)),
     }
 }
 
 // The help for the words of a line, split on white space only, at the front of out.
-pub fn help(image: &[u8], line: &[u8], out: &mut [u8]) -> Helped
+pub fn help(image: &[u8], line: &[u8], out: &mut [u8]) -> Result<usize, HelpRefusal>
     ensures { Helping image.now line.now out.old result out.new }
 {
-    if let Checked::BadFrame(n) = check_tree(image) {
-        return Helped::BadTree(n);
-    }
+    check_tree(image)?;
     if LINE_LIMIT < line.len() {
-        return Helped::LineTooLong(told_length(line.len()));
+        return Err(HelpRefusal::LineTooLong(told_length(line.len())));
     }
     let place = well_formed_prefix(line);
     if place < line.len() {
-        return Helped::IllFormed(place);
+        return Err(HelpRefusal::IllFormed(place));
     }
     reply(image, line, out)
 }

@@ -7,6 +7,6 @@ mod path;
 mod show;
 mod word;
 
-pub use call::{Helped, help};
-pub use path::{Followed, follow};
+pub use call::{HelpRefusal, help};
+pub use path::follow;
 pub use show::{show_available_commands, show_help};

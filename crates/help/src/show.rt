@@ -1,6 +1,6 @@
 // The Rust's `show_help` and `show_available_commands`: each text is measured, then written if there is room.
 ghost use Rattle.std.specs.Prelude.{◌≡◌, ◌+◌, ◌≤◌, ◌<◌, length, drop};
-ghost use Rattle.image.specs.Reading.{Small, perhaps_in};
+ghost use Rattle.image.specs.Reading.{Small, span, perhaps_in};
 ghost use Rattle.text.specs.Apart.{words_between};
 ghost use Rattle.tree.specs.Images.{frames_of};
 ghost use Rattle.buffer.specs.Inks.{Inked};
@@ -11,18 +11,18 @@ ghost use Rattle.frame.specs.Limits.{line_limit};
 ghost use Rattle.tree.specs.Rules.{image_limit};
 
 use super::word::put_words;
-use buffer::{Shown, part, put, rest};
+use buffer::{TooShort, part, put, rest, show_by};
 use image::{Head, Lengths, head_of};
 use rows::{Listing, put_rows, put_titled};
 
-// The usage of a node on a line of its own, if it has one: n is its length byte, `from` the place after that.
-fn put_usage(s: &[u8], from: usize, n: usize, out: &mut [u8], at: usize) -> usize
-    requires { (n < 256) × (at < 4294000000) }
-    ensures { Inked (usage_line (perhaps_in n (drop «from» s.now))) out.old at result out.new × (result ≤ at + 263) }
+// The usage of a node on a line of its own, if it has one: its length, and `from` its place.
+fn put_usage(s: &[u8], from: usize, length: Option<usize>, out: &mut [u8], at: usize) -> usize
+    requires { (span «length» < 256) × (at < 4294000000) }
+    ensures { Inked (usage_line (perhaps_in «length» (drop «from» s.now))) out.old at result out.new × (result ≤ at + 263) }
 {
-    if n == 255 {
+    let Some(n) = length else {
         return at;
-    }
+    };
     let usage = put(b"Usage: ", out, at);
     let end = put(part(s, from, n), out, usage);
     put(b"\n", out, end)
@@ -81,24 +81,12 @@ fn put_help(frames: &[u8], line: &[u8], out: &mut [u8]) -> usize
     put_lists(rest(frames, texts.size), depth, out, at)
 }
 
-fn help_size(frames: &[u8], line: &[u8]) -> usize
-    requires { (length frames.now ≤ image_limit) × (length line.now ≤ line_limit) }
-    ensures { result ≡ length (help_text (words_between line.now) (frames_of frames.now)) }
-{
-    let mut none = [0; 1];
-    put_help(frames, line, &mut none[..0])
-}
-
 // The help of the node that a subtree's frames begin with, under the words of a line that lead to it.
-pub fn show_help(frames: &[u8], line: &[u8], out: &mut [u8]) -> Shown
+pub fn show_help(frames: &[u8], line: &[u8], out: &mut [u8]) -> Result<usize, TooShort>
     requires { (length frames.now ≤ image_limit) × (length line.now ≤ line_limit) }
     ensures { Showing (help_text (words_between line.now) (frames_of frames.now)) out.old result out.new }
 {
-    let needed = help_size(frames, line);
-    if out.len() < needed {
-        return Shown::NoRoom(needed);
-    }
-    Shown::Text(put_help(frames, line, out))
+    show_by(|out| put_help(frames, line, out), out)
 }
 
 // All commands of an image with their children, between the fixed lines.
@@ -115,22 +103,10 @@ fn put_available(image: &[u8], out: &mut [u8]) -> usize
     )
 }
 
-fn available_size(image: &[u8]) -> usize
-    requires { length image.now ≤ image_limit }
-    ensures { result ≡ length (available_text (frames_of image.now)) }
-{
-    let mut none = [0; 1];
-    put_available(image, &mut none[..0])
-}
-
 // The list of all commands of an image.
-pub fn show_available_commands(image: &[u8], out: &mut [u8]) -> Shown
+pub fn show_available_commands(image: &[u8], out: &mut [u8]) -> Result<usize, TooShort>
     requires { length image.now ≤ image_limit }
     ensures { Showing (available_text (frames_of image.now)) out.old result out.new }
 {
-    let needed = available_size(image);
-    if out.len() < needed {
-        return Shown::NoRoom(needed);
-    }
-    Shown::Text(put_available(image, out))
+    show_by(|out| put_available(image, out), out)
 }

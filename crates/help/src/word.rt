@@ -4,8 +4,8 @@ ghost use Rattle.text.specs.Apart.{words_between};
 ghost use Rattle.buffer.specs.Inks.{InkedFrom, count_limit};
 ghost use Rattle.help.specs.Texts.{spaced};
 
-use buffer::{part, put, rest};
-use text::{Word, next_word};
+use buffer::put;
+use text::next_word;
 
 // The words of a line, each after a space.
 pub fn put_words(line: &[u8], out: &mut [u8], at: usize) -> usize
@@ -14,14 +14,10 @@ pub fn put_words(line: &[u8], out: &mut [u8], at: usize) -> usize
 {
     let mut place = 0;
     let mut end = at;
-    while place < line.len() {
-        let s = rest(line, place);
-        let Word::At { start, end: stop } = next_word(s, 0) else {
-            return end;
-        };
+    while let Some(word) = next_word(line, place) {
         let space = put(b" ", out, end);
-        end = put(part(s, start, stop - start), out, space);
-        place += stop;
+        end = put(word.of(line), out, space);
+        place = word.end;
     }
     end
 }

@@ -1,4 +1,5 @@
 -- Laws of where a history begins: an add writes one slot and no other, and what it answers and what the entries are after it do not depend on where they lie.
+use Rattle.std.specs.Prelude.{Ok, Err, Result, ⊤}
 use Prim.Native.Nat.{ℕ, ◌+◌, ◌*◌, ◌<◌, ◌≤◌}
 use mathlib.Core.Path.{◌≡◌, refl, sym, ap, ◌∙◌}
 use mathlib.Core.Bool.{Bool, true, false, cond}
@@ -16,8 +17,8 @@ use Rattle.history.specs.Slots.{slot_after, slot, turned, layout, slot_at, Chang
 use Rattle.history.specs.Journal.{Journal, count, entry_of, first_after, offered, Alike, slots_of, journal_of, good}
 use Rattle.history.specs.Answer.{add_answer, slots_by, Addition}
 use Rattle.history.specs.declared.stepping.History.{History}
-use Rattle.history.specs.declared.adding.Added.{Added}
-use Rattle.history.specs.declared.adding.Added.TheVariants.{Done, BadState, TooLong, IllFormed}
+use Rattle.history.specs.declared.adding.AddRefusal.{AddRefusal}
+use Rattle.history.specs.declared.adding.AddRefusal.TheVariants.{BadState, TooLong, IllFormed}
 use Rattle.history.proofs.Turned.{after_below, slot_turned}
 use Rattle.history.proofs.Layouts.{length_slot, length_layout, layout_turned, layout_more, in_order_slot, in_order_unused}
 use Rattle.history.proofs.States.{full_layout}
@@ -99,15 +100,15 @@ offered_changes text j f l = by (is_new text j.entries) (ltb (count j) 100) refl
         written
 
 -- an add, whatever it answers
-module _ (h : History) (slots text : List ℕ) (r : History) (told : Added) (left : List ℕ) (a : Addition h slots text r told left) where
+module _ (h : History) (slots text : List ℕ) (r : History) (told : Result ⊤ AddRefusal) (left : List ℕ) (a : Addition h slots text r told left) where
   pub add_changes : ChangesOnly (slot_after h.first h.count) slots left
   add_changes = by (add_answer (good h slots) text) refl a.bytes
     where
       at : ℕ
       at = slot_after h.first h.count
 
-      by : (x : Added) → add_answer (good h slots) text ≡ x → left ≡ slots_by x slots (offered text (journal_of h slots)) → ChangesOnly at slots left
-      by Done d e =
+      by : (x : Result ⊤ AddRefusal) → add_answer (good h slots) text ≡ x → left ≡ slots_by x slots (offered text (journal_of h slots)) → ChangesOnly at slots left
+      by (Ok u) d e =
           let t = done_has h slots text d in
           let j : Journal = journal_of h slots in
           let same : slot_after j.first (count j) ≡ at =
@@ -115,9 +116,9 @@ module _ (h : History) (slots text : List ℕ) (r : History) (told : Added) (lef
           in
           let c = offered_changes text j (good_fair h slots t.is_good_lem) t.short in
           rw (same, slots_held h slots t.is_good_lem, sym e) at c
-      by BadState d e = changes_none at slots left e
-      by (TooLong n) d e = changes_none at slots left e
-      by (IllFormed n) d e = changes_none at slots left e
+      by (Err BadState) d e = changes_none at slots left e
+      by (Err (TooLong n)) d e = changes_none at slots left e
+      by (Err (IllFormed n)) d e = changes_none at slots left e
 
 -- entries and place after a text was offered are the same wherever the entries lie
 pub offered_alike : (text : List ℕ) (j k : Journal) → Alike j k → Alike (offered text j) (offered text k)
@@ -129,7 +130,7 @@ offered_alike text j k a =
 
 -- two good states whose histories have the same entries and place: the same answer, and two such histories after it
 pub add_alike : (h : History) (slots : List ℕ) (h₂ : History) (slots₂ : List ℕ) → good h slots ≡ true → good h₂ slots₂ ≡ true → Alike (journal_of h slots) (journal_of h₂ slots₂)
-    → (text : List ℕ) (r r₂ : History) (told told₂ : Added) (left left₂ : List ℕ) → Addition h slots text r told left → Addition h₂ slots₂ text r₂ told₂ left₂
+    → (text : List ℕ) (r r₂ : History) (told told₂ : Result ⊤ AddRefusal) (left left₂ : List ℕ) → Addition h slots text r told left → Addition h₂ slots₂ text r₂ told₂ left₂
     → (told₂ ≡ told) × Alike (journal_of r left) (journal_of r₂ left₂)
 add_alike h slots h₂ slots₂ g g₂ a text r r₂ told told₂ left left₂ p q =
     (answer, rw (add_leaves h slots text r told left p, add_leaves h₂ slots₂ text r₂ told₂ left₂ q, answer) (by (is_done told)))

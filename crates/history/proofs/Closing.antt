@@ -1,17 +1,14 @@
 -- Laws of slots that close up: a slot copied over another, slots moved down in the order of the entries, zeros in those that are free then, and that this is the buffer without the entries
 -- that were cut out.
 use Prim.Native.Nat.{ℕ, ◌+◌, ◌-◌, ◌*◌, ◌<◌, ◌≤◌}
-use mathlib.Core.Path.{◌≡◌, refl, sym, ap, ◌∙◌}
-use mathlib.Core.Bool.{Bool, true, false}
-use mathlib.Core.List.{List, [], ◌∷◌, ◌++◌, append_assoc}
+use mathlib.Core.Path.{◌≡◌, sym, ap, ◌∙◌}
+use mathlib.Core.List.{List, ◌++◌, append_assoc}
 use native.Mathlib.Omega.{arith}
-use native.Mathlib.Numerals.{add-one}
-use lib.Dec.{ltb}
-use lib.ListN.{length, take, drop, set, get_or, length-append, length-drop, take-append-drop}
-use lib.Seq.{take_at, drop_at, take-add, take-suc, take_all, drop-drop, length-take-le, get_or-take, get_or-drop}
-use borrow.Author.Tests.{ltb-true, ltb-false}
+use lib.ListN.{length, take, drop, length-append, length-drop, take-append-drop}
+use lib.Seq.{take_at, drop_at, take-add, drop-drop, length-take-le}
+use Rattle.std.specs.List.{copy_within}
 use Rattle.buffer.proofs.Zeros.{length_zeros}
-use Rattle.buffer.proofs.Lending.{length_over_at, over_at_nothing, over_at_byte, over_at_both, over_at_under, over_at_past}
+use Rattle.buffer.proofs.Lending.{over_at_nothing, over_at_both, over_at_past}
 use Rattle.buffer.specs.Write.{over, over_at}
 use Rattle.buffer.specs.Lend.{zeros}
 use Rattle.history.specs.Slots.{slot_after, run, in_order, turned, layout, slot_at}
@@ -29,49 +26,16 @@ length_slot_at n s h l = length-take-le 256 (drop (256 * n) s) (let d = length-d
 pub none_copied : (n : ℕ) (x d : List ℕ) (o : ℕ) → n ≡ 0 → d ≡ over_at (take n x) d o
 none_copied n x d o e = sym (ap (λ (k : ℕ). over_at (take k x) d o) e ∙ over_at_nothing d o)
 
--- from slot a to slot b: the byte that is read next has not been written, whichever slot lies first
-module _ (d t : List ℕ) (a b i : ℕ) (size : length d ≡ 25600) (low : a < 100) (high : b < 100) (within : i < 256) (so : t ≡ over_at (take i (slot_at a d)) d (256 * b)) where
-  copied : length (take i (slot_at a d)) ≡ i
-  copied = length-take-le i (slot_at a d) (let n = length_slot_at a d low size in omega arith)
-
-  unwritten : get_or t (256 * a + i) 0 ≡ get_or d (256 * a + i) 0
-  unwritten = ap (λ (s : List ℕ). get_or s (256 * a + i) 0) so ∙ by (ltb a b) refl
-    where
-      by : (x : Bool) → ltb a b ≡ x → get_or (over_at (take i (slot_at a d)) d (256 * b)) (256 * a + i) 0 ≡ get_or d (256 * a + i) 0
-      by true e =
-          let l = ltb-true a b e in
-          over_at_under (take i (slot_at a d)) d (256 * b) (256 * a + i) (omega arith) (omega arith)
-      by false e =
-          let l = ltb-false a b e in
-          let c = copied in
-          let p : ℕ = 256 * a + i in
-          let back : p + 0 ≡ p = omega arith in
-          let kept = over_at_past (take i (slot_at a d)) d (256 * b) p (omega arith) (omega arith) in
-          ap (λ (n : ℕ). get_or (over_at (take i (slot_at a d)) d (256 * b)) n 0) (sym back)
-          ∙ sym (get_or-drop p (over_at (take i (slot_at a d)) d (256 * b)) 0 0)
-          ∙ ap (λ (s : List ℕ). get_or s 0 0) kept
-          ∙ get_or-drop p d 0 0
-          ∙ ap (λ (n : ℕ). get_or d n 0) back
-
-  next_byte : get_or t (256 * a + i) 0 ≡ get_or (slot_at a d) i 0
-  unfolding slot_at
-  next_byte = unwritten ∙ sym (get_or-take 256 (drop (256 * a) d) i 0 within ∙ get_or-drop (256 * a) d i 0)
-
-  pub copy_turn : set t (256 * b + i) (get_or t (256 * a + i) 0) ≡ over_at (take (i + 1) (slot_at a d)) d (256 * b)
-  copy_turn =
-      let c = copied in
-      let n = length_slot_at a d low size in
-      let place : 256 * b + i ≡ 256 * b + length (take i (slot_at a d)) = omega arith in
-      let whole : length t ≡ 25600 = ap length so ∙ length_over_at (take i (slot_at a d)) d (256 * b) (omega arith) ∙ size in
-      over_at_byte t (256 * b + i) (get_or t (256 * a + i) 0) (omega arith)
-      ∙ ap (λ (x : ℕ). over_at (x ∷ []) t (256 * b + i)) next_byte
-      ∙ ap (λ (s : List ℕ). over_at (get_or (slot_at a d) i 0 ∷ []) s (256 * b + i)) so
-      ∙ ap (over_at (get_or (slot_at a d) i 0 ∷ []) (over_at (take i (slot_at a d)) d (256 * b))) place
-      ∙ over_at_both (take i (slot_at a d)) (get_or (slot_at a d) i 0 ∷ []) d (256 * b) (omega arith)
-      ∙ ap (λ (x : List ℕ). over_at x d (256 * b)) (sym (take-suc (slot_at a d) i 0 (omega arith)) ∙ ap (λ (n : ℕ). take n (slot_at a d)) (sym (add-one i)))
-
-pub copy_end : (x d : List ℕ) (o i : ℕ) → length x ≡ 256 → 256 ≤ i → over_at (take i x) d o ≡ over_at x d o
-copy_end x d o i l h = ap (λ (y : List ℕ). over_at y d o) (take_all i x (omega arith))
+-- a slot copied to a place
+pub slot_copied : (d : List ℕ) (a o : ℕ) → length d ≡ 25600 → a < 100 → copy_within d (256 * a) (256 * a + 256) o ≡ over_at (slot_at a d) d o
+unfolding over over_at slot_at
+slot_copied d a o size low =
+    let from : ℕ = 256 * a in
+    let n : from + 256 - from ≡ 256 = omega arith in
+    let whole : length (take 256 (drop from d)) ≡ 256 = length_slot_at a d low size in
+    append_assoc (take o d) (take (from + 256 - from) (drop from d)) (drop (o + (from + 256 - from)) d)
+    ∙ ap (λ (k : ℕ). take o d ++ (take k (drop from d) ++ drop (o + k) d)) n
+    ∙ ap (λ (l : List ℕ). take o d ++ (take 256 (drop from d) ++ l)) (sym (ap (λ (k : ℕ). drop k (drop o d)) whole ∙ drop-drop 256 o d))
 
 -- slots in the order of the entries: those from one number on that have moved down to another, and zeros that were written
 module _ (f : ℕ) (v : List ℕ) (low : f < 100) (size : length v ≡ 25600) where

@@ -1,11 +1,12 @@
 -- Worked examples of forgetting: entries named by one byte, a, b and c.
+use Rattle.std.specs.Prelude.{Ok, Err}
 use Prim.Native.Nat.{ℕ}
 use mathlib.Core.Path.{◌≡◌, refl}
 use mathlib.Core.Bool.{true, false}
 use mathlib.Core.List.{List, [], ◌∷◌}
 use Rattle.buffer.specs.Compare.{same_bytes}
 use Rattle.history.specs.Forgotten.{without, repeats, remaining, gone, forget_answer}
-use Rattle.history.specs.declared.forgetting.Forgot.TheVariants.{Gone, BadState, NoEntry}
+use Rattle.history.specs.declared.forgetting.ForgetRefusal.TheVariants.{BadState, NoEntry}
 
 abbrev a : List ℕ
 a = 0x61 ∷ []
@@ -48,18 +49,18 @@ unfolding remaining repeats without same_bytes
 ends = refl
 
 -- what is answered
-two : forget_answer true 1 (a ∷ b ∷ a ∷ []) ≡ Gone 2
+two : forget_answer true 1 (a ∷ b ∷ a ∷ []) ≡ Ok 2
 unfolding forget_answer gone repeats without same_bytes
 two = refl
 
-one : forget_answer true 0 (a ∷ b ∷ a ∷ []) ≡ Gone 1
+one : forget_answer true 0 (a ∷ b ∷ a ∷ []) ≡ Ok 1
 unfolding forget_answer gone repeats without same_bytes
 one = refl
 
-past : forget_answer true 3 (a ∷ b ∷ a ∷ []) ≡ NoEntry 3
+past : forget_answer true 3 (a ∷ b ∷ a ∷ []) ≡ Err (NoEntry 3)
 unfolding forget_answer
 past = refl
 
-bad : forget_answer false 3 (a ∷ b ∷ a ∷ []) ≡ BadState
+bad : forget_answer false 3 (a ∷ b ∷ a ∷ []) ≡ Err BadState
 unfolding forget_answer
 bad = refl

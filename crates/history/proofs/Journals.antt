@@ -1,4 +1,5 @@
 -- Laws of a history as one value: who holds one that keeps the rules is good, and holds just what it says, its total among it; offering a text and a step keep the rules.
+use Rattle.std.specs.Prelude.{Some, None}
 use Prim.Native.Nat.{ℕ, zero, suc, ◌+◌, ◌-◌, ◌<◌, ◌≤◌}
 use mathlib.Core.Path.{◌≡◌, refl, sym, ap, ◌∙◌}
 use mathlib.Core.Bool.{Bool, true, false, cond}
@@ -18,7 +19,6 @@ use Rattle.history.specs.Journal.{Journal, no_entries, count, entry_of, first_af
 use Rattle.history.specs.Steps.{placed_at, back, recalled_at, onward}
 use Rattle.history.specs.Saved.{Fits}
 use Rattle.history.specs.declared.stepping.History.{History}
-use Rattle.history.specs.declared.stepping.Recalled.TheVariants.{Entry, Nothing}
 use Rattle.history.specs.declared.stepping.Step.{Step}
 use Rattle.history.proofs.Turned.{after_below, length_entries}
 use Rattle.history.proofs.Layouts.{none, length_layout, entries_layout, no_entries_lem}
@@ -196,7 +196,7 @@ back_good h slots g = by (eqb h.place 0)
     placed : h.place ≤ h.count
     placed = (good_has h slots g).placed
 
-    by : (t : Bool) → let r : Step = cond t (record { history = h; recalled = Nothing }) (record { history = placed_at h (h.place - 1); recalled = Entry (h.place - 1) }) in good r.history slots ≡ true
+    by : (t : Bool) → let r : Step = cond t (record { history = h; recalled = None }) (record { history = placed_at h (h.place - 1); recalled = Some (h.place - 1) }) in good r.history slots ≡ true
     by true = g
     by false = placed_good h slots (h.place - 1) g (let p = placed in omega arith)
 
@@ -204,6 +204,6 @@ pub onward_good : (h : History) (slots : List ℕ) → good h slots ≡ true →
 unfolding onward
 onward_good h slots g = by (ltb h.place h.count) refl
   where
-    by : (t : Bool) → ltb h.place h.count ≡ t → let r : Step = cond t (record { history = placed_at h (h.place + 1); recalled = recalled_at h.count (h.place + 1) }) (record { history = h; recalled = Nothing }) in good r.history slots ≡ true
+    by : (t : Bool) → ltb h.place h.count ≡ t → let r : Step = cond t (record { history = placed_at h (h.place + 1); recalled = recalled_at h.count (h.place + 1) }) (record { history = h; recalled = None }) in good r.history slots ≡ true
     by true q = placed_good h slots (h.place + 1) g (let l = ltb-true h.place h.count q in omega arith)
     by false q = g

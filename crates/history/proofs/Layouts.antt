@@ -3,11 +3,12 @@ use Prim.Native.Nat.{ℕ, zero, suc, ◌+◌, ◌-◌, ◌*◌, ◌%◌, ◌<◌
 use mathlib.Core.Path.{◌≡◌, refl, sym, ap, ◌∙◌}
 use mathlib.Core.List.{List, [], ◌∷◌, ◌++◌, append_assoc, append-nil}
 use native.Mathlib.Omega.{arith}
-use lib.ListN.{length, take, drop, set, get_or, replicate, length-append, replicate-append-replicate}
-use lib.Seq.{take_at, drop_at, drop-drop, take-append_seam, get_or-take, get_or-drop}
+use lib.ListN.{length, take, drop, get_or, replicate, length-append, length-drop, length-replicate, replicate-append-replicate}
+use lib.Seq.{take_at, drop_at, drop-drop, take-append_seam, length-take-le, get_or-take, get_or-drop}
+use borrow.Rule.Slice.PartMut.{put_mid}
 use Rattle.buffer.proofs.Lists.{drop_end}
 use Rattle.buffer.proofs.Zeros.{length_zeros, drop_zeros}
-use Rattle.buffer.proofs.Lending.{length_over_at, over_at_front, over_at_nothing, over_at_byte, over_at_both}
+use Rattle.buffer.proofs.Lending.{length_over_at, over_at_front, over_at_nothing, over_at_both}
 use Rattle.buffer.proofs.Writing.{pushed_both}
 use Rattle.buffer.specs.Write.{over, over_at, Pushed}
 use Rattle.buffer.specs.Lend.{zeros}
@@ -284,26 +285,19 @@ oldest_length f (e ∷ es) l h k =
     let here : (f + 100) % 100 ≡ (f + 0) % 100 = omega arith in
     ap (λ (i : ℕ). get_or (layout f (e ∷ es)) (256 * i) 0) here ∙ first_of f 0 (e ∷ es) l (omega arith) h (omega arith)
 
--- clearing in progress: nothing is cleared yet, then all from a place up to i
+-- clearing in progress: nothing is cleared yet
 pub none_cleared : (n : ℕ) (d : List ℕ) (at : ℕ) → n ≡ 0 → d ≡ over_at (zeros n) d at
 unfolding zeros
 none_cleared n d at e = sym (ap (λ (k : ℕ). over_at (replicate k 0) d at) e ∙ over_at_nothing d at)
 
-zeros_more : (n : ℕ) → zeros n ++ (0 ∷ []) ≡ zeros (n + 1)
-unfolding zeros
-zeros_more n = zeros_both n 1
-
-pub clear_turn : (d t : List ℕ) (at i : ℕ) → at ≤ i → i < length d → t ≡ over_at (zeros (i - at)) d at → set t i 0 ≡ over_at (zeros (i + 1 - at)) d at
-clear_turn d t at i h k e =
-    let n = length_zeros (i - at) in
-    let place : i ≡ at + length (zeros (i - at)) = omega arith in
-    let more : i - at + 1 ≡ i + 1 - at = omega arith in
-    let size : length t ≡ length d = ap length e ∙ length_over_at (zeros (i - at)) d at (omega arith) in
-    over_at_byte t i 0 (omega arith)
-    ∙ ap (λ (l : List ℕ). over_at (0 ∷ []) l i) e
-    ∙ ap (over_at (0 ∷ []) (over_at (zeros (i - at)) d at)) place
-    ∙ over_at_both (zeros (i - at)) (0 ∷ []) d at (omega arith)
-    ∙ ap (λ (l : List ℕ). over_at l d at) (zeros_more (i - at) ∙ ap zeros more)
+-- a part that was filled with zeros
+pub part_filled : (d part : List ℕ) (at n : ℕ) → at + n ≤ length d → part ≡ replicate (length (take n (drop at d))) 0 → put_mid at n d part ≡ over_at (zeros n) d at
+unfolding over over_at zeros
+part_filled d part at n h e =
+    let size : length (take n (drop at d)) ≡ n = let k = length-drop at d in length-take-le n (drop at d) (omega arith) in
+    let z : length (replicate {A = ℕ} n 0) ≡ n = length-replicate {A = ℕ} n 0 in
+    ap (λ (l : List ℕ). take at d ++ (l ++ drop n (drop at d))) (e ∙ ap (λ (k : ℕ). replicate k 0) size)
+    ∙ ap (λ (k : ℕ). take at d ++ (replicate n 0 ++ drop k (drop at d))) (sym z)
 
 -- slots that are all zeros hold no entry
 pub no_entries_lem : layout 0 [] ≡ zeros 25600

@@ -1,5 +1,6 @@
 -- Laws of the bytes that are saved of a history: what was saved is read back, nothing in the bytes is lost, and what is restored is good.
-use Prim.Native.Nat.{ℕ, ◌+◌, ◌*◌, ◌/◌, ◌%◌}
+use Rattle.std.specs.Prelude.{Some, None}
+use Prim.Native.Nat.{ℕ, ◌≤◌, ◌+◌, ◌*◌, ◌/◌, ◌%◌}
 use mathlib.Core.Path.{◌≡◌, refl, sym, ap, ◌∙◌}
 use mathlib.Core.Bool.{Bool, true, false}
 use mathlib.Core.List.{List, [], ◌∷◌, ◌++◌}
@@ -14,7 +15,6 @@ use Rattle.buffer.specs.Numbers.{Bytes, number_bytes, number_of}
 use Rattle.history.specs.Journal.{good}
 use Rattle.history.specs.Saved.{saved_size, saved_of, saved_in, is_saved, restored}
 use Rattle.history.specs.declared.stepping.History.{History}
-use Rattle.history.specs.declared.saving.Restored.TheVariants.{Good, Bad}
 use Rattle.history.proofs.Steps.{same_numbers}
 use Rattle.history.proofs.States.{holds}
 
@@ -23,9 +23,14 @@ unfolding saved_of saved_size
 length_saved h = let n = length_number 2 h.total in let a = length-append (number_bytes 2 h.total) (h.first ∷ []) in omega arith
 
 -- the total's bytes as the code makes them
-pub saved_bytes : (h : History) → h.count ∷ h.place ∷ h.total / 256 ∷ h.total % 256 ∷ h.first ∷ [] ≡ saved_of h
+pub saved_bytes : (h : History) (two : List ℕ) → h.total ≤ 65535 → two ≡ h.total / 256 % 256 ∷ h.total % 256 ∷ []
+    → h.count ∷ h.place ∷ get_or two 0 0 ∷ get_or two 1 0 ∷ h.first ∷ [] ≡ saved_of h
 unfolding saved_of
-saved_bytes h = ap (λ (l : List ℕ). h.count ∷ h.place ∷ (l ++ (h.first ∷ []))) (sym (number_two h.total))
+saved_bytes h two fits q =
+    let high : h.total / 256 % 256 ≡ h.total / 256 = omega arith in
+    ap (λ (l : List ℕ). h.count ∷ h.place ∷ get_or l 0 0 ∷ get_or l 1 0 ∷ h.first ∷ []) q
+    ∙ ap (λ (b : ℕ). h.count ∷ h.place ∷ b ∷ h.total % 256 ∷ h.first ∷ []) high
+    ∙ ap (λ (l : List ℕ). h.count ∷ h.place ∷ (l ++ (h.first ∷ []))) (sym (number_two h.total))
 
 pub saved_in_lem : (h : History) → saved_in (saved_of h) ≡ h
 unfolding saved_in saved_of
@@ -75,54 +80,54 @@ pub saved_is : (h : History) (slots : List ℕ) → is_saved (saved_of h) slots 
 saved_is h slots = right_form (saved_of h) slots (ap saved_of (saved_in_lem h)) ∙ ap (λ (x : History). good x slots) (saved_in_lem h)
 
 -- what is restored
-pub restored_is : (bytes slots : List ℕ) → is_saved bytes slots ≡ true → restored bytes slots ≡ Good (saved_in bytes)
+pub restored_is : (bytes slots : List ℕ) → is_saved bytes slots ≡ true → restored bytes slots ≡ Some (saved_in bytes)
 unfolding restored
 restored_is bytes slots h = then_is _ _ _ h
 
-pub restored_not : (bytes slots : List ℕ) → is_saved bytes slots ≡ false → restored bytes slots ≡ Bad
+pub restored_not : (bytes slots : List ℕ) → is_saved bytes slots ≡ false → restored bytes slots ≡ None
 unfolding restored
 restored_not bytes slots h = else_is _ _ _ h
 
 -- a good history that was saved is restored, and what is restored is good
-pub restored_saved : (h : History) (slots : List ℕ) → good h slots ≡ true → restored (saved_of h) slots ≡ Good h
-restored_saved h slots g = restored_is (saved_of h) slots (saved_is h slots ∙ g) ∙ ap Good (saved_in_lem h)
+pub restored_saved : (h : History) (slots : List ℕ) → good h slots ≡ true → restored (saved_of h) slots ≡ Some h
+restored_saved h slots g = restored_is (saved_of h) slots (saved_is h slots ∙ g) ∙ ap Some (saved_in_lem h)
 
 pub record Back (h : History) (bytes slots : List ℕ) : Type 0 where
   pub is : is_saved bytes slots ≡ true
   pub held : h ≡ saved_in bytes
 
-pub good_back : (bytes slots : List ℕ) (h : History) → restored bytes slots ≡ Good h → Back h bytes slots
+pub good_back : (bytes slots : List ℕ) (h : History) → restored bytes slots ≡ Some h → Back h bytes slots
 good_back bytes slots h q = by (is_saved bytes slots) refl
   where
     by : (t : Bool) → is_saved bytes slots ≡ t → Back h bytes slots
     by true p = record { is = p; held = inside (sym q ∙ restored_is bytes slots p) }
       where
-        inside : {a b : History} → Good a ≡ Good b → a ≡ b
+        inside : {a b : History} → Some a ≡ Some b → a ≡ b
         inside e = cc
-    by false p = absurd (let e : Good h ≡ Bad = sym q ∙ restored_not bytes slots p in let z : ◌≡◌ {A = ℕ} 0 1 = cc in omega arith)
+    by false p = absurd (let e : Some h ≡ None = sym q ∙ restored_not bytes slots p in let z : ◌≡◌ {A = ℕ} 0 1 = cc in omega arith)
 
-pub bad_back : (bytes slots : List ℕ) → restored bytes slots ≡ Bad → is_saved bytes slots ≡ false
+pub bad_back : (bytes slots : List ℕ) → restored bytes slots ≡ None → is_saved bytes slots ≡ false
 bad_back bytes slots q = by (is_saved bytes slots) refl
   where
     by : (t : Bool) → is_saved bytes slots ≡ t → t ≡ false
-    by true p = absurd (let e : Good (saved_in bytes) ≡ Bad = sym (restored_is bytes slots p) ∙ q in let z : ◌≡◌ {A = ℕ} 0 1 = cc in omega arith)
+    by true p = absurd (let e : Some (saved_in bytes) ≡ None = sym (restored_is bytes slots p) ∙ q in let z : ◌≡◌ {A = ℕ} 0 1 = cc in omega arith)
     by false p = refl
 
-pub restored_good : (bytes slots : List ℕ) (h : History) → restored bytes slots ≡ Good h → good h slots ≡ true
+pub restored_good : (bytes slots : List ℕ) (h : History) → restored bytes slots ≡ Some h → good h slots ≡ true
 restored_good bytes slots h q =
     let k = good_back bytes slots h q in
     ap (λ (x : History). good x slots) k.held ∙ (saved_has bytes slots k.is).is_good_lem
 
 -- the ways through the code
-pub wrong_length : (bytes slots : List ℕ) → (length bytes ≡ 5 → ⊥) → Bad ≡ restored bytes slots
+pub wrong_length : (bytes slots : List ℕ) → (length bytes ≡ 5 → ⊥) → None ≡ restored bytes slots
 unfolding is_saved saved_size
 wrong_length bytes slots n =
     sym (restored_not bytes slots (else_is _ _ _ (same_lengths (saved_of (saved_in bytes)) bytes (λ e. n (sym e ∙ length_saved (saved_in bytes))))))
 
-module _ (bytes slots : List ℕ) (count place high low first : ℕ) (n : length bytes ≡ 5) (small : Bytes bytes)
-    (p : count ≡ get_or bytes 0 0) (q : place ≡ get_or bytes 1 0) (r : high ≡ get_or bytes 2 0) (s : low ≡ get_or bytes 3 0) (t : first ≡ get_or bytes 4 0) where
+module _ (bytes slots : List ℕ) (count place sum first : ℕ) (n : length bytes ≡ 5) (small : Bytes bytes)
+    (p : count ≡ get_or bytes 0 0) (q : place ≡ get_or bytes 1 0) (r : sum ≡ get_or bytes 2 0 * 256 + get_or bytes 3 0) (t : first ≡ get_or bytes 4 0) where
   told : History
-  told = record { count = count; place = place; total = high * 256 + low; first = first }
+  told = record { count = count; place = place; total = sum; first = first }
 
   read : told ≡ saved_in bytes
   unfolding saved_in told
@@ -132,11 +137,11 @@ module _ (bytes slots : List ℕ) (count place high low first : ℕ) (n : length
   unfolding saved_size
   as_good = right_form bytes slots (bytes_form bytes n small) ∙ ap (λ (x : History). good x slots) (sym read)
 
-  pub read_bad : good (record { count = count; place = place; total = high * 256 + low; first = first }) slots ≡ false → Bad ≡ restored bytes slots
+  pub read_bad : good (record { count = count; place = place; total = sum; first = first }) slots ≡ false → None ≡ restored bytes slots
   unfolding told
   read_bad g = sym (restored_not bytes slots (as_good ∙ g))
 
-  pub read_good : good (record { count = count; place = place; total = high * 256 + low; first = first }) slots ≡ true
-      → Good (record { count = count; place = place; total = high * 256 + low; first = first }) ≡ restored bytes slots
+  pub read_good : good (record { count = count; place = place; total = sum; first = first }) slots ≡ true
+      → Some (record { count = count; place = place; total = sum; first = first }) ≡ restored bytes slots
   unfolding told
-  read_good g = ap Good read ∙ sym (restored_is bytes slots (as_good ∙ g))
+  read_good g = ap Some read ∙ sym (restored_is bytes slots (as_good ∙ g))

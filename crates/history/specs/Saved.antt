@@ -1,12 +1,10 @@
 -- A history's part of a saved state: five bytes, the count, the place, the total in two and the first slot. What they hold counts where it is good
 -- with its slots (STANDARD 4.2, 4.4).
-use Rattle.std.specs.Prelude.{ℕ, ◌≤◌, Bool, false, cond, List, [], ◌∷◌, ◌++◌, take, drop, get_or}
+use Rattle.std.specs.Prelude.{ℕ, ◌≤◌, Bool, false, cond, List, [], ◌∷◌, ◌++◌, take, drop, get_or, Some, None, Option}
 use Rattle.buffer.specs.Compare.{same_bytes}
 use Rattle.buffer.specs.Numbers.{number_bytes, number_of}
 use Rattle.history.specs.Journal.{good}
 use Rattle.history.specs.declared.stepping.History.{History}
-use Rattle.history.specs.declared.saving.Restored.{Restored}
-use Rattle.history.specs.declared.saving.Restored.TheVariants.{Good, Bad}
 
 -- how many bytes that is: `History::SAVED`
 unfoldable pub saved_size : ℕ
@@ -26,8 +24,8 @@ unfoldable pub is_saved : List ℕ → List ℕ → Bool
 is_saved bytes slots = cond (same_bytes (saved_of (saved_in bytes)) bytes) (good (saved_in bytes) slots) false
 
 -- what is restored: the record, or none (4.2)
-unfoldable pub restored : List ℕ → List ℕ → Restored
-restored bytes slots = cond (is_saved bytes slots) (Good (saved_in bytes)) Bad
+unfoldable pub restored : List ℕ → List ℕ → Option History
+restored bytes slots = cond (is_saved bytes slots) (Some (saved_in bytes)) None
 
 -- numbers that fit their bytes, as those of a good state do
 pub record Fits (h : History) : Type 0 where

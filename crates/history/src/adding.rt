@@ -11,11 +11,9 @@ use super::testing::is_good;
 use buffer::{byte_at, same};
 use text::{is_blank, well_formed_prefix};
 
-// What adding a text answers.
+// Why a text is not offered to a history.
 #[derive(Clone, Copy)]
-pub enum Added {
-    // It was offered to the history.
-    Done,
+pub enum AddRefusal {
     // The state is bad.
     BadState,
     // The text has over 255 bytes: its length.
@@ -27,20 +25,14 @@ pub enum Added {
 #[derive(Clone, Copy)]
 pub struct Adding {
     pub history: History,
-    pub answer: Added,
+    pub answer: Result<(), AddRefusal>,
 }
 
 // Whether a text is added: it is not blank and differs from the newest entry.
 fn is_new(history: History, slots: &[u8], text: &[u8]) -> bool
     ensures { result ≡ is_new text.now (journal_of history slots.now).entries }
 {
-    if is_blank(text) {
-        return false;
-    }
-    if history.count == 0 {
-        return true;
-    }
-    !same(history.recall(slots, history.count - 1), text)
+    !is_blank(text) && (history.count == 0 || !same(history.recall(slots, history.count - 1), text))
 }
 
 // Offers a well-formed text of at most 255 bytes to a good state.
@@ -55,10 +47,8 @@ pub fn offer(history: History, slots: &mut [u8], text: &[u8]) -> History
     let grown = history.total + text.len();
     if !is_new(history, slots, text) {
         return History {
-            count,
             place: count,
-            total: history.total,
-            first,
+            ..history
         };
     }
     // The slot after the newest entry: an unused one, of length 0, or in a full history that of the oldest.
@@ -71,14 +61,14 @@ pub fn offer(history: History, slots: &mut [u8], text: &[u8]) -> History
             count: more,
             place: more,
             total,
-            first,
+            ..history
         };
     }
     History {
-        count,
         place: count,
         total,
         first: slot_after(first, 1),
+        ..history
     }
 }
 
@@ -90,19 +80,19 @@ pub fn add_tested(history: History, slots: &mut [u8], text: &[u8]) -> Adding
     if 255 < text.len() {
         return Adding {
             history,
-            answer: Added::TooLong(text.len()),
+            answer: Err(AddRefusal::TooLong(text.len())),
         };
     }
     let prefix = well_formed_prefix(text);
     if prefix != text.len() {
         return Adding {
             history,
-            answer: Added::IllFormed(prefix),
+            answer: Err(AddRefusal::IllFormed(prefix)),
         };
     }
     Adding {
         history: offer(history, slots, text),
-        answer: Added::Done,
+        answer: Ok(()),
     }
 }
 
@@ -113,7 +103,7 @@ pub fn add_command(history: History, slots: &mut [u8], text: &[u8]) -> Adding
     if !is_good(history, slots) {
         return Adding {
             history,
-            answer: Added::BadState,
+            answer: Err(AddRefusal::BadState),
         };
     }
     add_tested(history, slots, text)

@@ -14,9 +14,7 @@ use buffer::same;
 
 // What forgetting an entry answers.
 #[derive(Clone, Copy)]
-pub enum Forgot {
-    // So many entries went: 1, or 2 where the older of two equal ones went as well.
-    Gone(usize),
+pub enum ForgetRefusal {
     // The state is bad.
     BadState,
     // There is no entry of that number: the number.
@@ -26,7 +24,7 @@ pub enum Forgot {
 #[derive(Clone, Copy)]
 pub struct Forgetting {
     pub history: History,
-    pub answer: Forgot,
+    pub answer: Result<usize, ForgetRefusal>,
 }
 
 // How many entries go with entry k: itself, and the older of two equal ones that would come together without it.
@@ -35,16 +33,14 @@ fn how_many_go(history: History, slots: &[u8], k: usize) -> usize
     ensures { result ≡ gone k (journal_of history slots.now).entries }
 {
     let next = k + 1;
-    if k == 0 {
-        return 1;
+    if 0 < k
+        && next < history.count
+        && same(history.recall(slots, k - 1), history.recall(slots, next))
+    {
+        2
+    } else {
+        1
     }
-    if history.count <= next {
-        return 1;
-    }
-    if same(history.recall(slots, k - 1), history.recall(slots, next)) {
-        return 2;
-    }
-    1
 }
 
 // How many bytes the entries have together from one number up to another.
@@ -53,10 +49,8 @@ fn total_of(history: History, slots: &[u8], start: usize, end: usize) -> usize
     ensures { result ≡ total (take (end - start) (drop start (journal_of history slots.now).entries)) }
 {
     let mut sum = 0;
-    let mut i = start;
-    while i < end {
+    for i in start..end {
         sum += history.recall(slots, i).len();
-        i += 1;
     }
     sum
 }
@@ -66,12 +60,10 @@ fn close_up(slots: &mut [u8], first: usize, start: usize, end: usize, count: usi
     requires { (length slots.old ≡ slots_size) × (first < slot_count) × (start ≤ end) × (end ≤ count) × (count ≤ slot_count) }
     ensures { turned first slots.new ≡ closed_up start end count (turned first slots.old) }
 {
-    let mut source = end;
-    let mut target = start;
-    while source < count {
+    let less = end - start;
+    for source in end..count {
+        let target = source - less;
         copy_slot(slots, slot_after(first, source), slot_after(first, target));
-        source += 1;
-        target += 1;
     }
 }
 
@@ -80,12 +72,10 @@ fn clear_slots(slots: &mut [u8], first: usize, start: usize, end: usize)
     requires { (length slots.old ≡ slots_size) × (first < slot_count) × (start ≤ end) × (end ≤ slot_count) }
     ensures { turned first slots.new ≡ cleared start end (turned first slots.old) }
 {
-    let mut i = start;
-    while i < end {
+    for i in start..end {
         let at = place_of(first, i);
         let next = at + History::SLOT;
         clear(slots, at, next);
-        i += 1;
     }
 }
 
@@ -104,7 +94,7 @@ fn cut(history: History, slots: &mut [u8], start: usize, end: usize) -> History
         count: left,
         place: left,
         total,
-        first,
+        ..history
     }
 }
 
@@ -116,7 +106,7 @@ pub fn forget_tested(history: History, slots: &mut [u8], k: usize) -> Forgetting
     if history.count <= k {
         return Forgetting {
             history,
-            answer: Forgot::NoEntry(k),
+            answer: Err(ForgetRefusal::NoEntry(k)),
         };
     }
     let gone = how_many_go(history, slots, k);
@@ -124,7 +114,7 @@ pub fn forget_tested(history: History, slots: &mut [u8], k: usize) -> Forgetting
     let start = end - gone;
     Forgetting {
         history: cut(history, slots, start, end),
-        answer: Forgot::Gone(gone),
+        answer: Ok(gone),
     }
 }
 
@@ -135,7 +125,7 @@ pub fn forget(history: History, slots: &mut [u8], k: usize) -> Forgetting
     if !is_good(history, slots) {
         return Forgetting {
             history,
-            answer: Forgot::BadState,
+            answer: Err(ForgetRefusal::BadState),
         };
     }
     forget_tested(history, slots, k)

@@ -8,8 +8,7 @@ mod slots;
 mod stepping;
 mod testing;
 
-pub use adding::{Added, Adding, add_command, add_tested, offer};
-pub use forgetting::{Forgetting, Forgot, forget, forget_tested};
-pub use saving::Restored;
-pub use stepping::{History, Recalled, Step};
+pub use adding::{AddRefusal, Adding, add_command, add_tested, offer};
+pub use forgetting::{ForgetRefusal, Forgetting, forget, forget_tested};
+pub use stepping::{History, Step};
 pub use testing::is_good;

@@ -5,16 +5,7 @@ ghost use Rattle.history.specs.Saved.{saved_size, saved_of, restored, Fits};
 
 use super::stepping::History;
 use super::testing::is_good;
-use buffer::{byte_at, push};
-
-// What bytes and slots hold.
-#[derive(Clone, Copy)]
-pub enum Restored {
-    // A good history: its record.
-    Good(History),
-    // None.
-    Bad,
-}
+use buffer::push;
 
 impl History {
     // How many bytes are saved.
@@ -25,32 +16,34 @@ impl History {
         requires { Fits self × (at + saved_size ≤ length out.old) }
         ensures { Pushed (saved_of self) out.old at result out.new }
     {
+        let [high, low] = (self.total as u16).to_be_bytes();
         let bytes = [
             self.count as u8,
             self.place as u8,
-            (self.total / 256) as u8,
-            (self.total % 256) as u8,
+            high,
+            low,
             self.first as u8,
         ];
         push(&bytes, out, at)
     }
 
     // The record that bytes hold, if they have its length and it is good with these slots.
-    pub fn restored(bytes: &[u8], slots: &[u8]) -> Restored
+    pub fn restored(bytes: &[u8], slots: &[u8]) -> Option<History>
         ensures { result ≡ restored bytes.now slots.now }
     {
-        if bytes.len() != History::SAVED {
-            return Restored::Bad;
-        }
-        let history = History {
-            count: byte_at(bytes, 0),
-            place: byte_at(bytes, 1),
-            total: byte_at(bytes, 2) * 256 + byte_at(bytes, 3),
-            first: byte_at(bytes, 4),
+        let &[count, place, high, low, first] = bytes else {
+            return None;
         };
-        if !is_good(history, slots) {
-            return Restored::Bad;
+        let history = History {
+            count: usize::from(count),
+            place: usize::from(place),
+            total: usize::from(u16::from_be_bytes([high, low])),
+            first: usize::from(first),
+        };
+        if is_good(history, slots) {
+            Some(history)
+        } else {
+            None
         }
-        Restored::Good(history)
     }
 }

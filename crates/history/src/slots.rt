@@ -12,11 +12,7 @@ pub fn clear(out: &mut [u8], at: usize, end: usize)
     requires { (at ≤ end) × (end ≤ length out.old) }
     ensures { out.new ≡ over_at (zeros (end - at)) out.old at }
 {
-    let mut i = at;
-    while i < end {
-        out[i] = 0;
-        i += 1;
-    }
+    out[at..end].fill(0);
 }
 
 // Writes a text into the slot at a place: its length, its bytes, and zeros after them.
@@ -35,13 +31,9 @@ pub fn copy_slot(slots: &mut [u8], source: usize, target: usize)
     requires { (length slots.old ≡ slots_size) × (source < slot_count) × (target < slot_count) }
     ensures { slots.new ≡ over_at (slot_at source slots.old) slots.old (slot_size * target) }
 {
-    let old = History::SLOT * source;
-    let new = History::SLOT * target;
-    let mut i = 0;
-    while i < History::SLOT {
-        slots[new + i] = slots[old + i];
-        i += 1;
-    }
+    let start = History::SLOT * source;
+    let end = start + History::SLOT;
+    slots.copy_within(start..end, History::SLOT * target);
 }
 
 // Where the slot begins that lies so many after another, round the end.

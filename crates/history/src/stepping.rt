@@ -18,19 +18,11 @@ pub struct History {
     pub first: usize,
 }
 
-// What a step through a history recalls.
-#[derive(Clone, Copy)]
-pub enum Recalled {
-    // The entry of that number, the oldest being 0.
-    Entry(usize),
-    Nothing,
-}
-
 // A history after a step, and what it recalls.
 #[derive(Clone, Copy)]
 pub struct Step {
     pub history: History,
-    pub recalled: Recalled,
+    pub recalled: Option<usize>,
 }
 
 impl History {
@@ -65,44 +57,41 @@ impl History {
     }
 
     // Up: a step back to an older entry.
-    pub fn previous(mut self) -> Step
+    pub fn previous(self) -> Step
         ensures { result ≡ back self }
     {
         if self.place == 0 {
             return Step {
                 history: self,
-                recalled: Recalled::Nothing,
+                recalled: None,
             };
         }
-        self.place -= 1;
-        let place = self.place;
+        let place = self.place - 1;
         Step {
-            history: self,
-            recalled: Recalled::Entry(place),
+            history: History { place, ..self },
+            recalled: Some(place),
         }
     }
 
     // Down: a step on to a newer entry, or to the line that is being typed.
-    pub fn next(mut self) -> Step
+    pub fn next(self) -> Step
         ensures { result ≡ onward self }
     {
         if self.count <= self.place {
             return Step {
                 history: self,
-                recalled: Recalled::Nothing,
+                recalled: None,
             };
         }
-        self.place += 1;
-        let place = self.place;
-        if self.count <= place {
-            return Step {
-                history: self,
-                recalled: Recalled::Nothing,
-            };
-        }
+        let place = self.place + 1;
+        let recalled = if place < self.count {
+            Some(place)
+        } else {
+            None
+        };
         Step {
-            history: self,
-            recalled: Recalled::Entry(place),
+            history: History { place, ..self },
+            recalled,
         }
     }
 

@@ -17,15 +17,9 @@ fn is_usable(text: &[u8], top: u8) -> bool
     ensures { result ≡ usable text.now }
 {
     if top < 0x80 {
-        if 0x20 < top {
-            return true;
-        }
-        return !is_blank(text);
+        return 0x20 < top || !is_blank(text);
     }
-    if is_blank(text) {
-        return false;
-    }
-    is_well_formed(text)
+    !is_blank(text) && is_well_formed(text)
 }
 
 // The greatest byte of the entry at a place, of which a short one is passed with the zeros that follow it: a pass over fewer than 32 bytes takes them one by one.
@@ -33,11 +27,7 @@ fn top_of(slots: &[u8], start: usize, size: usize) -> u8
     requires { (start + 255 ≤ length slots.now) × (size < slot_size) }
     ensures { result ≡ greatest (take (max size 32) (drop start slots.now)) }
 {
-    if size < 32 {
-        let block = start + 32;
-        return greatest_byte(&slots[start..block]);
-    }
-    let end = start + size;
+    let end = start + size.max(32);
     greatest_byte(&slots[start..end])
 }
 
@@ -50,11 +40,8 @@ fn is_good_slot(slots: &[u8], at: usize) -> bool
     let size = byte_at(slots, at);
     let end = start + size;
     let next = at + History::SLOT;
-    if greatest_byte(&slots[end..next]) != 0 {
-        return false;
-    }
-    let top = top_of(slots, start, size);
-    is_usable(&slots[start..end], top)
+    greatest_byte(&slots[end..next]) == 0
+        && is_usable(&slots[start..end], top_of(slots, start, size))
 }
 
 // Whether the slot at a place, that of entry k, is the same as the one at the place before it; the oldest entry has none before it. Most differ in their first bytes.
@@ -62,17 +49,13 @@ fn is_repeated(slots: &[u8], k: usize, before: usize, at: usize) -> bool
     requires { (before + slot_size ≤ length slots.now) × (at + slot_size ≤ length slots.now) }
     ensures { result ≡ same_bytes (slot_before k (drop before slots.now)) (take slot_size (drop at slots.now)) }
 {
-    if k == 0 {
-        return false;
-    }
     let head = before + 32;
     let block = at + 32;
-    if !same_throughout(&slots[before..head], &slots[at..block]) {
-        return false;
-    }
     let end = before + History::SLOT;
     let next = at + History::SLOT;
-    same_throughout(&slots[before..end], &slots[at..next])
+    k != 0
+        && same_throughout(&slots[before..head], &slots[at..block])
+        && same_throughout(&slots[before..end], &slots[at..next])
 }
 
 // Whether all bytes of the slots that hold no entry are zeros: those after the newest entry, round the end up to the oldest.
@@ -84,10 +67,7 @@ fn is_rest_clear(slots: &[u8], first: usize, count: usize) -> bool
     let end = first + count;
     if end < History::MOST {
         let after = History::SLOT * end;
-        if greatest_byte(&slots[after..]) != 0 {
-            return false;
-        }
-        return greatest_byte(&slots[..oldest]) == 0;
+        return greatest_byte(&slots[after..]) == 0 && greatest_byte(&slots[..oldest]) == 0;
     }
     let after = History::SLOT * (end - History::MOST);
     greatest_byte(&slots[after..oldest]) == 0
@@ -107,45 +87,30 @@ fn are_good(slots: &[u8], first: usize, count: usize, total: usize) -> bool
     requires { (length slots.now ≡ slots_size) × (first < slot_count) × (count ≤ slot_count) }
     ensures { result ≡ tallied count total (turned first slots.now) }
 {
-    let mut k = 0;
     let mut at = History::SLOT * first;
     let mut before = at;
     let mut sum = 0;
-    while k < count {
-        if !is_good_slot(slots, at) {
-            return false;
-        }
-        if is_repeated(slots, k, before, at) {
+    for k in 0..count {
+        if !is_good_slot(slots, at) || is_repeated(slots, k, before, at) {
             return false;
         }
         sum += byte_at(slots, at);
-        k += 1;
         before = at;
         at = next_place(at);
     }
-    if sum != total {
-        return false;
-    }
-    is_rest_clear(slots, first, count)
+    sum == total && is_rest_clear(slots, first, count)
 }
 
 // Whether a state is good.
 pub fn is_good(history: History, slots: &[u8]) -> bool
     ensures { result ≡ good history slots.now }
 {
-    let count = history.count;
-    let first = history.first;
-    if slots.len() != History::SLOTS {
+    if slots.len() != History::SLOTS
+        || History::MOST <= history.first
+        || History::MOST < history.count
+        || history.count < history.place
+    {
         return false;
     }
-    if History::MOST <= first {
-        return false;
-    }
-    if History::MOST < count {
-        return false;
-    }
-    if count < history.place {
-        return false;
-    }
-    are_good(slots, first, count, history.total)
+    are_good(slots, history.first, history.count, history.total)
 }

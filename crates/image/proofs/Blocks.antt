@@ -1,56 +1,31 @@
--- Laws of texts tested in blocks: the worst byte of a block, and a text as blocks and its last bytes.
-use Prim.Native.Nat.{ℕ, ◌+◌, ◌-◌, ◌<◌, ◌≤◌, max}
+-- Laws of texts tested in blocks: the pass over a block, and a text as blocks and its last bytes.
+use Prim.Native.Nat.{ℕ, ◌+◌, ◌-◌, ◌≤◌}
 use mathlib.Core.Path.{◌≡◌, refl, sym, ap, ◌∙◌}
-use mathlib.Core.Bool.{Bool, true, false, cond}
-use mathlib.Core.List.{List, [], ◌∷◌, ◌++◌}
+use Rattle.std.specs.Prelude.{fold, ◌&&◌}
+use mathlib.Core.Bool.{Bool, true, false}
+use mathlib.Core.List.{List, [], ◌∷◌, ◌++◌, append_assoc}
 use native.Mathlib.Omega.{arith}
-use lib.Dec.{eqb}
-use lib.ListN.{length, get_or, take, drop, take-append-drop}
-use lib.Seq.{drop-drop}
-use borrow.Author.Tests.{le-leb, lt-leb, ne_eqb}
-use Rattle.buffer.proofs.Lists.{drop_step, drop_end}
+use lib.ListN.{length, take, drop, take-append-drop, length-append}
+use lib.Seq.{drop-drop, drop_at}
 use Rattle.buffer.proofs.Lending.{rest_lent}
 use Rattle.image.specs.Limits.{both, is_shown, all_shown}
-use Rattle.image.specs.Inner.{strange, strangest}
-use Rattle.image.proofs.Fields.{both_second}
-
-module _ (low b : ℕ) where
-  pub strange_low : b < low → 1 ≡ strange low b
-  unfolding strange
-  strange_low h = rw (lt-leb low b)
-
-  pub strange_high : low ≤ b → 0x7e < b → 1 ≡ strange low b
-  unfolding strange
-  strange_high h k = rw (le-leb low b, lt-leb b 0x7e)
-
-  pub strange_none : low ≤ b → b ≤ 0x7e → 0 ≡ strange low b
-  unfolding strange
-  strange_none h k = rw (le-leb low b, le-leb b 0x7e)
+use Rattle.image.proofs.Fields.{both_second, both_false}
 
 module _ (low : ℕ) where
-  -- the pass over a text or a block
-  pub strangest_step : (s : List ℕ) (i w : ℕ) → i < length s → max (max w (strange low (get_or s i 0))) (strangest low (drop (i + 1) s)) ≡ max w (strangest low (drop i s))
-  unfolding strangest
-  strangest_step s i w h = rw (drop_step s i 0) (omega arith)
-
-  strangest_end : (s : List ℕ) (i w : ℕ) → length s ≤ i → max w (strangest low (drop i s)) ≡ w
-  unfolding strangest
-  strangest_end s i w h = rw (drop_end s i) (omega arith)
-
-  strangest_shown : (s : List ℕ) → eqb (strangest low s) 0 ≡ all_shown low s
-  unfolding strangest strange all_shown
-  strangest_shown [] = refl
-  strangest_shown (b ∷ s) = by (is_shown low b) (strangest_shown s)
+  -- a pass over a text, which has no early exit
+  folded : (t : List ℕ) (s : Bool) → fold (λ (x : Bool) b. x && is_shown low b) s t ≡ both s (all_shown low t)
+  unfolding all_shown
+  folded [] true = refl
+  folded [] false = refl
+  folded (b ∷ t) true = by (is_shown low b) (folded t)
     where
-      zero_most : (n : ℕ) → max 0 n ≡ n
-      zero_most n = omega arith
+      by : (x : Bool) → ((s : Bool) → fold (λ (y : Bool) a. y && is_shown low a) s t ≡ both s (all_shown low t))
+          → fold (λ (y : Bool) a. y && is_shown low a) x t ≡ both x (all_shown low t)
+      by x h = h x
+  folded (b ∷ t) false = folded t false
 
-      by : (t : Bool) → eqb (strangest low s) 0 ≡ all_shown low s → eqb (max (cond t 0 1) (strangest low s)) 0 ≡ both t (all_shown low s)
-      by true e = rw (zero_most (strangest low s)) e
-      by false e = ne_eqb (max 1 (strangest low s)) 0 (λ z. omega arith)
-
-  pub block_decides : (s : List ℕ) (i w : ℕ) → length s ≤ i → max w (strangest low (drop i s)) ≡ strangest low s → eqb w 0 ≡ all_shown low s
-  block_decides s i w h e = ap (λ (n : ℕ). eqb n 0) (sym (strangest_end s i w h) ∙ e) ∙ strangest_shown s
+  pub folded_shown : (t : List ℕ) → fold (λ (x : Bool) b. x && is_shown low b) true t ≡ all_shown low t
+  folded_shown t = folded t true
 
   shown_append : (a b : List ℕ) → all_shown low (a ++ b) ≡ both (all_shown low a) (all_shown low b)
   unfolding all_shown
@@ -60,25 +35,6 @@ module _ (low : ℕ) where
       by : (t : Bool) → all_shown low (a ++ b) ≡ both (all_shown low a) (all_shown low b) → both t (all_shown low (a ++ b)) ≡ both (both t (all_shown low a)) (all_shown low b)
       by true e = e
       by false e = refl
-
-  -- a text from a place on: a block of it, and what stands after that
-  module _ (t : List ℕ) (at n m : ℕ) (size : n ≡ m - at) (order : at ≤ m) (r : Bool) (told : r ≡ all_shown low (take n (drop at t))) where
-    shown_split : all_shown low (drop at t) ≡ both r (all_shown low (drop m t))
-    shown_split =
-        let end : at + n ≡ m = omega arith in
-        ap (all_shown low) (sym (take-append-drop n (drop at t)))
-        ∙ shown_append (take n (drop at t)) (drop n (drop at t))
-        ∙ rw (told, drop-drop n at t, end)
-
-    pub block_bad : r ≡ false → all_shown low (drop at t) ≡ false
-    block_bad e = shown_split ∙ rw e
-
-    pub block_good : r ≡ true → all_shown low (drop at t) ≡ all_shown low (drop m t)
-    block_good e = shown_split ∙ rw e
-
-  both_false : (a : Bool) → both a false ≡ false
-  both_false true = refl
-  both_false false = refl
 
   front : (t : List ℕ) (k : ℕ) → all_shown low t ≡ both (all_shown low (take k t)) (all_shown low (drop k t))
   front t k = ap (all_shown low) (sym (take-append-drop k t)) ∙ shown_append (take k t) (drop k t)
@@ -95,3 +51,36 @@ module _ (low : ℕ) where
       let place : k + (at - k) ≡ at = omega arith in
       let suffix = both_second (all_shown low (take (at - k) (drop k t))) _ (sym (front (drop k t) (at - k)) ∙ good) in
       rw (drop-drop (at - k) k t, place) at suffix
+
+  -- blocks passed: what is left of the text, and it is tested as the whole is
+  pub record Passed (t rest : List ℕ) : Type 0 where
+    pub front : List ℕ
+    pub parts : t ≡ front ++ rest
+    pub same : all_shown low rest ≡ all_shown low t
+
+  pub passed_none : (t : List ℕ) → Passed t t
+  passed_none t = record { front = []; parts = refl; same = refl }
+
+  -- one block more
+  module _ (t rest block left : List ℕ) (h : Passed t rest) (cut : rest ≡ block ++ left) (r : Bool) (told : r ≡ all_shown low block) where
+    split : all_shown low t ≡ both r (all_shown low left)
+    split = sym h.same ∙ ap (all_shown low) cut ∙ shown_append block left ∙ rw told
+
+    pub passed_bad : r ≡ false → false ≡ all_shown low t
+    passed_bad e = sym (split ∙ rw e)
+
+    pub passed_more : r ≡ true → Passed t left
+    passed_more e =
+        record {
+          front = h.front ++ block;
+          parts = h.parts ∙ ap (λ (l : List ℕ). h.front ++ l) cut ∙ sym (append_assoc h.front block left);
+          same = sym (split ∙ rw e);
+        }
+
+  -- no block more: what is left lies within the last one
+  pub passed_all : (t rest : List ℕ) (k : ℕ) (r : Bool) → Passed t rest → length rest + k ≤ length t → r ≡ all_shown low (take (length t - k) (drop k t)) → r ≡ true → true ≡ all_shown low t
+  passed_all t rest k r h short e q =
+      let size : length t ≡ length h.front + length rest = ap length h.parts ∙ length-append h.front rest in
+      let place : drop (length h.front) t ≡ rest = ap (drop (length h.front)) h.parts ∙ drop_at h.front rest (length h.front) refl in
+      let good : all_shown low (drop (length h.front) t) ≡ true = end_good t k (length h.front) r e q (omega arith) in
+      sym (sym h.same ∙ ap (all_shown low) (sym place) ∙ good)

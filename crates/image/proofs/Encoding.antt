@@ -1,4 +1,5 @@
 -- Reading inverts encoding, both ways: what was encoded is read back whatever follows, and what reads as a frame begins with its encoding.
+use Rattle.std.specs.Prelude.{Some, None}
 use Prim.Native.Nat.{ℕ, ◌+◌, ◌*◌, ◌/◌, ◌%◌, ◌<◌, ◌≤◌}
 use mathlib.Core.Path.{◌≡◌, refl, sym, ap, ◌∙◌}
 use mathlib.Core.Bool.{Bool, true, false, cond}
@@ -13,7 +14,7 @@ use Rattle.buffer.specs.Numbers.{Bytes}
 use Rattle.frame.proofs.Texts.{text_one}
 use Rattle.image.specs.Frames.{Perhaps, absent, present, Frame, node, option, flag, text, perhaps, encode_frame}
 use Rattle.image.specs.Limits.{is_name, is_note, is_short, optionally, definable, fair}
-use Rattle.image.specs.Reading.{strictly, strict_first, span, perhaps_in, node_lengths, definition_lengths, head_first, node_in, name_in, long_in, note_in, option_in, flag_in, Read, read, broken, ended, read_by, read_first}
+use Rattle.image.specs.Reading.{strictly, strict_first, other_of, span, perhaps_in, node_lengths, definition_lengths, head_first, node_in, name_in, long_in, note_in, option_in, flag_in, Read, read, broken, ended, read_by, read_first}
 use Rattle.image.specs.declared.head.Lengths.{Lengths}
 use Rattle.image.specs.declared.head.Head.{Head}
 use Rattle.image.specs.declared.head.Head.TheVariants.{Node, Option, Flag, Bad, End}
@@ -42,11 +43,11 @@ module _ (s : List ℕ) (p r n q : ℕ) (hr : r ≡ p + 1) (hn : n ≡ get_or s 
       ∙ ap (λ (l : List ℕ). n ∷ l) (sym (take-append-drop n (drop r s)) ∙ ap (λ (l : List ℕ). take n (drop r s) ++ l) beyond)
       ∙ sym (rw (text_is (take n (drop r s)), size))
 
-  pub perhaps_split : q ≡ p + 1 + span n → q ≤ length s → drop p s ≡ perhaps (perhaps_in n (drop r s)) ++ drop q s
+  pub perhaps_split : q ≡ p + 1 + span (other_of n) → q ≤ length s → drop p s ≡ perhaps (perhaps_in (other_of n) (drop r s)) ++ drop q s
   unfolding perhaps perhaps_in
   perhaps_split hq h = by (eqb n 0xff) refl
     where
-      by : (t : Bool) → eqb n 0xff ≡ t → drop p s ≡ perhaps (cond t absent (present (take n (drop r s)))) ++ drop q s
+      by : (t : Bool) → eqb n 0xff ≡ t → drop p s ≡ perhaps (perhaps_in (cond t None (Some n)) (drop r s)) ++ drop q s
       by true e =
           let f : n ≡ 0xff = eqb-true n 0xff e in
           let k : q ≡ p + 1 = hq ∙ (let z = span_none n f in omega arith) in
@@ -85,15 +86,15 @@ module _ (s : List ℕ) (b : Bytes s) where
       let name : ℕ = get_or s 4 0 in
       let note : ℕ = get_or s (5 + name) 0 in
       let usage : ℕ = get_or s (6 + name + note) 0 in
-      let size : 7 + name + note + span usage ≤ length s = rw v.texts at v.fits in
+      let size : 7 + name + note + span (other_of usage) ≤ length s = rw v.texts at v.fits in
       let n : List ℕ = take name (drop 5 s) in
       let ds : List ℕ = take note (drop (6 + name) s) in
-      let u : Perhaps = perhaps_in usage (drop (6 + name + note + 1) s) in
+      let u : Perhaps = perhaps_in (other_of usage) (drop (6 + name + note + 1) s) in
       let one = text_split s 4 5 name (5 + name) (omega arith) refl (omega arith) (omega arith) in
       let two = text_split s (5 + name) (6 + name) note (6 + name + note) (omega arith) refl (omega arith) (omega arith) in
-      let last = perhaps_split s (6 + name + note) (6 + name + note + 1) usage (7 + name + note + span usage) (omega arith) refl (omega arith) size in
+      let last = perhaps_split s (6 + name + note) (6 + name + note + 1) usage (7 + name + note + span (other_of usage)) (omega arith) refl (omega arith) size in
       let long : 4 ≤ length s = omega arith in
-      let whole : drop 4 s ≡ text n ++ text ds ++ perhaps u ++ drop (7 + name + note + span usage) s = three (drop 4 s) (drop (5 + name) s) (drop (6 + name + note) s) (drop (7 + name + note + span usage) s) (text n) (text ds) (perhaps u) one two last in
+      let whole : drop 4 s ≡ text n ++ text ds ++ perhaps u ++ drop (7 + name + note + span (other_of usage)) s = three (drop 4 s) (drop (5 + name) s) (drop (6 + name + note) s) (drop (7 + name + note + span (other_of usage)) s) (text n) (text ds) (perhaps u) one two last in
       rw (v.texts, v.depth, v.handler, high (get_or s 2 0) (get_or s 3 0) (b 3), low (get_or s 2 0) (get_or s 3 0) (b 3))
       (split_four s long ∙ rw v.kind (ap (λ (l : List ℕ). 1 ∷ get_or s 1 0 ∷ get_or s 2 0 ∷ get_or s 3 0 ∷ l) whole))
 
@@ -104,14 +105,14 @@ module _ (s : List ℕ) (b : Bytes s) where
   definition_back p size =
       let name : ℕ = get_or s p 0 in
       let long : ℕ = get_or s (p + 1 + name) 0 in
-      let note : ℕ = get_or s (p + 2 + name + span long) 0 in
+      let note : ℕ = get_or s (p + 2 + name + span (other_of long)) 0 in
       let n : List ℕ = take name (drop (p + 1) s) in
-      let l : Perhaps = perhaps_in long (drop (p + 2 + name) s) in
-      let ds : List ℕ = take note (drop (p + 2 + name + span long + 1) s) in
+      let l : Perhaps = perhaps_in (other_of long) (drop (p + 2 + name) s) in
+      let ds : List ℕ = take note (drop (p + 2 + name + span (other_of long) + 1) s) in
       let one = text_split s p (p + 1) name (p + 1 + name) (omega arith) refl (omega arith) (omega arith) in
-      let two = perhaps_split s (p + 1 + name) (p + 2 + name) long (p + 2 + name + span long) (omega arith) refl (omega arith) (omega arith) in
-      let last = text_split s (p + 2 + name + span long) (p + 2 + name + span long + 1) note (p + 3 + name + span long + note) (omega arith) refl (omega arith) size in
-      three (drop p s) (drop (p + 1 + name) s) (drop (p + 2 + name + span long) s) (drop (p + 3 + name + span long + note) s) (text n) (perhaps l) (text ds) one two last
+      let two = perhaps_split s (p + 1 + name) (p + 2 + name) long (p + 2 + name + span (other_of long)) (omega arith) refl (omega arith) (omega arith) in
+      let last = text_split s (p + 2 + name + span (other_of long)) (p + 2 + name + span (other_of long) + 1) note (p + 3 + name + span (other_of long) + note) (omega arith) refl (omega arith) size in
+      three (drop p s) (drop (p + 1 + name) s) (drop (p + 2 + name + span (other_of long)) s) (drop (p + 3 + name + span (other_of long) + note) s) (text n) (perhaps l) (text ds) one two last
 
   option_back : (r c : ℕ) (t : Lengths) → OptionSeen s r c t → s ≡ encode_frame (option_in s r c t) ++ drop t.size s
   unfolding encode_frame option_in
@@ -174,8 +175,8 @@ Marked (present t) = length t < 0xff
 
 pub record PerhapsRead (s : List ℕ) (p : ℕ) (u : Perhaps) (rest : List ℕ) : Type 0 where
   pub byte : mark u ≡ get_or s p 0
-  pub found : (r : ℕ) → r ≡ p + 1 → perhaps_in (mark u) (drop r s) ≡ u
-  pub beyond : (q : ℕ) → q ≡ p + 1 + span (mark u) → drop q s ≡ rest
+  pub found : (r : ℕ) → r ≡ p + 1 → perhaps_in (other_of (mark u)) (drop r s) ≡ u
+  pub beyond : (q : ℕ) → q ≡ p + 1 + span (other_of (mark u)) → drop q s ≡ rest
 
 pub perhaps_read : (s : List ℕ) (p : ℕ) (u : Perhaps) (rest : List ℕ) → Marked u → drop p s ≡ perhaps u ++ rest → PerhapsRead s p u rest
 unfolding perhaps perhaps_in
@@ -196,7 +197,7 @@ perhaps_read s p (present t) rest m e =
       beyond = λ q k. v.beyond q (omega arith);
     }
 
-pub length_perhaps : (u : Perhaps) → Marked u → length (perhaps u) ≡ 1 + span (mark u)
+pub length_perhaps : (u : Perhaps) → Marked u → length (perhaps u) ≡ 1 + span (other_of (mark u))
 unfolding perhaps span
 length_perhaps absent m = refl
 length_perhaps (present t) m =
@@ -212,14 +213,14 @@ Fits (flag c n l ds) = Marked l
 -- the lengths of an option's or a flag's texts, and what is read of them
 abbrev lengths_of : ℕ → List ℕ → Perhaps → List ℕ → Lengths
 lengths_of p n l ds =
-    record { name = length n; description = length ds; other = mark l; size = p + 3 + length n + span (mark l) + length ds }
+    record { name = length n; description = length ds; other = other_of (mark l); size = p + 3 + length n + span (other_of (mark l)) + length ds }
 
 record DefinitionRead (s : List ℕ) (p : ℕ) (n : List ℕ) (l : Perhaps) (ds : List ℕ) : Type 0 where
   lengths : lengths_of p n l ds ≡ definition_lengths p s
   name : take (length n) (drop (p + 1) s) ≡ n
-  long : perhaps_in (mark l) (drop (p + 2 + length n) s) ≡ l
-  note : take (length ds) (drop (p + 2 + length n + span (mark l) + 1) s) ≡ ds
-  size : length (text n ++ perhaps l ++ text ds) ≡ 3 + length n + span (mark l) + length ds
+  long : perhaps_in (other_of (mark l)) (drop (p + 2 + length n) s) ≡ l
+  note : take (length ds) (drop (p + 2 + length n + span (other_of (mark l)) + 1) s) ≡ ds
+  size : length (text n ++ perhaps l ++ text ds) ≡ 3 + length n + span (other_of (mark l)) + length ds
 
 -- an answer that is known, in words
 read_is : (s : List ℕ) (head : Head) (f : Frame) (k : ℕ) → head ≡ head_first s → read_by s head ≡ read f k → read_first s ≡ read f k
@@ -241,11 +242,11 @@ module _ (s rest : List ℕ) where
       let one = text_read s 4 n _ four in
       let two = text_read s (5 + length n) ds _ (one.beyond (5 + length n) (omega arith)) in
       let last = perhaps_read s (6 + length n + length ds) u rest m (two.beyond (6 + length n + length ds) (omega arith)) in
-      let size : length (encode_frame (node d h n ds u)) ≡ 7 + length n + length ds + span (mark u) =
+      let size : length (encode_frame (node d h n ds u)) ≡ 7 + length n + length ds + span (other_of (mark u)) =
       simp (length-append, length_text, length_perhaps u m) (omega arith)
       in
-      let t : Lengths = record { name = length n; description = length ds; other = mark u; size = 7 + length n + length ds + span (mark u) } in
-      let are : t ≡ node_lengths s = node_lengths_are s (length n) (length ds) (mark u) (span (mark u)) one.byte two.byte last.byte refl in
+      let t : Lengths = record { name = length n; description = length ds; other = other_of (mark u); size = 7 + length n + length ds + span (other_of (mark u)) } in
+      let are : t ≡ node_lengths s = node_lengths_are s (length n) (length ds) (mark u) (span (other_of (mark u))) (other_of (mark u)) one.byte two.byte last.byte refl refl in
       let all : length s ≡ length (encode_frame (node d h n ds u)) + length rest = ap length e ∙ length-append (encode_frame (node d h n ds u)) rest in
       let some : length s ≡ 0 → ⊥ = λ k. omega arith in
       let b : (i : ℕ) → get_or s i 0 ≡ get_or (encode_frame (node d h n ds u) ++ rest) i 0 = λ i. ap (λ (l : List ℕ). get_or l i 0) e in
@@ -260,12 +261,12 @@ module _ (s rest : List ℕ) where
   definition_read p n l ds m e =
       let one = text_read s p n (perhaps l ++ (text ds ++ rest)) (e ∙ simp append_assoc) in
       let two = perhaps_read s (p + 1 + length n) l (text ds ++ rest) m (one.beyond (p + 1 + length n) refl) in
-      let last = text_read s (p + 2 + length n + span (mark l)) ds rest (two.beyond (p + 2 + length n + span (mark l)) (omega arith)) in
+      let last = text_read s (p + 2 + length n + span (other_of (mark l))) ds rest (two.beyond (p + 2 + length n + span (other_of (mark l))) (omega arith)) in
       record {
-        lengths = definition_lengths_are p s (length n) (length ds) (mark l) (span (mark l)) one.byte two.byte refl last.byte;
+        lengths = definition_lengths_are p s (length n) (length ds) (mark l) (span (other_of (mark l))) (other_of (mark l)) one.byte two.byte refl refl last.byte;
         name = one.found (p + 1) refl;
         long = two.found (p + 2 + length n) (omega arith);
-        note = last.found (p + 2 + length n + span (mark l) + 1) refl;
+        note = last.found (p + 2 + length n + span (other_of (mark l)) + 1) refl;
         size = simp (length-append, length_text, length_perhaps l m) (omega arith);
       }
 

@@ -3,18 +3,16 @@ use Prim.Native.Nat.{ℕ, ◌+◌, ◌*◌, ◌<◌, ◌≤◌}
 use mathlib.Core.Path.{◌≡◌, refl, ◌∙◌}
 use mathlib.Core.Bool.{Bool, true, false, cond}
 use mathlib.Core.Logic.{◌⊎◌, inl, inr, ⊎_elim}
-use mathlib.Core.List.{List, [], ◌∷◌}
+use mathlib.Core.List.{List}
 use native.Mathlib.Omega.{arith}
 use lib.Dec.{leb, eqb}
 use lib.ListN.{length, get_or}
 use borrow.Author.Tests.{leb-true, eqb-true, le-leb, lt-leb}
-use types.Run.{OneOf, miss}
-use denote.Enum.Declared.{tag_of}
-use Rattle.image.specs.contracts.head.Head.{the_type}
 use Rattle.buffer.specs.Numbers.{Bytes}
 use Rattle.image.specs.Limits.{fair}
-use Rattle.image.specs.Reading.{strictly, Small, node_lengths, definition_lengths, node_first, option_first, flag_first, head_first, strict_first, node_in, option_in, flag_in}
+use Rattle.image.specs.Reading.{other_of, span, strictly, Small, node_lengths, definition_lengths, node_first, option_first, flag_first, head_first, strict_first, node_in, option_in, flag_in}
 use Rattle.image.specs.Inner.{defined_in}
+use Rattle.image.proofs.Heads.{span_least}
 use Rattle.image.specs.declared.head.Lengths.{Lengths}
 use Rattle.image.specs.declared.head.Head.{Head}
 use Rattle.image.specs.declared.head.Head.TheVariants.{Node, Option, Flag, Bad, End}
@@ -87,13 +85,16 @@ pub view : (s : List ℕ) (head : Head) → head_first s ≡ head → ViewOf s h
 view s head e = rw e at (head_view s)
 
 -- lengths that were read from bytes
+small_other : (n : ℕ) → n < 256 → span (other_of n) < 256
+small_other n h = let k = span_least n in omega arith
+
 pub node_small : (s : List ℕ) (t : Lengths) → Bytes s → t ≡ node_lengths s → Small t
 unfolding node_lengths Bytes
-node_small s t b e = rw e (record { name = b _; description = b _; other = b _ })
+node_small s t b e = rw e (record { name = b _; description = b _; other = small_other _ (b _) })
 
 pub definition_small : (p : ℕ) (s : List ℕ) (t : Lengths) → Bytes s → t ≡ definition_lengths p s → Small t
 unfolding definition_lengths Bytes
-definition_small p s t b e = rw e (record { name = b _; description = b _; other = b _ })
+definition_small p s t b e = rw e (record { name = b _; description = b _; other = small_other _ (b _) })
 
 -- how the limits decide
 module _ (s : List ℕ) where
@@ -120,13 +121,10 @@ module _ (s : List ℕ) where
     unfolding strict_first flag_in fair defined_in
     flag_strict g k = rw (e, k)
 
-  pub rest_strict : (r : Head) → r ≡ head_first s → OneOf (3 ∷ 4 ∷ []) (tag_of the_type r) → r ≡ strict_first s
+  pub rest_strict : (r : Head) → r ≡ head_first s → (r ≡ Bad) ⊎ (r ≡ End) → r ≡ strict_first s
   unfolding strict_first
-  rest_strict (Node d h t) e k = absurd (miss (3 ∷ 4 ∷ []) 0 tt k)
-  rest_strict (Option r c t) e k = absurd (miss (3 ∷ 4 ∷ []) 1 tt k)
-  rest_strict (Flag c t) e k = absurd (miss (3 ∷ 4 ∷ []) 2 tt k)
-  rest_strict Bad e k = rw (← e)
-  rest_strict End e k = rw (← e)
+  rest_strict r e (inl k) = rw (← e, k)
+  rest_strict r e (inr k) = rw (← e, k)
 
 -- a strict answer that is no refusal is the head itself
 kept : (s : List ℕ) (x : Head) → (strictly s x ≡ x) ⊎ (strictly s x ≡ Bad)

@@ -1,4 +1,5 @@
 -- Laws of heads: how the code's numbers are those of the definitions.
+use Rattle.std.specs.Prelude.{Option as Maybe, Some, None}
 use Prim.Native.Nat.{ℕ, ◌+◌, ◌*◌, ◌<◌, ◌≤◌}
 use mathlib.Core.Path.{◌≡◌, sym}
 use mathlib.Core.Bool.{Bool, true, false, cond}
@@ -8,36 +9,36 @@ use lib.Dec.{eqb}
 use lib.ListN.{length, get_or}
 use borrow.Author.Tests.{le-leb, lt-leb, eq-eqb, ne_eqb}
 use Rattle.buffer.proofs.Choices.{then_is, else_is}
-use Rattle.image.specs.Reading.{span, node_lengths, definition_lengths, node_first, option_first, flag_first, head_first}
+use Rattle.image.specs.Reading.{other_of, span, node_lengths, definition_lengths, node_first, option_first, flag_first, head_first}
 use Rattle.image.specs.declared.head.Lengths.{Lengths}
 use Rattle.image.specs.declared.head.Head.TheVariants.{Node, Option, Flag, Bad, End}
 
-pub span_none : (n : ℕ) → n ≡ 0xff → 0 ≡ span n
+pub span_none : (n : ℕ) → n ≡ 0xff → 0 ≡ span (other_of n)
 unfolding span
-span_none n h = sym (then_is _ _ _ (eq-eqb _ _ h))
+span_none n h = rw h
 
-pub span_some : (n : ℕ) → (n ≡ 0xff → ⊥) → n ≡ span n
+pub span_some : (n : ℕ) → (n ≡ 0xff → ⊥) → n ≡ span (other_of n)
 unfolding span
-span_some n h = sym (else_is _ _ _ (ne_eqb _ _ h))
+span_some n h = rw (ne_eqb n 0xff h)
 
-pub span_least : (n : ℕ) → span n ≤ n
+pub span_least : (n : ℕ) → span (other_of n) ≤ n
 unfolding span
 span_least n = by (eqb n 0xff)
   where
-    by : (t : Bool) → cond t 0 n ≤ n
+    by : (t : Bool) → span (cond t None (Some n)) ≤ n
     by true = omega arith
     by false = omega arith
 
 -- lengths found one after the other
-pub node_lengths_are : (s : List ℕ) (a b c l : ℕ) → a ≡ get_or s 4 0 → b ≡ get_or s (5 + a) 0 → c ≡ get_or s (6 + a + b) 0 → l ≡ span c
-    → record { name = a; description = b; other = c; size = 7 + a + b + l } ≡ node_lengths s
+pub node_lengths_are : (s : List ℕ) (a b c l : ℕ) (o : Maybe ℕ) → a ≡ get_or s 4 0 → b ≡ get_or s (5 + a) 0 → c ≡ get_or s (6 + a + b) 0 → o ≡ other_of c → l ≡ span o
+    → record { name = a; description = b; other = o; size = 7 + a + b + l } ≡ node_lengths s
 unfolding node_lengths
-node_lengths_are s a b c l ha hb hc hl = cc
+node_lengths_are s a b c l o ha hb hc ho hl = rw (hl, ho, hc, hb, ha)
 
-pub definition_lengths_are : (p : ℕ) (s : List ℕ) (a b c l : ℕ) → a ≡ get_or s p 0 → c ≡ get_or s (p + 1 + a) 0 → l ≡ span c → b ≡ get_or s (p + 2 + a + l) 0
-    → record { name = a; description = b; other = c; size = p + 3 + a + l + b } ≡ definition_lengths p s
+pub definition_lengths_are : (p : ℕ) (s : List ℕ) (a b c l : ℕ) (o : Maybe ℕ) → a ≡ get_or s p 0 → c ≡ get_or s (p + 1 + a) 0 → o ≡ other_of c → l ≡ span o → b ≡ get_or s (p + 2 + a + l) 0
+    → record { name = a; description = b; other = o; size = p + 3 + a + l + b } ≡ definition_lengths p s
 unfolding definition_lengths
-definition_lengths_are p s a b c l ha hc hl hb = cc
+definition_lengths_are p s a b c l o ha hc ho hl hb = rw (hb, hl, ho, hc, ha)
 
 -- a frame that runs past the end, and one that is there
 module _ (s : List ℕ) (t : Lengths) where

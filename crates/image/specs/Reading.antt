@@ -1,28 +1,33 @@
 -- How the first frame of bytes is read: its numbers and the lengths of its texts, a byte past the end being 0 (STANDARD 6.6 to 6.8).
-use Rattle.std.specs.Prelude.{ℕ, ◌+◌, ◌*◌, ◌<◌, cond, List, leb, eqb, length, take, drop, get_or}
+use Rattle.std.specs.Prelude.{ℕ, ◌+◌, ◌*◌, ◌<◌, cond, List, leb, eqb, length, take, drop, get_or, Option as Maybe, Some, None}
 use Rattle.image.specs.Frames.{Perhaps, absent, present, Frame, node, option, flag}
 use Rattle.image.specs.Limits.{fair}
 use Rattle.image.specs.declared.head.Lengths.{Lengths}
 use Rattle.image.specs.declared.head.Head.{Head}
 use Rattle.image.specs.declared.head.Head.TheVariants.{Node, Option, Flag, Bad, End}
 
--- how many bytes a text that may be missing takes after its length byte
-unfoldable pub span : ℕ → ℕ
-span n = cond (eqb n 0xff) 0 n
+-- the length of a text that may be missing, by its length byte
+abbrev pub other_of : ℕ → Maybe ℕ
+other_of n = cond (eqb n 0xff) None (Some n)
+
+-- how many bytes it takes after that byte
+unfoldable pub span : Maybe ℕ → ℕ
+span (Some n) = n
+span None = 0
 
 -- three texts one after the other from a place on: name, description, usage (6.6)
 unfoldable pub node_lengths : List ℕ → Lengths
 node_lengths s =
     let name : ℕ = get_or s 4 0 in
     let description : ℕ = get_or s (5 + name) 0 in
-    let usage : ℕ = get_or s (6 + name + description) 0 in
+    let usage : Maybe ℕ = other_of (get_or s (6 + name + description) 0) in
     record { name = name; description = description; other = usage; size = 7 + name + description + span usage }
 
 -- the same for name, long, description (6.7, 6.8)
 unfoldable pub definition_lengths : ℕ → List ℕ → Lengths
 definition_lengths p s =
     let name : ℕ = get_or s p 0 in
-    let long : ℕ = get_or s (p + 1 + name) 0 in
+    let long : Maybe ℕ = other_of (get_or s (p + 1 + name) 0) in
     let description : ℕ = get_or s (p + 2 + name + span long) 0 in
     record { name = name; description = description; other = long; size = p + 3 + name + span long + description }
 
@@ -46,8 +51,9 @@ head_first s =
     (cond (eqb (get_or s 0 0) 1) (node_first s) (cond (eqb (get_or s 0 0) 2) (option_first s) (cond (eqb (get_or s 0 0) 3) (flag_first s) Bad)))
 
 -- the texts that lengths say, and the frame that a head says
-unfoldable pub perhaps_in : ℕ → List ℕ → Perhaps
-perhaps_in n s = cond (eqb n 0xff) absent (present (take n s))
+unfoldable pub perhaps_in : Maybe ℕ → List ℕ → Perhaps
+perhaps_in (Some n) s = present (take n s)
+perhaps_in None s = absent
 
 -- (6.6)
 unfoldable pub node_in : List ℕ → ℕ → ℕ → Lengths → Frame
@@ -89,7 +95,7 @@ strict_first s = strictly s (head_first s)
 pub record Small (texts : Lengths) : Type 0 where
   pub name : texts.name < 256
   pub description : texts.description < 256
-  pub other : texts.other < 256
+  pub other : span texts.other < 256
 
 -- what the first bytes say, with the frame in words: a frame and its size, no frame, or nothing
 pub data Read : Type 0 where

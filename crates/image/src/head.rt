@@ -1,19 +1,20 @@
 // The head of a frame: its kind, its numbers and the lengths of its texts. What the texts hold is not looked at.
 ghost use Rattle.std.specs.Prelude.{◌≡◌, ◌≤◌, drop};
-ghost use Rattle.image.specs.Reading.{span, node_lengths, definition_lengths, node_first, option_first, flag_first, head_first};
+ghost use Rattle.image.specs.Reading.{other_of, span, node_lengths, definition_lengths, node_first, option_first, flag_first, head_first};
 
 use buffer::{byte_at, rest};
 
-// The length bytes of a frame's texts; `other` is a node's usage or a definition's long, 255 for none. And the frame's whole size.
+// The lengths of a frame's texts; `other` is a node's usage or a definition's long, if it has one. And the frame's whole size.
 #[derive(Clone, Copy)]
 pub struct Lengths {
     pub name: usize,
     pub description: usize,
-    pub other: usize,
+    pub other: Option<usize>,
     pub size: usize,
 }
 
 // What stands at a place.
+// Three kinds of frame and two ways of having none: an Option of a Result would be no plainer.
 #[derive(Clone, Copy)]
 pub enum Head {
     Node {
@@ -34,11 +35,19 @@ pub enum Head {
     End,
 }
 
-// How many bytes a text that may be missing takes after its length byte.
-pub fn span_of(n: usize) -> usize
-    ensures { result ≡ span n }
+// The length of a text that may be missing, by its length byte: 255 for none.
+fn other_of(n: usize) -> Option<usize>
+    ensures { result ≡ other_of n }
 {
-    if n == 255 { 0 } else { n }
+    if n == 255 { None } else { Some(n) }
+}
+
+// How many bytes it takes after that byte.
+#[tactic(auto, unfolding(crate::specs::Reading::span))]
+pub fn span_of(other: Option<usize>) -> usize
+    ensures { result ≡ span other }
+{
+    other.unwrap_or(0)
 }
 
 fn node_lengths(s: &[u8]) -> Lengths
@@ -46,7 +55,8 @@ fn node_lengths(s: &[u8]) -> Lengths
 {
     let name = byte_at(s, 4);
     let description = byte_at(s, 5 + name);
-    let other = byte_at(s, 6 + name + description);
+    let usage = byte_at(s, 6 + name + description);
+    let other = other_of(usage);
     Lengths {
         name,
         description,
@@ -61,17 +71,19 @@ fn definition_lengths(s: &[u8], p: usize) -> Lengths
     ensures { result ≡ definition_lengths p s.now }
 {
     let name = byte_at(s, p);
-    let other = byte_at(s, p + 1 + name);
-    let long = span_of(other);
-    let description = byte_at(s, p + 2 + name + long);
+    let long = byte_at(s, p + 1 + name);
+    let other = other_of(long);
+    let span = span_of(other);
+    let description = byte_at(s, p + 2 + name + span);
     Lengths {
         name,
         description,
         other,
-        size: p + 3 + name + long + description,
+        size: p + 3 + name + span + description,
     }
 }
 
+// The three kinds differ in the bytes that they read; what they share is the one test of the size.
 fn node_head(s: &[u8]) -> Head
     ensures { result ≡ node_first s.now }
 {

@@ -1,8 +1,9 @@
 // The rules for a frame by itself: the limits of its fields, and the frame at a place that keeps them.
-ghost use Rattle.std.specs.Prelude.{◌≡◌, ℕ, ◌≤◌, ◌<◌, max, length, drop};
-ghost use Rattle.image.specs.Inner.{strange, defined_in};
-ghost use Rattle.image.specs.Limits.{all_shown, is_name, is_note, is_short, optionally, fair};
-ghost use Rattle.image.specs.Reading.{Small, perhaps_in, node_in, strict_first};
+ghost use Rattle.std.specs.Prelude.{◌≡◌, ℕ, ◌≤◌, ◌<◌, cond, length, drop};
+ghost use Rattle.image.specs.Inner.{defined_in};
+ghost use Rattle.image.specs.Limits.{is_shown, all_shown, is_name, is_note, is_short, fair};
+ghost use Rattle.image.specs.Reading.{Small, node_in, head_first, strict_first};
+ghost use Rattle.image.specs.declared.head.Head.TheVariants.{Bad};
 
 use super::head::{Head, Lengths, head_of, span_of};
 use buffer::{part, rest};
@@ -10,33 +11,19 @@ use buffer::{part, rest};
 // The largest byte of a text, 7E.
 const LAST: u8 = 0x7E;
 
-// 1 for a byte outside of `low` to 7E, else 0.
-fn outside(low: u8, byte: u8) -> u8
-    ensures { result ≡ strange low byte }
+// Whether a byte is from `low` to 7E.
+fn is_shown(low: u8, byte: u8) -> bool
+    ensures { result ≡ is_shown low byte }
 {
-    if byte < low {
-        return 1;
-    }
-    if LAST < byte { 1 } else { 0 }
+    (low..=LAST).contains(&byte)
 }
 
-fn worse(a: u8, b: u8) -> u8
-    ensures { result ≡ max a b }
-{
-    if a < b { b } else { a }
-}
-
-// Whether all bytes of t are from `low` to 7E: no early exit, so that the backend takes many at once.
+// Whether all bytes of t are from `low` to 7E: by `&` and no early exit, so that the backend takes many at once.
 fn each_shown(low: u8, t: &[u8]) -> bool
     ensures { result ≡ all_shown low t.now }
 {
-    let mut worst = 0;
-    let mut i = 0;
-    while i < t.len() {
-        worst = worse(worst, outside(low, t[i]));
-        i += 1;
-    }
-    worst == 0
+    t.iter()
+        .fold(true, |shown, byte| shown & is_shown(low, *byte))
 }
 
 // The same in whole blocks of that size and the last block, of which some bytes may be seen twice.
@@ -44,17 +31,13 @@ fn blocks_shown(low: u8, t: &[u8], size: usize) -> bool
     requires { (0 < size) × (size ≤ length t.now) }
     ensures { result ≡ all_shown low t.now }
 {
-    let last = t.len() - size;
-    if !each_shown(low, &t[last..]) {
+    if !each_shown(low, &t[t.len() - size..]) {
         return false;
     }
-    let mut at = 0;
-    while at < last {
-        let end = at + size;
-        if !each_shown(low, &t[at..end]) {
+    for block in t.chunks_exact(size) {
+        if !each_shown(low, block) {
             return false;
         }
-        at = end;
     }
     true
 }
@@ -73,59 +56,27 @@ fn all_shown(low: u8, t: &[u8]) -> bool
 }
 
 // Names and longs: 1 to 32 bytes of 21-7E.
+#[tactic(auto, unfolding(crate::specs::Limits::is_name))]
 fn is_name(t: &[u8]) -> bool
     ensures { result ≡ is_name t.now }
 {
-    if t.len() < 1 {
-        return false;
-    }
-    if 32 < t.len() {
-        return false;
-    }
-    all_shown(0x21, t)
+    (1..=32).contains(&t.len()) && all_shown(0x21, t)
 }
 
 // Descriptions and usages: 0 to 96 bytes of 20-7E.
+#[tactic(auto, unfolding(crate::specs::Limits::is_note))]
 fn is_note(t: &[u8]) -> bool
     ensures { result ≡ is_note t.now }
 {
-    if 96 < t.len() {
-        return false;
-    }
-    all_shown(0x20, t)
+    t.len() <= 96 && all_shown(0x20, t)
 }
 
 // A short: 0 for none, or a byte of 21-7E.
+#[tactic(auto, unfolding(crate::specs::Limits::is_short))]
 fn is_short(c: usize) -> bool
     ensures { result ≡ is_short c }
 {
-    if c == 0 {
-        return true;
-    }
-    if c < 0x21 {
-        return false;
-    }
-    c <= 0x7E
-}
-
-// A long that is missing, or a name of n bytes at a place.
-fn is_long(s: &[u8], at: usize, n: usize) -> bool
-    ensures { result ≡ optionally is_name (perhaps_in n (drop at s.now)) }
-{
-    if n == 255 {
-        return true;
-    }
-    is_name(part(s, at, n))
-}
-
-// A usage that is missing, or a note of n bytes at a place.
-fn is_usage(s: &[u8], at: usize, n: usize) -> bool
-    ensures { result ≡ optionally is_note (perhaps_in n (drop at s.now)) }
-{
-    if n == 255 {
-        return true;
-    }
-    is_note(part(s, at, n))
+    c == 0 || (0x21..=0x7E).contains(&c)
 }
 
 // Whether a node frame at the front of s is within its limits.
@@ -143,7 +94,10 @@ fn fair_node(s: &[u8], depth: usize, texts: Lengths) -> bool
     if !is_note(part(s, at, texts.description)) {
         return false;
     }
-    is_usage(s, at + texts.description + 1, texts.other)
+    match texts.other {
+        Some(n) => is_note(part(s, at + texts.description + 1, n)),
+        None => true,
+    }
 }
 
 // Whether what options and flags have in common is within its limits; p is the place of the name's length byte.
@@ -158,10 +112,30 @@ fn is_definable(s: &[u8], p: usize, short: usize, texts: Lengths) -> bool
         return false;
     }
     let at = p + 2 + texts.name;
-    if !is_long(s, at, texts.other) {
+    if !is_note(part(s, at + span_of(texts.other) + 1, texts.description)) {
         return false;
     }
-    is_note(part(s, at + span_of(texts.other) + 1, texts.description))
+    match texts.other {
+        Some(n) => is_name(part(s, at, n)),
+        None => true,
+    }
+}
+
+// Whether the frame of a head that was read at the front of s is within its limits, where there is one.
+fn is_fair(s: &[u8], head: Head) -> bool
+    requires { head ≡ head_first s.now }
+    ensures { cond result head Bad ≡ strict_first s.now }
+{
+    match head {
+        Head::Node { depth, texts, .. } => fair_node(s, depth, texts),
+        Head::Option {
+            required,
+            short,
+            texts,
+        } => required <= 1 && is_definable(s, 3, short, texts),
+        Head::Flag { short, texts } => is_definable(s, 2, short, texts),
+        Head::Bad | Head::End => true,
+    }
 }
 
 // The first frame of s, if it is within the limits.
@@ -169,41 +143,7 @@ fn frame_of(s: &[u8]) -> Head
     ensures { result ≡ strict_first s.now }
 {
     let head = head_of(s);
-    match head {
-        Head::Node {
-            depth,
-            handler: _,
-            texts,
-        } => {
-            if fair_node(s, depth, texts) {
-                head
-            } else {
-                Head::Bad
-            }
-        }
-        Head::Option {
-            required,
-            short,
-            texts,
-        } => {
-            if 1 < required {
-                return Head::Bad;
-            }
-            if is_definable(s, 3, short, texts) {
-                head
-            } else {
-                Head::Bad
-            }
-        }
-        Head::Flag { short, texts } => {
-            if is_definable(s, 2, short, texts) {
-                head
-            } else {
-                Head::Bad
-            }
-        }
-        _ => head,
-    }
+    if is_fair(s, head) { head } else { Head::Bad }
 }
 
 // The frame at the place `at` of an image, if it is within the limits.

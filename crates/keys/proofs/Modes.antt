@@ -1,17 +1,20 @@
 -- Laws of profiles and modes and their numbers.
-use Prim.Native.Nat.{ℕ, zero, suc, ◌≤◌, ◌<◌}
+use Rattle.std.specs.Prelude.{Ok, Err, Some, None, Result}
+use Rattle.std.specs.Result.{result_ok}
+use Prim.Native.Nat.{ℕ, zero, suc, ◌≤◌}
 use mathlib.Core.Path.{◌≡◌, refl, sym, ◌∙◌}
 use mathlib.Core.Bool.{Bool, true, false, cond}
 use native.Mathlib.Omega.{arith}
 use lib.Dec.{eqb}
-use borrow.Author.Tests.{ne_eqb, eqb-true, lt-ltb, le-ltb, leb-true}
-use Rattle.buffer.proofs.Choices.{then_is, else_is, true_is_not_false}
+use borrow.Author.Tests.{ne_eqb, eqb-true, le-ltb, leb-true}
+use Rattle.buffer.proofs.Choices.{else_is, true_is_not_false}
 use Rattle.keys.specs.declared.standing.Profile.{Profile}
 use Rattle.keys.specs.declared.standing.Profile.TheVariants.{Rust, Ecma48}
 use Rattle.keys.specs.declared.standing.Progress.{Progress}
 use Rattle.keys.specs.declared.standing.Mode.{Mode}
 use Rattle.keys.specs.declared.standing.Mode.TheVariants.{Typing, Escape, Sequence, Control}
-use Rattle.keys.specs.Modes.{unread, is_profile, profile_number, profile_of, mode_number, progress_of, is_mode, mode_of}
+use Rattle.keys.specs.declared.numbers.NoProfile.{NoProfile}
+use Rattle.keys.specs.Modes.{unread, is_profile, profile_number, profile_of, mode_number, progress_of, is_mode, mode_of, profile_in, mode_in}
 
 -- a profile and its number
 pub profile_back : (p : Profile) → profile_of (profile_number p) ≡ p
@@ -73,11 +76,45 @@ numbered (suc (suc zero)) p h = record { number = refl; beside = bare p h }
 numbered (suc (suc (suc zero))) p h = record { number = refl; beside = refl }
 numbered (suc (suc (suc (suc n)))) p h = absurd (true_is_not_false (sym h ∙ no_mode (suc (suc (suc (suc n)))) p (omega arith) (λ e. omega arith)))
 
--- the ways through the code
-pub mode_last : (n : ℕ) (p : Progress) → (n ≡ 0 → ⊥) → (n ≡ 1 → ⊥) → (n ≡ 2 → ⊥) → Control p ≡ mode_of n p
-unfolding mode_of
-mode_last n p a b d = sym (else_is _ _ _ (ne_eqb _ _ a) ∙ else_is _ _ _ (ne_eqb _ _ b) ∙ else_is _ _ _ (ne_eqb _ _ d))
+-- what a number is read as
+pub profile_read : (n : ℕ) (p : Profile) → result_ok (profile_in n) ≡ Some p → (is_profile n ≡ true) × (p ≡ profile_of n)
+profile_read n p e = by (is_profile n) e
+  where
+    by : (t : Bool) → result_ok {E = NoProfile} (cond t (Ok (profile_of n)) (Err (record { number = n }))) ≡ Some p → (t ≡ true) × (p ≡ profile_of n)
+    by true q = (refl, cc)
+    by false q = absurd (let z : ◌≡◌ {A = ℕ} 0 1 = cc in omega arith)
 
-pub outside : (n : ℕ) (p : Progress) → n < 3 → is_mode n p ≡ cond (eqb p.read 0) (eqb p.parameter 0) false
-unfolding is_mode
-outside n p h = then_is _ _ _ (lt-ltb n 3 h)
+pub profile_unread : (n : ℕ) → result_ok (profile_in n) ≡ None → is_profile n ≡ false
+profile_unread n e = by (is_profile n) e
+  where
+    by : (t : Bool) → result_ok {E = NoProfile} (cond t (Ok (profile_of n)) (Err (record { number = n }))) ≡ None → t ≡ false
+    by true q = absurd (let z : ◌≡◌ {A = ℕ} 0 1 = cc in omega arith)
+    by false q = refl
+
+pub mode_read : (n : ℕ) (p : Progress) (m : Mode) → mode_in n p ≡ Some m → (is_mode n p ≡ true) × (m ≡ mode_of n p)
+mode_read n p m e = by (is_mode n p) e
+  where
+    by : (t : Bool) → cond t (Some (mode_of n p)) None ≡ Some m → (t ≡ true) × (m ≡ mode_of n p)
+    by true q = (refl, cc)
+    by false q = absurd (let z : ◌≡◌ {A = ℕ} 0 1 = cc in omega arith)
+
+pub mode_unread : (n : ℕ) (p : Progress) → mode_in n p ≡ None → is_mode n p ≡ false
+mode_unread n p e = by (is_mode n p) e
+  where
+    by : (t : Bool) → cond t (Some (mode_of n p)) None ≡ None → t ≡ false
+    by true q = absurd (let z : ◌≡◌ {A = ℕ} 0 1 = cc in omega arith)
+    by false q = refl
+
+pub profile_told : (n : ℕ) (p : Profile) → profile_in n ≡ Ok p → (is_profile n ≡ true) × (p ≡ profile_of n)
+profile_told n p e = by (is_profile n) e
+  where
+    by : (t : Bool) → ◌≡◌ {A = Result Profile NoProfile} (cond t (Ok (profile_of n)) (Err (record { number = n }))) (Ok p) → (t ≡ true) × (p ≡ profile_of n)
+    by true q = (refl, cc)
+    by false q = absurd (let z : ◌≡◌ {A = ℕ} 0 1 = cc in omega arith)
+
+pub profile_lacks : (n : ℕ) → ((p : Profile) → profile_in n ≡ Ok p → ⊥) → is_profile n ≡ false
+profile_lacks n k = by (is_profile n) k
+  where
+    by : (t : Bool) → ((p : Profile) → ◌≡◌ {A = Result Profile NoProfile} (cond t (Ok (profile_of n)) (Err (record { number = n }))) (Ok p) → ⊥) → t ≡ false
+    by true q = absurd (q (profile_of n) refl)
+    by false q = refl

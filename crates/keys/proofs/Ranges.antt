@@ -1,17 +1,17 @@
 -- Laws of the ranges of key bytes: what a byte means, in each mode.
 use Prim.Native.Nat.{ℕ, ◌+◌, ◌<◌, ◌≤◌}
-use mathlib.Core.Path.{◌≡◌, refl, sym, ap, ◌∙◌}
+use mathlib.Core.Path.{◌≡◌, refl, sym, ◌∙◌}
 use mathlib.Core.Bool.{Bool, true, false, cond}
 use native.Mathlib.Omega.{arith}
 use lib.Dec.{eqb, leb}
-use borrow.Author.Tests.{ne_eqb, eqb-true, eqb-false, lt-ltb, le-ltb, lt-leb, le-leb, leb-true}
+use borrow.Author.Tests.{ne_eqb, eqb-true, lt-ltb, le-ltb, lt-leb, le-leb, leb-true}
 use Rattle.buffer.proofs.Choices.{then_is, else_is, true_is_not_false}
 use Rattle.keys.specs.declared.standing.Profile.{Profile}
 use Rattle.keys.specs.declared.standing.Progress.{Progress}
 use Rattle.keys.specs.declared.standing.Mode.TheVariants.{Escape, Control}
 use Rattle.keys.specs.declared.standing.Action.TheVariants.{Nothing, Enter, Erase, Insert}
-use Rattle.keys.specs.Modes.{other, longest, single}
-use Rattle.keys.specs.Control.{between, goes_on, is_final, arrow_of, letter, tilde, ended, digit, further}
+use Rattle.keys.specs.Modes.{longest}
+use Rattle.keys.specs.Control.{between, goes_on, is_final, ended, further}
 use Rattle.keys.specs.Keys.{doing, awaiting, typed, begun, escaped, awaiting_more, controlled}
 
 -- two tests that hold as one
@@ -82,61 +82,6 @@ module _ (b : ℕ) where
   pub at_other : (p : Profile) → (b ≡ 0x5B → ⊥) → escaped p b ≡ doing Nothing
   unfolding escaped
   at_other p n = else_is _ _ _ (ne_eqb b 0x5B n)
-
-  -- a byte that a table does not have
-  pub no_arrow : (b ≡ 0x41 → ⊥) → (b ≡ 0x42 → ⊥) → (b ≡ 0x43 → ⊥) → (b ≡ 0x44 → ⊥) → arrow_of b ≡ Nothing
-  unfolding arrow_of
-  no_arrow p q r t =
-      else_is _ _ _ (ne_eqb b 0x41 p) ∙ else_is _ _ _ (ne_eqb b 0x42 q) ∙ else_is _ _ _ (ne_eqb b 0x43 r) ∙ else_is _ _ _ (ne_eqb b 0x44 t)
-
-  pub no_letter : (b ≡ 0x48 → ⊥) → (b ≡ 0x46 → ⊥) → letter b ≡ arrow_of b
-  unfolding letter
-  no_letter p q = else_is _ _ _ (ne_eqb b 0x48 p) ∙ else_is _ _ _ (ne_eqb b 0x46 q)
-
-  module _ (one : b ≡ 1 → ⊥) (three : b ≡ 3 → ⊥) (four : b ≡ 4 → ⊥) (seven : b ≡ 7 → ⊥) (eight : b ≡ 8 → ⊥) where
-    pub no_tilde : tilde b ≡ Nothing
-    unfolding tilde
-    no_tilde =
-        else_is _ _ _ (ne_eqb b 1 one)
-        ∙ else_is _ _ _ (ne_eqb b 7 seven)
-        ∙ else_is _ _ _ (ne_eqb b 4 four)
-        ∙ else_is _ _ _ (ne_eqb b 8 eight)
-        ∙ else_is _ _ _ (ne_eqb b 3 three)
-
-    pub no_single : (b ≡ 255 → ⊥) → single b ≡ false
-    unfolding single other
-    no_single n =
-        else_is _ _ _ (ne_eqb b 1 one)
-        ∙ else_is _ _ _ (ne_eqb b 3 three)
-        ∙ else_is _ _ _ (ne_eqb b 4 four)
-        ∙ else_is _ _ _ (ne_eqb b 7 seven)
-        ∙ else_is _ _ _ (ne_eqb b 8 eight)
-        ∙ ne_eqb b 255 n
-
-  pub low_single : 3 ≤ b → b < 5 → single b ≡ true
-  unfolding single
-  low_single l h = by (eqb b 3) refl
-    where
-      by : (t : Bool) → eqb b 3 ≡ t → single b ≡ true
-      by true q = ap single (eqb-true b 3 q)
-      by false q = let n = eqb-false b 3 q in let e : b ≡ 4 = omega arith in ap single e
-
-  pub high_single : 7 ≤ b → b < 9 → single b ≡ true
-  unfolding single
-  high_single l h = by (eqb b 7) refl
-    where
-      by : (t : Bool) → eqb b 7 ≡ t → single b ≡ true
-      by true q = ap single (eqb-true b 7 q)
-      by false q = let n = eqb-false b 7 q in let e : b ≡ 8 = omega arith in ap single e
-
-  pub no_digit : (b ≡ 0x31 → ⊥) → (b ≡ 0x33 → ⊥) → (b ≡ 0x34 → ⊥) → (b ≡ 0x37 → ⊥) → (b ≡ 0x38 → ⊥) → digit b ≡ other
-  unfolding digit
-  no_digit one three four seven eight =
-      else_is _ _ _ (ne_eqb b 0x31 one)
-      ∙ else_is _ _ _ (ne_eqb b 0x33 three)
-      ∙ else_is _ _ _ (ne_eqb b 0x34 four)
-      ∙ else_is _ _ _ (ne_eqb b 0x37 seven)
-      ∙ else_is _ _ _ (ne_eqb b 0x38 eight)
 
   -- a range, and what lies outside it
   module _ (low high : ℕ) where

@@ -1,8 +1,9 @@
 -- Which modes bytes lead to (STANDARD 2.6, 3.13), and a profile, a mode and how far a sequence is read as numbers (4.2).
-use Rattle.std.specs.Prelude.{ℕ, Bool, true, false, cond, ltb, leb, eqb}
+use Rattle.std.specs.Prelude.{ℕ, Bool, true, false, cond, ltb, leb, eqb, Ok, Err, Result, Some, None, Option}
 use Rattle.keys.specs.declared.standing.Profile.{Profile}
 use Rattle.keys.specs.declared.standing.Profile.TheVariants.{Rust, Ecma48}
 use Rattle.keys.specs.declared.standing.Progress.{Progress}
+use Rattle.keys.specs.declared.numbers.NoProfile.{NoProfile}
 use Rattle.keys.specs.declared.standing.Mode.{Mode}
 use Rattle.keys.specs.declared.standing.Mode.TheVariants.{Typing, Escape, Sequence, Control}
 
@@ -57,6 +58,10 @@ profile_number Ecma48 = 1
 unfoldable pub profile_of : ℕ → Profile
 profile_of n = cond (eqb n 0) Rust Ecma48
 
+-- the profile of a number, if one has it (4.2)
+abbrev pub profile_in : ℕ → Result Profile NoProfile
+profile_in n = cond (is_profile n) (Ok (profile_of n)) (Err (record { number = n }))
+
 -- (2.6, 4.2)
 abbrev pub mode_number : Mode → ℕ
 mode_number Typing = 0
@@ -78,3 +83,7 @@ is_mode n p = cond (ltb n 3) (cond (eqb p.read 0) (eqb p.parameter 0) false) (eq
 -- (2.6, 4.2)
 unfoldable pub mode_of : ℕ → Progress → Mode
 mode_of n p = cond (eqb n 0) Typing (cond (eqb n 1) Escape (cond (eqb n 2) Sequence (Control p)))
+
+-- the mode of a number, if one has it (4.4)
+abbrev pub mode_in : ℕ → Progress → Option Mode
+mode_in n p = cond (is_mode n p) (Some (mode_of n p)) None

@@ -6,6 +6,7 @@ ghost use Rattle.keys.specs.Control.{arrow_of, letter, tilde, ended, digit, furt
 use super::standing::{Action, OTHER, Progress};
 
 // An arrow.
+#[tactic(auto, unfolding(crate::specs::Control::arrow_of))]
 pub fn arrow_of(byte: u8) -> Action
     ensures { result ≡ arrow_of byte }
 {
@@ -19,6 +20,7 @@ pub fn arrow_of(byte: u8) -> Action
 }
 
 // A letter that ends a sequence.
+#[tactic(auto, unfolding(crate::specs::Control::letter))]
 fn letter(byte: u8) -> Action
     ensures { result ≡ letter byte }
 {
@@ -30,6 +32,7 @@ fn letter(byte: u8) -> Action
 }
 
 // A `~` that ends a sequence, by its parameter.
+#[tactic(auto, unfolding(crate::specs::Control::tilde))]
 fn tilde(parameter: u8) -> Action
     ensures { result ≡ tilde parameter }
 {
@@ -42,6 +45,7 @@ fn tilde(parameter: u8) -> Action
 }
 
 // A final byte, by the parameter before it.
+#[tactic(auto, unfolding(crate::specs::Control::ended))]
 pub fn ended(parameter: u8, byte: u8) -> Action
     ensures { result ≡ ended parameter byte }
 {
@@ -55,6 +59,7 @@ pub fn ended(parameter: u8, byte: u8) -> Action
 }
 
 // The parameter that a first byte makes: its number, if it is a digit that counts.
+#[tactic(auto, unfolding(crate::specs::Control::digit, crate::specs::Modes::other))]
 fn digit(byte: u8) -> u8
     ensures { result ≡ digit byte }
 {
@@ -69,6 +74,7 @@ fn digit(byte: u8) -> u8
 }
 
 // A byte more is read.
+#[tactic(auto, unfolding(crate::specs::Control::further, crate::specs::Modes::other, crate::specs::Modes::longest))]
 pub fn further(progress: Progress, byte: u8) -> Progress
     requires { progress.read < longest }
     ensures { result ≡ further progress byte }

@@ -7,7 +7,5 @@ mod numbers;
 mod standing;
 
 pub use meaning::{Meaning, meaning_of};
-pub use numbers::{
-    is_mode, is_profile, mode_number, mode_of, profile_number, profile_of, progress_of,
-};
+pub use numbers::{NoProfile, mode_in, mode_number, mode_of, profile_of, progress_of};
 pub use standing::{Action, Mode, Profile, Progress, is_good_mode};

@@ -33,6 +33,7 @@ fn awaiting(mode: Mode) -> Meaning
 }
 
 // A byte that is typed: the ranges of the standard.
+#[tactic(auto, unfolding(crate::specs::Keys::typed))]
 fn typed(byte: u8) -> Meaning
     ensures { result ≡ typed byte }
 {
@@ -56,6 +57,7 @@ fn begun(profile: Profile) -> Mode
 }
 
 // The byte after ESC: `[` begins a sequence, and any other byte is swallowed.
+#[tactic(auto, unfolding(crate::specs::Keys::escaped))]
 fn escaped(profile: Profile, byte: u8) -> Meaning
     ensures { result ≡ escaped profile byte }
 {
@@ -66,6 +68,7 @@ fn escaped(profile: Profile, byte: u8) -> Meaning
 }
 
 // A byte of a control sequence that is not its final one: waited on, or the last that is read of it.
+#[tactic(auto, unfolding(crate::specs::Keys::awaiting_more, crate::specs::Modes::longest))]
 fn awaiting_more(progress: Progress, byte: u8) -> Meaning
     ensures { result ≡ awaiting_more progress byte }
 {
@@ -76,6 +79,7 @@ fn awaiting_more(progress: Progress, byte: u8) -> Meaning
 }
 
 // The next byte of a control sequence: a final one acts, and a byte that cannot be in one ends it too.
+#[tactic(auto, unfolding(crate::specs::Keys::controlled, crate::specs::Control::between))]
 fn controlled(progress: Progress, byte: u8) -> Meaning
     ensures { result ≡ controlled progress byte }
 {
@@ -87,6 +91,7 @@ fn controlled(progress: Progress, byte: u8) -> Meaning
 }
 
 // What a byte means in a profile and a mode. After the original's ESC `[` one byte is read, an arrow or swallowed.
+#[tactic(auto, unfolding(crate::specs::Keys::sequenced))]
 pub fn meaning_of(profile: Profile, mode: Mode, byte: u8) -> Meaning
     ensures { result ≡ meaning profile mode byte }
 {

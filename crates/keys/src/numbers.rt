@@ -1,26 +1,11 @@
 // A profile, a mode and how far a sequence is read as numbers, for the bytes of a saved state.
 ghost use Rattle.std.specs.Prelude.{◌≡◌};
-ghost use Rattle.keys.specs.Modes.{is_profile, profile_number, profile_of, mode_number, progress_of, is_mode, mode_of};
+ghost use Rattle.keys.specs.Modes.{profile_number, profile_of, profile_in, mode_number, progress_of, mode_of, mode_in};
 
 use super::standing::{Mode, Profile, Progress, unread};
 
-// Whether a number is a profile's.
-pub fn is_profile(number: u8) -> bool
-    ensures { result ≡ is_profile number }
-{
-    number <= 1
-}
-
-pub fn profile_number(profile: Profile) -> u8
-    ensures { result ≡ profile_number profile }
-{
-    match profile {
-        Profile::Rust => 0,
-        Profile::Ecma48 => 1,
-    }
-}
-
 // The profile of a number; one that no profile has stands for the last.
+#[tactic(auto, unfolding(crate::specs::Modes::profile_of))]
 pub fn profile_of(number: u8) -> Profile
     ensures { result ≡ profile_of number }
 {
@@ -30,6 +15,38 @@ pub fn profile_of(number: u8) -> Profile
     }
 }
 
+// A number that no profile has.
+#[derive(Clone, Copy)]
+pub struct NoProfile {
+    pub number: u8,
+}
+
+impl TryFrom<u8> for Profile {
+    type Error = NoProfile;
+
+    ghost try_from_gives = { λ number r. r ≡ profile_in number };
+
+    #[tactic(auto, unfolding(crate::specs::Modes::is_profile))]
+    fn try_from(number: u8) -> Result<Profile, NoProfile> {
+        match number {
+            0 | 1 => Ok(profile_of(number)),
+            _ => Err(NoProfile { number }),
+        }
+    }
+}
+
+impl From<Profile> for u8 {
+    ghost from_gives = { λ profile number. number ≡ profile_number profile };
+
+    fn from(profile: Profile) -> u8 {
+        match profile {
+            Profile::Rust => 0,
+            Profile::Ecma48 => 1,
+        }
+    }
+}
+
+// A mode is a number and what stands beside it (`progress_of`), so no `From` gives it.
 pub fn mode_number(mode: Mode) -> u8
     ensures { result ≡ mode_number mode }
 {
@@ -46,30 +63,13 @@ pub fn progress_of(mode: Mode) -> Progress
     ensures { result ≡ progress_of mode }
 {
     match mode {
-        Mode::Typing => unread(),
-        Mode::Escape => unread(),
-        Mode::Sequence => unread(),
+        Mode::Typing | Mode::Escape | Mode::Sequence => unread(),
         Mode::Control(progress) => progress,
     }
 }
 
-// Whether a number is a mode's, and what stands beside it belongs to that mode.
-pub fn is_mode(number: u8, progress: Progress) -> bool
-    ensures { result ≡ is_mode number progress }
-{
-    match number {
-        0..=2 => {
-            if progress.read == 0 {
-                return progress.parameter == 0;
-            }
-            false
-        }
-        3 => true,
-        _ => false,
-    }
-}
-
 // The mode of a number and of what stands beside it; a number that no mode has stands for the last.
+#[tactic(auto, unfolding(crate::specs::Modes::mode_of))]
 pub fn mode_of(number: u8, progress: Progress) -> Mode
     ensures { result ≡ mode_of number progress }
 {
@@ -78,5 +78,18 @@ pub fn mode_of(number: u8, progress: Progress) -> Mode
         1 => Mode::Escape,
         2 => Mode::Sequence,
         _ => Mode::Control(progress),
+    }
+}
+
+// The mode of a number, if one has it and what stands beside it belongs to that mode.
+#[tactic(auto, unfolding(crate::specs::Modes::is_mode))]
+pub fn mode_in(number: u8, progress: Progress) -> Option<Mode>
+    ensures { result ≡ mode_in number progress }
+{
+    let unread = progress.read == 0 && progress.parameter == 0;
+    match number {
+        0..=2 if unread => Some(mode_of(number, progress)),
+        3 => Some(mode_of(number, progress)),
+        _ => None,
     }
 }

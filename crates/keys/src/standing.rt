@@ -42,7 +42,7 @@ pub const OTHER: u8 = 255;
 pub struct Progress {
     // The bytes after ESC `[`.
     pub read: u8,
-    // 0 for none; 1, 3, 4, 7 or 8 if that digit is the one byte read; 255 for anything else.
+    // As a saved state has it: 0 for none; 1, 3, 4, 7 or 8 if that digit is the one byte read; 255 for anything else.
     pub parameter: u8,
 }
 
@@ -69,47 +69,34 @@ pub enum Mode {
 }
 
 // Whether one byte makes this parameter.
+#[tactic(auto, unfolding(crate::specs::Modes::single, crate::specs::Modes::other))]
 fn is_single(parameter: u8) -> bool
     ensures { result ≡ single parameter }
 {
-    match parameter {
-        1 | 3 | 4 | 7 | 8 | OTHER => true,
-        _ => false,
-    }
+    matches!(parameter, 1 | 3 | 4 | 7 | 8 | OTHER)
 }
 
 // Whether bytes after ESC `[` lead to this.
+#[tactic(auto, unfolding(crate::specs::Modes::good_progress, crate::specs::Modes::longest, crate::specs::Modes::other))]
 fn is_good_progress(progress: Progress) -> bool
     ensures { result ≡ good_progress progress }
 {
-    let read = progress.read;
-    let parameter = progress.parameter;
-    if read == 0 {
-        return parameter == 0;
+    match progress.read {
+        0 => progress.parameter == 0,
+        1 => is_single(progress.parameter),
+        2..=LONGEST => progress.parameter == OTHER,
+        _ => false,
     }
-    if read == 1 {
-        return is_single(parameter);
-    }
-    if LONGEST < read {
-        return false;
-    }
-    parameter == OTHER
 }
 
 // Whether bytes lead to this mode in this profile.
 pub fn is_good_mode(profile: Profile, mode: Mode) -> bool
     ensures { result ≡ good_mode profile mode }
 {
-    match mode {
-        Mode::Typing => true,
-        Mode::Escape => true,
-        Mode::Sequence => match profile {
-            Profile::Rust => true,
-            Profile::Ecma48 => false,
-        },
-        Mode::Control(progress) => match profile {
-            Profile::Rust => false,
-            Profile::Ecma48 => is_good_progress(progress),
-        },
+    match (mode, profile) {
+        (Mode::Typing | Mode::Escape, _) => true,
+        (Mode::Sequence, Profile::Rust) => true,
+        (Mode::Control(progress), Profile::Ecma48) => is_good_progress(progress),
+        (Mode::Sequence, Profile::Ecma48) | (Mode::Control(_), Profile::Rust) => false,
     }
 }

@@ -1,4 +1,5 @@
 -- Laws of one frame of a search, as the code tests it.
+use Rattle.std.specs.Prelude.{Option as Maybe, Some, None}
 use Prim.Native.Nat.{ℕ}
 use mathlib.Core.Path.{◌≡◌, refl, ◌∙◌}
 use mathlib.Core.Bool.{Bool, true, false, cond}
@@ -32,13 +33,13 @@ module _ (key name : List ℕ) where
   unfolding keyed
   keyed_name l e = rw e
 
-  pub keyed_none : (n : ℕ) (s : List ℕ) → same_bytes name key ≡ false → n ≡ 0xff → false ≡ keyed key name (perhaps_in n s)
+  pub keyed_none : (o : Maybe ℕ) (s : List ℕ) → same_bytes name key ≡ false → o ≡ None → false ≡ keyed key name (perhaps_in o s)
   unfolding keyed perhaps_in
-  keyed_none n s e k = rw (e, k)
+  keyed_none o s e k = rw (e, k)
 
-  pub keyed_long : (n : ℕ) (s : List ℕ) → same_bytes name key ≡ false → (n ≡ 0xff → ⊥) → same_bytes (take n s) key ≡ keyed key name (perhaps_in n s)
+  pub keyed_long : (o : Maybe ℕ) (n : ℕ) (s : List ℕ) → same_bytes name key ≡ false → o ≡ Some n → same_bytes (take n s) key ≡ keyed key name (perhaps_in o s)
   unfolding keyed perhaps_in
-  keyed_long n s e k = rw (e, ne_eqb n 0xff k)
+  keyed_long o n s e k = rw (e, k)
 
 module _ (sought : Sought) (key : List ℕ) (size : ℕ) where
   -- a node

@@ -1,4 +1,5 @@
 -- Lookups in an image are lookups in the forest that it stands for: a command, a child, a definition; no other command matters.
+use Rattle.std.specs.Prelude.{Some, Option}
 use Prim.Native.Nat.{ℕ, suc, ◌<◌}
 use mathlib.Core.Path.{◌≡◌, refl, ap, ◌∙◌}
 use mathlib.Core.Bool.{Bool, true, false, cond}
@@ -21,8 +22,6 @@ use Rattle.lookup.specs.Spots.{shifted, place_of, spot}
 use Rattle.lookup.specs.Searches.{wanted, is_node}
 use Rattle.lookup.specs.Nodes.{find_node}
 use Rattle.lookup.specs.Subtrees.{tree_named, PartHolds}
-use Rattle.lookup.specs.declared.seek.Spot.{Spot}
-use Rattle.lookup.specs.declared.seek.Spot.TheVariants.{At}
 use Rattle.lookup.specs.declared.look.Sought.TheVariants.{Node, Upper}
 use Rattle.lookup.proofs.Subtrees.{find_holds, spot_after}
 
@@ -208,9 +207,9 @@ definitions_end test [] d bare o = refl
 definitions_end test [] d (grown h n ds u defs below after) o = refl
 definitions_end test (node b h n ds u ∷ l) d f o = cc
 definitions_end test (option r c n x ds ∷ l) d f o =
-    ap (λ (s : Spot). cond (test (option r c n x ds)) (At 0) (shifted (length (encode_frame (option r c n x ds))) s)) (definitions_end test l d f (both_second (fair (option r c n x ds)) _ o))
+    ap (λ (s : Option ℕ). cond (test (option r c n x ds)) (Some 0) (shifted (length (encode_frame (option r c n x ds))) s)) (definitions_end test l d f (both_second (fair (option r c n x ds)) _ o))
 definitions_end test (flag c n x ds ∷ l) d f o =
-    ap (λ (s : Spot). cond (test (flag c n x ds)) (At 0) (shifted (length (encode_frame (flag c n x ds))) s)) (definitions_end test l d f (both_second (fair (flag c n x ds)) _ o))
+    ap (λ (s : Option ℕ). cond (test (flag c n x ds)) (Some 0) (shifted (length (encode_frame (flag c n x ds))) s)) (definitions_end test l d f (both_second (fair (flag c n x ds)) _ o))
 
 -- the definitions of a node, sought in the part of its tree from after the node, are those of the node alone
 pub definitions_spot : (test : Frame → Bool) (h : ℕ) (n ds : List ℕ) (u : Perhaps) (defs : List Frame) (below : Forest) (d : ℕ) → definitions_only defs ≡ true

@@ -1,4 +1,5 @@
 -- Laws of the pass over a node's definitions, for any test of a definition: one frame, then the pass from the place after it.
+use Rattle.std.specs.Prelude.{Some, None, Option}
 use Prim.Native.Nat.{ℕ, ◌+◌, ◌<◌, ◌≤◌}
 use mathlib.Core.Path.{◌≡◌, refl, sym, ◌∙◌}
 use mathlib.Core.Bool.{Bool, true, false, cond}
@@ -9,20 +10,20 @@ use denote.Enum.Declared.{tag_of}
 use Rattle.image.specs.contracts.head.Head.{the_type}
 use Rattle.buffer.specs.Numbers.{Bytes}
 use Rattle.image.specs.Frames.{Frame, node, option, flag}
-use Rattle.image.specs.Reading.{head_first, Read, read, broken, ended, read_first, node_in, option_in, flag_in}
+use Rattle.image.specs.Reading.{head_first, Read, read, broken, ended, read_first, name_in, long_in, node_in, option_in, flag_in}
 use Rattle.image.specs.declared.head.Lengths.{Lengths}
 use Rattle.image.specs.declared.head.Head.{Head}
 use Rattle.image.specs.declared.head.Head.TheVariants.{Node as NodeHead, Option as OptionHead, Flag as FlagHead, Bad, End}
 use Rattle.lookup.specs.Spots.{spot}
 use Rattle.lookup.specs.Searches.{is_node}
-use Rattle.lookup.specs.Inner.{hit_or, look_by, or_else, match_by}
+use Rattle.lookup.specs.Inner.{hit_or, look_by, or_else, match_by, asked_in, has_asked}
 use Rattle.lookup.specs.Definitions.{flag_with, option_with, flag_or, defined}
-use Rattle.lookup.specs.declared.seek.Spot.{Spot}
-use Rattle.lookup.specs.declared.seek.Spot.TheVariants.{At, Nothing}
 use Rattle.lookup.specs.declared.look.Look.{Look}
 use Rattle.lookup.specs.declared.look.Look.TheVariants.{Hit, Pass as PassLook, Stop as StopLook}
 use Rattle.lookup.specs.declared.definition.Defined.{Defined}
 use Rattle.lookup.specs.declared.definition.Defined.TheVariants.{Flag}
+use Rattle.lookup.specs.declared.definition.Asked.{Asked}
+use Rattle.lookup.specs.declared.definition.Asked.TheVariants.{Key, Short}
 use Rattle.lookup.specs.declared.definition.Match.{Match}
 use Rattle.lookup.specs.declared.definition.Match.TheVariants.{FlagHit, OptionHit, Pass, Stop}
 use Rattle.lookup.proofs.Seeks.{spot_end, spot_hit, spot_stop, spot_pass}
@@ -92,49 +93,49 @@ module _ (has : Frame → Bool) where
   option_look_lem broken = refl
   option_look_lem ended = refl
 
-  else_nothing : (x : Spot) → or_else x Nothing ≡ x
-  else_nothing (At p) = refl
-  else_nothing Nothing = refl
+  else_nothing : (x : Option ℕ) → or_else x None ≡ x
+  else_nothing (Some p) = refl
+  else_nothing None = refl
 
-  else_found : (x y : Spot) (p : ℕ) → or_else (or_else x (At p)) y ≡ or_else x (At p)
-  else_found (At q) y p = refl
-  else_found Nothing y p = refl
+  else_found : (x y : Option ℕ) (p : ℕ) → or_else (or_else x (Some p)) y ≡ or_else x (Some p)
+  else_found (Some q) y p = refl
+  else_found None y p = refl
 
   module _ (image : List ℕ) where
     -- the answer from a place on, with the option that was found before
-    unfoldable pub answer_at : Spot → ℕ → Defined
+    unfoldable pub answer_at : Option ℕ → ℕ → Option Defined
     answer_at before at = flag_or (spot (flag_with has) is_node image at) (or_else before (spot (option_with has) is_node image at))
 
-    pub answer_starts : (at : ℕ) → answer_at Nothing at ≡ defined has image at
+    pub answer_starts : (at : ℕ) → answer_at None at ≡ defined has image at
     unfolding answer_at defined
     answer_starts at = refl
 
-    module _ (before : Spot) (at : ℕ) where
-      pub answer_flag : match_by has (read_first (drop at image)) ≡ FlagHit → Flag at ≡ answer_at before at
+    module _ (before : Option ℕ) (at : ℕ) where
+      pub answer_flag : match_by has (read_first (drop at image)) ≡ FlagHit → Some (Flag at) ≡ answer_at before at
       unfolding answer_at
       answer_flag e =
           let hit = spot_hit (flag_with has) is_node image at (flag_look_lem (read_first (drop at image)) ∙ rw e) in
           rw (← hit)
 
-      none : (o : Defined) → o ≡ flag_or Nothing before → Nothing ≡ spot (flag_with has) is_node image at → Nothing ≡ spot (option_with has) is_node image at → o ≡ answer_at before at
+      none : (o : Option Defined) → o ≡ flag_or None before → None ≡ spot (flag_with has) is_node image at → None ≡ spot (option_with has) is_node image at → o ≡ answer_at before at
       unfolding answer_at
       none o e f g = e ∙ rw (← f, ← g, else_nothing before)
 
-      pub answer_stop : (o : Defined) → o ≡ flag_or Nothing before → match_by has (read_first (drop at image)) ≡ Stop → o ≡ answer_at before at
+      pub answer_stop : (o : Option Defined) → o ≡ flag_or None before → match_by has (read_first (drop at image)) ≡ Stop → o ≡ answer_at before at
       answer_stop o k e =
           none o k (spot_stop (flag_with has) is_node image at (flag_look_lem (read_first (drop at image)) ∙ rw e))
           (spot_stop (option_with has) is_node image at (option_look_lem (read_first (drop at image)) ∙ rw e))
 
-      pub answer_end : (o : Defined) → o ≡ flag_or Nothing before → length image ≤ at → o ≡ answer_at before at
+      pub answer_end : (o : Option Defined) → o ≡ flag_or None before → length image ≤ at → o ≡ answer_at before at
       answer_end o k h = none o k (spot_end (flag_with has) is_node image at h) (spot_end (option_with has) is_node image at h)
 
       -- a turn of the pass
-      pub record Turn (n : ℕ) (after : Spot) : Type 0 where
+      pub record Turn (n : ℕ) (after : Option ℕ) : Type 0 where
         pub some : 0 < n
         pub within : at ≤ length image → at + n ≤ length image
         pub same : answer_at after (at + n) ≡ answer_at before at
 
-      pub answer_option : (n : ℕ) (after : Spot) → Bytes image → match_by has (read_first (drop at image)) ≡ OptionHit n → after ≡ or_else before (At at) → Turn n after
+      pub answer_option : (n : ℕ) (after : Option ℕ) → Bytes image → match_by has (read_first (drop at image)) ≡ OptionHit n → after ≡ or_else before (Some at) → Turn n after
       unfolding answer_at
       answer_option n after b e k =
           let p = spot_pass (flag_with has) is_node image at n b (flag_look_lem (read_first (drop at image)) ∙ rw e) in
@@ -155,6 +156,18 @@ module _ (has : Frame → Bool) where
             within = p.within;
             same = rw (p.same, q.same);
           }
+
+-- what is asked for of an option's parts is asked for of the option, and so of a flag
+module _ (s : List ℕ) (c : ℕ) (t : Lengths) where
+  pub asked_option : (a : Asked) (q : ℕ) → asked_in a c (name_in s 3 t) (long_in s 3 t) ≡ has_asked a (option_in s q c t)
+  unfolding option_in
+  asked_option (Key key) q = refl
+  asked_option (Short code) q = refl
+
+  pub asked_flag : (a : Asked) → asked_in a c (name_in s 2 t) (long_in s 2 t) ≡ has_asked a (flag_in s c t)
+  unfolding flag_in
+  asked_flag (Key key) = refl
+  asked_flag (Short code) = refl
 
 -- the rest of an image that was lent and matched
 pub rest_matched : (has : Frame → Bool) (x y : List ℕ) (r told : Match) → x ≡ y → r ≡ match_by has (read_first x) → r ≡ told → match_by has (read_first y) ≡ told

@@ -1,4 +1,5 @@
 -- Laws of the subtree as a part of an image, as the code finds it.
+use Rattle.std.specs.Prelude.{Some, None, Option}
 use Prim.Native.Nat.{ℕ, ◌+◌, ◌≤◌}
 use mathlib.Core.Path.{◌≡◌}
 use mathlib.Core.List.{List, [], ◌∷◌}
@@ -15,10 +16,7 @@ use Rattle.image.proofs.Encoding.{read_within}
 use Rattle.lookup.specs.Spots.{spot}
 use Rattle.lookup.specs.Searches.{wanted, ended_by}
 use Rattle.lookup.specs.Nodes.{or_end, subtree_end, find_node}
-use Rattle.lookup.specs.declared.seek.Spot.{Spot}
-use Rattle.lookup.specs.declared.seek.Spot.TheVariants.{At, Nothing}
 use Rattle.lookup.specs.declared.look.Sought.TheVariants.{Node, Upper}
-use Rattle.lookup.specs.declared.node.Subtree.TheVariants.{Between, Nowhere}
 
 module _ (image : List ℕ) (start depth : ℕ) where
   pub end_none : (head : Head) → head ≡ head_first (drop start image) → OneOf (1 ∷ 2 ∷ 3 ∷ 4 ∷ []) (tag_of the_type head) → length image ≡ subtree_end image start depth
@@ -34,15 +32,15 @@ module _ (image : List ℕ) (start depth : ℕ) where
     unfolding read_first
     node_fits = let w = read_within (drop start image) (node_in (drop start image) d h t) t.size (rw (← e)) in let l = length-drop start image in omega arith
 
-    pub end_by_lem : (x : Spot) (key : List ℕ) → key ≡ [] → x ≡ spot (wanted (Upper depth) key) (ended_by (Upper depth)) image (start + t.size) → or_end image x ≡ subtree_end image start depth
+    pub end_by_lem : (x : Option ℕ) → x ≡ spot (wanted (Upper depth) []) (ended_by (Upper depth)) image (start + t.size) → or_end image x ≡ subtree_end image start depth
     unfolding subtree_end read_first node_in
-    end_by_lem x key k q = rw (← e, q, k)
+    end_by_lem x q = rw (← e, q)
 
-module _ (image : List ℕ) (depth : ℕ) (name : List ℕ) (x : Spot) (e : x ≡ spot (wanted (Node depth) name) (ended_by (Node depth)) image 0) where
-  pub find_none : x ≡ Nothing → Nowhere ≡ find_node image depth name
+module _ (image : List ℕ) (depth : ℕ) (name : List ℕ) (x : Option ℕ) (e : x ≡ spot (wanted (Node depth) name) (ended_by (Node depth)) image 0) where
+  pub find_none : x ≡ None → None ≡ find_node image depth name
   unfolding find_node
   find_none k = rw (← e, k)
 
-  pub find_some : (start end : ℕ) → x ≡ At start → end ≡ subtree_end image start depth → Between start end ≡ find_node image depth name
+  pub find_some : (start end : ℕ) → x ≡ Some start → end ≡ subtree_end image start depth → Some (record { start = start; end = end }) ≡ find_node image depth name
   unfolding find_node
   find_some start end k q = rw (← e, k, q)

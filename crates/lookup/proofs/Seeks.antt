@@ -1,4 +1,5 @@
 -- Laws of a search: one frame, then the search from the place after it.
+use Rattle.std.specs.Prelude.{Some, None, Option}
 use Prim.Native.Nat.{ℕ, ◌+◌, ◌<◌, ◌≤◌}
 use mathlib.Core.Path.{◌≡◌, refl, sym, ap, ◌∙◌}
 use mathlib.Core.Bool.{Bool, true, false, cond}
@@ -16,8 +17,6 @@ use Rattle.tree.specs.Images.{frames_in, frames_of}
 use Rattle.tree.proofs.Items.{items_broken, items_none, frames_read}
 use Rattle.lookup.specs.Spots.{shifted, place_of, spot}
 use Rattle.lookup.specs.Inner.{hit_or, look_by}
-use Rattle.lookup.specs.declared.seek.Spot.{Spot}
-use Rattle.lookup.specs.declared.seek.Spot.TheVariants.{At, Nothing}
 use Rattle.lookup.specs.declared.look.Look.{Look}
 use Rattle.lookup.specs.declared.look.Look.TheVariants.{Hit, Pass, Stop}
 
@@ -33,42 +32,42 @@ pub frames_none : frames_of [] ≡ []
 unfolding frames_of frames_in
 frames_none = rw items_none
 
-later_later : (a b : ℕ) (x : Spot) → shifted a (shifted b x) ≡ shifted (a + b) x
-later_later a b (At k) = ap At (omega arith)
-later_later a b Nothing = refl
+later_later : (a b : ℕ) (x : Option ℕ) → shifted a (shifted b x) ≡ shifted (a + b) x
+later_later a b (Some k) = ap Some (omega arith)
+later_later a b None = refl
 
 module _ (want ends : Frame → Bool) (image : List ℕ) (at : ℕ) where
-  pub spot_end : length image ≤ at → Nothing ≡ spot want ends image at
+  pub spot_end : length image ≤ at → None ≡ spot want ends image at
   unfolding spot place_of
   spot_end h = rw (drop_end image at h, frames_none)
 
-  pub spot_hit : look_by want ends (read_first (drop at image)) ≡ Hit → At at ≡ spot want ends image at
+  pub spot_hit : look_by want ends (read_first (drop at image)) ≡ Hit → Some at ≡ spot want ends image at
   unfolding spot place_of
   spot_hit e = by (read_first (drop at image)) refl e
     where
       z : at ≡ at + 0
       z = omega arith
 
-      choose : (t u : Bool) (n : ℕ) (x : Spot) → cond t Stop (hit_or u n) ≡ Hit → At at ≡ shifted at (cond t Nothing (cond u (At 0) x))
+      choose : (t u : Bool) (n : ℕ) (x : Option ℕ) → cond t Stop (hit_or u n) ≡ Hit → Some at ≡ shifted at (cond t None (cond u (Some 0) x))
       choose true u n x k = cc
-      choose false true n x k = ap At z
+      choose false true n x k = ap Some z
       choose false false n x k = cc
 
-      by : (x : Read) → read_first (drop at image) ≡ x → look_by want ends x ≡ Hit → At at ≡ shifted at (place_of want ends (frames_of (drop at image)))
+      by : (x : Read) → read_first (drop at image) ≡ x → look_by want ends x ≡ Hit → Some at ≡ shifted at (place_of want ends (frames_of (drop at image)))
       by (read f n) q k = rw (frames_read (drop at image) f n q) (choose (ends f) (want f) n _ k)
       by broken q k = cc
       by ended q k = cc
 
-  pub spot_stop : look_by want ends (read_first (drop at image)) ≡ Stop → Nothing ≡ spot want ends image at
+  pub spot_stop : look_by want ends (read_first (drop at image)) ≡ Stop → None ≡ spot want ends image at
   unfolding spot place_of
   spot_stop e = by (read_first (drop at image)) refl e
     where
-      choose : (t u : Bool) (n : ℕ) (x : Spot) → cond t Stop (hit_or u n) ≡ Stop → Nothing ≡ shifted at (cond t Nothing (cond u (At 0) x))
+      choose : (t u : Bool) (n : ℕ) (x : Option ℕ) → cond t Stop (hit_or u n) ≡ Stop → None ≡ shifted at (cond t None (cond u (Some 0) x))
       choose true u n x k = refl
       choose false true n x k = cc
       choose false false n x k = cc
 
-      by : (x : Read) → read_first (drop at image) ≡ x → look_by want ends x ≡ Stop → Nothing ≡ shifted at (place_of want ends (frames_of (drop at image)))
+      by : (x : Read) → read_first (drop at image) ≡ x → look_by want ends x ≡ Stop → None ≡ shifted at (place_of want ends (frames_of (drop at image)))
       by (read f n) q k = rw (frames_read (drop at image) f n q) (choose (ends f) (want f) n _ k)
       by broken q k = rw (frames_broken (drop at image) q)
       by ended q k = rw (frames_ended (drop at image) q)
@@ -83,7 +82,7 @@ module _ (want ends : Frame → Bool) (image : List ℕ) (at : ℕ) where
   unfolding spot place_of
   spot_pass n b e = by (read_first (drop at image)) refl e
     where
-      choose : (t u : Bool) (m : ℕ) (x : Spot) → cond t Stop (hit_or u m) ≡ Pass n → cond t Nothing (cond u (At 0) x) ≡ x
+      choose : (t u : Bool) (m : ℕ) (x : Option ℕ) → cond t Stop (hit_or u m) ≡ Pass n → cond t None (cond u (Some 0) x) ≡ x
       choose true u m x k = cc
       choose false true m x k = cc
       choose false false m x k = refl

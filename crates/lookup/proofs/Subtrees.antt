@@ -1,4 +1,5 @@
 -- Where the code finds a subtree, its bytes are those of the subtree among the frames.
+use Rattle.std.specs.Prelude.{Some, None, Option}
 use Prim.Native.Nat.{ℕ, ◌+◌, ◌-◌}
 use mathlib.Core.Path.{◌≡◌, refl, sym, ap, ◌∙◌}
 use mathlib.Core.Bool.{Bool, true, false, cond}
@@ -17,8 +18,6 @@ use Rattle.lookup.specs.Spots.{shifted, place_of, spot}
 use Rattle.lookup.specs.Searches.{wanted}
 use Rattle.lookup.specs.Nodes.{or_end, end_after, subtree_end, part_at, find_node}
 use Rattle.lookup.specs.Subtrees.{PartHolds}
-use Rattle.lookup.specs.declared.seek.Spot.{Spot}
-use Rattle.lookup.specs.declared.seek.Spot.TheVariants.{At, Nothing}
 use Rattle.lookup.specs.declared.look.Sought.TheVariants.{Node, Upper}
 
 fit_append : (a b : List Frame) → AllFit (a ++ b) → AllFit b
@@ -34,14 +33,14 @@ up_on test (f ∷ l) = by (test f) (up_on test l)
     by true e = refl
     by false e = ap (λ (m : List Frame). f ∷ m) e
 
-later_none : (x : Spot) → shifted 0 x ≡ x
-later_none (At k) = ap At (omega arith)
-later_none Nothing = refl
+later_none : (x : Option ℕ) → shifted 0 x ≡ x
+later_none (Some k) = ap Some (omega arith)
+later_none None = refl
 
 -- the place of the first frame that passes is after those before it
-abbrev placed : List Frame → List Frame → Spot
-placed before [] = Nothing
-placed before (f ∷ l) = At (length (flat before))
+abbrev placed : List Frame → List Frame → Option ℕ
+placed before [] = None
+placed before (f ∷ l) = Some (length (flat before))
 
 abbrev never : Frame → Bool
 never f = false
@@ -49,7 +48,7 @@ never f = false
 placed_later : (f : Frame) (before rest : List Frame) → shifted (length (encode_frame f)) (placed before rest) ≡ placed (f ∷ before) rest
 unfolding flat
 placed_later f before [] = refl
-placed_later f before (g ∷ l) = ap At (sym (length-append (encode_frame f) (flat before)))
+placed_later f before (g ∷ l) = ap Some (sym (length-append (encode_frame f) (flat before)))
 
 place_up : (test : Frame → Bool) (fs : List Frame) → place_of test never fs ≡ placed (up_to test fs) (on_from test fs)
 unfolding place_of up_to on_from flat
@@ -57,7 +56,7 @@ place_up test [] = refl
 place_up test (f ∷ l) = by (test f) (place_up test l)
   where
     by : (t : Bool) → place_of test never l ≡ placed (up_to test l) (on_from test l)
-        → cond t (At 0) (shifted (length (encode_frame f)) (place_of test never l)) ≡ placed (cond t [] (f ∷ up_to test l)) (cond t (f ∷ l) (on_from test l))
+        → cond t (Some 0) (shifted (length (encode_frame f)) (place_of test never l)) ≡ placed (cond t [] (f ∷ up_to test l)) (cond t (f ∷ l) (on_from test l))
     by true e = refl
     by false e = rw e (placed_later f (up_to test l) (on_from test l))
 

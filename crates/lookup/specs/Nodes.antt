@@ -1,19 +1,16 @@
 -- The subtree of a node as a part of an image: from the node to the next node of its depth or less, or to the end.
-use Rattle.std.specs.Prelude.{ℕ, ◌+◌, List, [], length, drop}
+use Rattle.std.specs.Prelude.{ℕ, ◌+◌, List, [], length, drop, Some, None, Option}
+use Rattle.buffer.specs.declared.lend.Span.{Span}
 use Rattle.image.specs.Frames.{Frame, node, option, flag}
 use Rattle.image.specs.Reading.{Read, read, broken, ended, read_first}
 use Rattle.lookup.specs.Spots.{spot}
 use Rattle.lookup.specs.Searches.{wanted, ended_by}
-use Rattle.lookup.specs.declared.seek.Spot.{Spot}
-use Rattle.lookup.specs.declared.seek.Spot.TheVariants.{At, Nothing}
 use Rattle.lookup.specs.declared.look.Sought.TheVariants.{Node, Upper}
-use Rattle.lookup.specs.declared.node.Subtree.{Subtree}
-use Rattle.lookup.specs.declared.node.Subtree.TheVariants.{Between, Nowhere}
 
 -- a spot, or the end if there is none
-abbrev pub or_end : List ℕ → Spot → ℕ
-or_end image (At p) = p
-or_end image Nothing = length image
+abbrev pub or_end : List ℕ → Option ℕ → ℕ
+or_end image (Some p) = p
+or_end image None = length image
 
 -- the end of the subtree of a node of that depth at a place, by the frame that stands there
 abbrev pub end_after : List ℕ → ℕ → ℕ → Frame → ℕ
@@ -30,10 +27,10 @@ end_by image start depth ended = length image
 unfoldable pub subtree_end : List ℕ → ℕ → ℕ → ℕ
 subtree_end image start depth = end_by image start depth (read_first (drop start image))
 
-abbrev pub part_at : List ℕ → ℕ → Spot → Subtree
-part_at image depth (At start) = Between start (subtree_end image start depth)
-part_at image depth Nothing = Nowhere
+abbrev pub part_at : List ℕ → ℕ → Option ℕ → Option Span
+part_at image depth (Some start) = Some (record { start = start; end = subtree_end image start depth })
+part_at image depth None = None
 
 -- the subtree of the first node of that depth and name
-unfoldable pub find_node : List ℕ → ℕ → List ℕ → Subtree
+unfoldable pub find_node : List ℕ → ℕ → List ℕ → Option Span
 find_node image depth name = part_at image depth (spot (wanted (Node depth) name) (ended_by (Node depth)) image 0)

@@ -1,11 +1,11 @@
 -- The tree of a name in a forest, and a part of an image that holds some frames.
-use Rattle.std.specs.Prelude.{ℕ, ◌-◌, ◌≤◌, ◌≡◌, cond, List, [], length, take, drop}
+use Rattle.std.specs.Prelude.{ℕ, ◌≤◌, ◌≡◌, cond, List, [], length, Some, None, Option}
 use Rattle.buffer.specs.Compare.{same_bytes}
+use Rattle.buffer.specs.Lend.{between}
+use Rattle.buffer.specs.declared.lend.Span.{Span}
 use Rattle.image.specs.Frames.{Frame}
 use Rattle.tree.specs.Images.{flat}
 use Rattle.tree.specs.Forest.{Forest, bare, grown}
-use Rattle.lookup.specs.declared.node.Subtree.{Subtree}
-use Rattle.lookup.specs.declared.node.Subtree.TheVariants.{Between, Nowhere}
 
 -- the first tree of that name among siblings, alone
 unfoldable pub tree_named : List ℕ → Forest → Forest
@@ -14,6 +14,6 @@ tree_named name (grown h n description usage definitions below after) =
     cond (same_bytes n name) (grown h n description usage definitions below bare) (tree_named name after)
 
 -- a part of an image that holds these frames and nothing else
-abbrev pub PartHolds : List ℕ → List Frame → Subtree → Type 0
-PartHolds image frames Nowhere = frames ≡ []
-PartHolds image frames (Between start end) = (start ≤ end) × (end ≤ length image) × (take (end - start) (drop start image) ≡ flat frames)
+abbrev pub PartHolds : List ℕ → List Frame → Option Span → Type 0
+PartHolds image frames None = frames ≡ []
+PartHolds image frames (Some part) = (part.start ≤ part.end) × (part.end ≤ length image) × (between image part.start part.end ≡ flat frames)

@@ -7,5 +7,4 @@ mod node;
 mod seek;
 
 pub use definition::{Defined, definition_by_short, definition_of, option_of};
-pub use node::{Subtree, find_node};
-pub use seek::Spot;
+pub use node::find_node;

@@ -7,7 +7,7 @@ ghost use Rattle.lookup.specs.Inner.{hit_or, look_at, look_by};
 use buffer::{part, same};
 use image::{Head, Lengths, head_of};
 
-// What is sought.
+// What is sought. The definitions `wanted` and `ended_by` go by it, so it is no closure.
 #[derive(Clone, Copy)]
 pub enum Sought {
     // The node of that depth whose name is the key.
@@ -34,10 +34,10 @@ pub fn is_keyed(s: &[u8], p: usize, texts: Lengths, key: &[u8]) -> bool
     if same(part(s, p + 1, texts.name), key) {
         return true;
     }
-    if texts.other == 255 {
-        return false;
+    match texts.other {
+        Some(n) => same(part(s, p + 2 + texts.name, n), key),
+        None => false,
     }
-    same(part(s, p + 2 + texts.name, texts.other), key)
 }
 
 fn hit_or_pass(hit: bool, size: usize) -> Look
@@ -76,17 +76,9 @@ pub fn look_first(s: &[u8], sought: Sought, key: &[u8]) -> Look
     ensures { result ≡ look_by (wanted sought key.now) (ended_by sought) (read_first s.now) }
 {
     match head_of(s) {
-        Head::Node {
-            depth,
-            handler: _,
-            texts,
-        } => look_node(s, depth, texts, sought, key),
-        Head::Option {
-            required: _,
-            short: _,
-            texts,
-        } => look_option(s, texts, sought, key),
-        Head::Flag { short: _, texts } => Look::Pass(texts.size),
+        Head::Node { depth, texts, .. } => look_node(s, depth, texts, sought, key),
+        Head::Option { texts, .. } => look_option(s, texts, sought, key),
+        Head::Flag { texts, .. } => Look::Pass(texts.size),
         _ => Look::Stop,
     }
 }

@@ -6,24 +6,17 @@ ghost use Rattle.lookup.specs.Spots.{spot};
 use super::look::{Look, Sought, look_first};
 use buffer::rest;
 
-// Where a frame begins, or that there is none.
-#[derive(Clone, Copy)]
-pub enum Spot {
-    At(usize),
-    Nothing,
-}
-
 // The first frame that is sought, from a place on.
-pub fn seek(image: &[u8], from: usize, sought: Sought, key: &[u8]) -> Spot
+pub fn seek(image: &[u8], from: usize, sought: Sought, key: &[u8]) -> Option<usize>
     ensures { result ≡ spot (wanted sought key.now) (ended_by sought) image.now from }
 {
     let mut at = from;
     while at < image.len() {
         match look_first(rest(image, at), sought, key) {
-            Look::Hit => return Spot::At(at),
+            Look::Hit => return Some(at),
             Look::Pass(size) => at += size,
-            Look::Stop => return Spot::Nothing,
+            Look::Stop => return None,
         }
     }
-    Spot::Nothing
+    None
 }

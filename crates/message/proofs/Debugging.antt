@@ -1,5 +1,5 @@
 -- Laws of the `Debug` text: of one byte, by the tests of the code, and of a word, byte after byte.
-use Prim.Native.Nat.{ℕ, ◌+◌, ◌-◌, ◌*◌, ◌/◌, ◌%◌, ◌<◌, ◌≤◌}
+use Prim.Native.Nat.{ℕ, ◌+◌, ◌*◌, ◌/◌, ◌%◌, ◌<◌, ◌≤◌}
 use mathlib.Core.Path.{◌≡◌, refl, sym, ap, ◌∙◌}
 use mathlib.Core.List.{List, [], ◌∷◌, ◌++◌}
 use native.Mathlib.Omega.{arith}
@@ -10,14 +10,6 @@ use Rattle.frame.specs.Hex.{digit_of}
 use Rattle.buffer.specs.Inks.{Inked, InkedFrom}
 use Rattle.buffer.proofs.Inking.{inked_nothing, inked_both, inked_as}
 use Rattle.message.specs.Debug.{hex_digits, code_text, debug_byte, debug_bytes}
-
-pub digit_low : (v : ℕ) → v < 10 → 48 + v ≡ digit_of v
-unfolding digit_of
-digit_low v h = rw (lt-ltb v 10 h)
-
-pub digit_high : (v w : ℕ) → 10 ≤ v → w ≡ v - 10 → 97 + w ≡ digit_of v
-unfolding digit_of
-digit_high v w h e = rw (le-ltb v 10 h, e)
 
 pub one_digit : (n d : ℕ) → n < 16 → d ≡ digit_of n → d ∷ [] ≡ hex_digits n
 unfolding hex_digits
@@ -38,10 +30,6 @@ module _ (b : ℕ) (quote : b ≡ 0x22 → ⊥) (slash : b ≡ 0x5c → ⊥) (no
   unfolding debug_byte
   debug_plain delete h =
       rw (ne_eqb b 0x22 quote, ne_eqb b 0x5c slash, ne_eqb b 0x00 nought, ne_eqb b 0x09 tab, ne_eqb b 0x0a feed, ne_eqb b 0x0d return, le-ltb b 0x20 h, ne_eqb b 0x7f delete)
-
-pub debug_delete : (b : ℕ) → b ≡ 0x7f → code_text b ≡ debug_byte b
-unfolding debug_byte
-debug_delete b e = rw e
 
 -- a word on its way: whoever writes the bytes that are left has written them all
 pub record OnWord (word out₀ : List ℕ) (at : ℕ) (out : List ℕ) (i end : ℕ) : Type 0 where

@@ -1,31 +1,23 @@
 // The message for an unknown word of a help line, which the Rust prints by `Debug`.
 ghost use Rattle.std.specs.Prelude.{◌≡◌, ◌+◌, ◌*◌, ◌≤◌, ◌<◌, length};
-ghost use Rattle.frame.specs.Hex.{digit_of};
 ghost use Rattle.frame.specs.Limits.{text_limit};
 ghost use Rattle.buffer.specs.Showing.{Showing};
 ghost use Rattle.buffer.specs.Inks.{Inked, InkedFrom};
 ghost use Rattle.message.specs.Debug.{hex_digits, code_text, debug_byte, debug_bytes, unknown_help};
 
-use buffer::{Shown, put, put_byte};
+use buffer::{TooShort, put, put_byte, show_by};
+use frame::hex_digit;
 
-// The hexadecimal digit of a value.
-fn digit(v: u8) -> u8
-    requires { v < 16 }
-    ensures { result ≡ digit_of v }
-{
-    if v < 10 { 48 + v } else { 97 + (v - 10) }
-}
-
-// A byte in hexadecimal digits, without a leading 0.
+// A byte in hexadecimal digits, without a leading 0: its clause says which bytes lie there, so no `Display` writes them.
 fn put_digits(n: u8, out: &mut [u8], at: usize) -> usize
     requires { at < 4294967000 }
     ensures { Inked (hex_digits n) out.old at result out.new × (result ≤ at + 2) }
 {
     if n < 16 {
-        return put_byte(digit(n), out, at);
+        return put_byte(hex_digit(n), out, at);
     }
-    let low = put_byte(digit(n / 16), out, at);
-    put_byte(digit(n % 16), out, low)
+    let low = put_byte(hex_digit(n / 16), out, at);
+    put_byte(hex_digit(n % 16), out, low)
 }
 
 // A control as its code.
@@ -39,6 +31,7 @@ fn put_code(n: u8, out: &mut [u8], at: usize) -> usize
 }
 
 // A byte of a word, as `Debug` writes it.
+#[tactic(auto, unfolding(crate::specs::Debug::debug_byte, buffer::specs::Ascii::ascii))]
 fn put_debug(byte: u8, out: &mut [u8], at: usize) -> usize
     requires { at < 4294966000 }
     ensures { Inked (debug_byte byte) out.old at result out.new × (result ≤ at + 6) }
@@ -60,11 +53,9 @@ fn put_word(word: &[u8], out: &mut [u8], at: usize) -> usize
     requires { at + 64 * length word.now < 4294966000 }
     ensures { InkedFrom word.now (debug_bytes word.now) out.old at result out.new }
 {
-    let mut i = 0;
     let mut end = at;
-    while i < word.len() {
-        end = put_debug(word[i], out, end);
-        i += 1;
+    for byte in word {
+        end = put_debug(*byte, out, end);
     }
     end
 }
@@ -78,22 +69,10 @@ fn put_unknown_help(word: &[u8], out: &mut [u8]) -> usize
     put(b"\")\n", out, end)
 }
 
-fn unknown_help_size(word: &[u8]) -> usize
-    requires { length word.now ≤ text_limit }
-    ensures { result ≡ length (unknown_help word.now) }
-{
-    let mut none = [0; 1];
-    put_unknown_help(word, &mut none[..0])
-}
-
 // The message for a word of a help line that names no node.
-pub fn show_unknown_help(word: &[u8], out: &mut [u8]) -> Shown
+pub fn show_unknown_help(word: &[u8], out: &mut [u8]) -> Result<usize, TooShort>
     requires { length word.now ≤ text_limit }
     ensures { Showing (unknown_help word.now) out.old result out.new }
 {
-    let needed = unknown_help_size(word);
-    if out.len() < needed {
-        return Shown::NoRoom(needed);
-    }
-    Shown::Text(put_unknown_help(word, out))
+    show_by(|out| put_unknown_help(word, out), out)
 }

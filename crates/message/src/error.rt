@@ -5,7 +5,7 @@ ghost use Rattle.buffer.specs.Showing.{Showing};
 ghost use Rattle.buffer.specs.Inks.{Inked};
 ghost use Rattle.message.specs.Messages.{message};
 
-use buffer::{Shown, put};
+use buffer::{TooShort, put, show_by};
 
 // What is wrong with a line.
 #[derive(Clone, Copy)]
@@ -65,22 +65,10 @@ fn put_message(told: ParseError, text: &[u8], out: &mut [u8]) -> usize
     }
 }
 
-fn message_size(told: ParseError, text: &[u8]) -> usize
-    requires { length text.now ≤ text_limit }
-    ensures { result ≡ length (message told text.now) }
-{
-    let mut none = [0; 1];
-    put_message(told, text, &mut none[..0])
-}
-
 // The message that names a text.
-pub fn show_message(told: ParseError, text: &[u8], out: &mut [u8]) -> Shown
+pub fn show_message(told: ParseError, text: &[u8], out: &mut [u8]) -> Result<usize, TooShort>
     requires { length text.now ≤ text_limit }
     ensures { Showing (message told text.now) out.old result out.new }
 {
-    let needed = message_size(told, text);
-    if out.len() < needed {
-        return Shown::NoRoom(needed);
-    }
-    Shown::Text(put_message(told, text, out))
+    show_by(|out| put_message(told, text, out), out)
 }

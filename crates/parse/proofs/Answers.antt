@@ -1,4 +1,5 @@
 -- The laws of the call: no second answer; no other command matters; a fault has a number of the standard; and no word is lost without a sound.
+use Rattle.std.specs.Prelude.{Err, Result, Ok, ⊤}
 use Prim.Native.Nat.{ℕ, suc, min}
 use mathlib.Core.Path.{◌≡◌, refl, sym, ap, ◌∙◌}
 use mathlib.Core.Bool.{Bool, true, false, cond}
@@ -12,19 +13,18 @@ use Rattle.words.specs.Tokens.{words_of}
 use Rattle.image.specs.Frames.{Frame}
 use Rattle.tree.specs.Images.{frames_of}
 use Rattle.tree.specs.Rules.{check_tree}
-use Rattle.tree.specs.declared.check.Checked.{Checked}
-use Rattle.tree.specs.declared.check.Checked.TheVariants.{Good}
+use Rattle.tree.specs.declared.check.BadFrame.{BadFrame}
 use Rattle.tree.specs.Subtrees.{subtree}
 use Rattle.tree.specs.Commands.{Reached, on_subtree, descend}
 use Rattle.arguments.specs.Meanings.{definitions_of}
 use Rattle.arguments.specs.Arguments.{Found, none_found, args, Stand, go, wait, unknown_option, missing_value}
 use Rattle.parse.specs.Commands.{missing_required, Outcome, parsed, fault, on_missing, outcome_of, concluded, parse_in, parse_words, parse_line}
 use Rattle.parse.specs.Answer.{outcome_answer, outcome_leaves, on_checked, parse_answer, parse_leaves, Parsing}
-use Rattle.parse.specs.declared.answer.Parsed.{Parsed}
-use Rattle.parse.specs.declared.answer.Parsed.TheVariants.{BadTree, LineTooLong, IllFormed}
+use Rattle.parse.specs.declared.answer.ParseRefusal.{ParseRefusal}
+use Rattle.parse.specs.declared.answer.ParseRefusal.TheVariants.{BadTree, LineTooLong, IllFormed}
 
 -- NO SECOND ANSWER
-pub one_answer : (image line out left other : List ℕ) (r q : Parsed) → Parsing image line out r left → Parsing image line out q other → (r ≡ q) × (left ≡ other)
+pub one_answer : (image line out left other : List ℕ) (r q : Result ℕ ParseRefusal) → Parsing image line out r left → Parsing image line out q other → (r ≡ q) × (left ≡ other)
 one_answer image line out left other r q a b = (a.answer ∙ sym b.answer, a.bytes ∙ sym b.bytes)
 
 -- NO OTHER COMMAND MATTERS: two trees agree on a line if the command that its first word names is absent from both or has the same subtree
@@ -43,10 +43,10 @@ else_alike true x y z e = refl
 else_alike false x y z e = e refl
 
 -- as the call has it, under two well-formed trees. A line that is over-long or ill-formed names no command, and nothing is asked of the trees for it.
-module _ (image other line : List ℕ) (g : check_tree image ≡ Good) (h : check_tree other ≡ Good) (out left right : List ℕ) (r q : Parsed) (a : Parsing image line out r left) (b : Parsing other line out q right)
+module _ (image other line : List ℕ) (g : check_tree image ≡ Ok tt) (h : check_tree other ≡ Ok tt) (out left right : List ℕ) (r q : Result ℕ ParseRefusal) (a : Parsing image line out r left) (b : Parsing other line out q right)
     (agree : ltb 1024 (length line) ≡ false → ltb (well_formed_length line) (length line) ≡ false → AgreeOn (frames_of image) (frames_of other) (words_of line)) where
   both_good : {A : Type 0} (bad : ℕ → A) (x y : A) → x ≡ y → on_checked (check_tree image) bad x ≡ on_checked (check_tree other) bad y
-  both_good bad x y e = ap (λ (z : Checked). on_checked z bad x) g ∙ e ∙ sym (ap (λ (z : Checked). on_checked z bad y) h)
+  both_good bad x y e = ap (λ (z : Result ⊤ BadFrame). on_checked z bad x) g ∙ e ∙ sym (ap (λ (z : Result ⊤ BadFrame). on_checked z bad y) h)
 
   -- what is told of the line, once it is neither
   alike : {A : Type 0} (long ill : A) (tell : Outcome → A)
@@ -60,7 +60,7 @@ module _ (image other line : List ℕ) (g : check_tree image ≡ Good) (h : chec
   pub other_commands : (r ≡ q) × (left ≡ right)
   unfolding parse_answer parse_leaves
   other_commands = (
-    a.answer ∙ both_good (λ n. BadTree n) _ _ (alike (LineTooLong (min (length line) 65535)) (IllFormed (well_formed_length line)) (λ o. outcome_answer o (length out))) ∙ sym b.answer,
+    a.answer ∙ both_good (λ n. Err (BadTree n)) _ _ (alike (Err (LineTooLong (min (length line) 65535))) (Err (IllFormed (well_formed_length line))) (λ o. outcome_answer o (length out))) ∙ sym b.answer,
     a.bytes ∙ both_good (λ n. out) _ _ (alike out out (λ o. outcome_leaves o out)) ∙ sym b.bytes,
   )
 

@@ -8,8 +8,8 @@ use native.Mathlib.Omega.{arith}
 use lib.Dec.{ltb, eqb}
 use lib.ListN.{length, take, drop, get_or, length-append, length-take, length-drop}
 use Rattle.buffer.specs.Compare.{order}
-use Rattle.buffer.specs.declared.order.Order.{Order}
-use Rattle.buffer.specs.declared.order.Order.TheVariants.{Less, Equal, Greater}
+use Rattle.std.specs.declared.cmp.Ordering.{Ordering}
+use Rattle.std.specs.declared.cmp.Ordering.TheVariants.{Less, Equal, Greater}
 use Rattle.text.specs.Unicode.{encode, encode_all}
 use Rattle.text.specs.Decoding.{codes_in, well_formed_length}
 use Rattle.text.proofs.Pieces.{encode_some}
@@ -42,7 +42,7 @@ module _ (f : List ℕ × List ℕ → List ℕ) where
   runs_put k v [] = let a = length-append (f (k, v)) [] in omega arith
   runs_put k v (e ∷ m) = by (order k e.0) (runs_put k v m)
     where
-      by : (o : Order) → length (runs f (put k v m)) ≤ length (f (k, v)) + length (runs f m)
+      by : (o : Ordering) → length (runs f (put k v m)) ≤ length (f (k, v)) + length (runs f m)
           → length (runs f (on_order o ((k, v) ∷ e ∷ m) ((k, v) ∷ m) (e ∷ put k v m))) ≤ length (f (k, v)) + length (f e ++ runs f m)
       by Less h = let a = length-append (f (k, v)) (f e ++ runs f m) in omega arith
       by Equal h = let a = length-append (f (k, v)) (runs f m) in let b = length-append (f e) (runs f m) in omega arith

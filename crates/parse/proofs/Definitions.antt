@@ -3,7 +3,7 @@ use Prim.Native.Nat.{ℕ, ◌+◌, ◌<◌, ◌≤◌}
 use mathlib.Core.Path.{◌≡◌, refl, sym, ap, ◌∙◌}
 use mathlib.Core.Bool.{Bool, true, false, cond}
 use mathlib.Core.List.{List, [], ◌∷◌}
-use mathlib.Core.Option.{Option, none, some}
+use mathlib.Core.Option.{none, some}
 use native.Mathlib.Omega.{arith}
 use types.Run.{OneOf, hit, miss}
 use denote.Enum.Declared.{tag_of}
@@ -12,7 +12,6 @@ use lib.Seq.{drop-drop}
 use Rattle.buffer.proofs.Choices.{then_is, else_is}
 use Rattle.table.specs.Map.{Map}
 use Rattle.table.specs.Inner.{part_of}
-use Rattle.table.specs.declared.packing.Span.{Span}
 use Rattle.image.specs.Frames.{Frame}
 use Rattle.image.specs.Reading.{read, head_first, read_by, read_first, node_in, option_in, flag_in}
 use Rattle.image.specs.declared.head.Lengths.{Lengths}
@@ -27,10 +26,7 @@ use Rattle.tree.specs.Commands.{NodeFirst}
 use Rattle.lookup.specs.Searches.{is_node}
 use Rattle.arguments.specs.Meanings.{definitions_of}
 use Rattle.arguments.specs.Inner.{definitions_at}
-use Rattle.parse.specs.Commands.{lacking, is_missing, missing_required, on_missing}
-use Rattle.parse.specs.Inner.{required_by}
-use Rattle.parse.specs.declared.required.Required.{Required}
-use Rattle.parse.specs.declared.required.Required.TheVariants.{Fine, Missing}
+use Rattle.parse.specs.Commands.{lacking, is_missing, missing_required}
 
 -- the frames of bytes, by what they begin with
 pub frames_none : (s : List ℕ) (head : Head) → head_first s ≡ head → OneOf (3 ∷ 4 ∷ []) (tag_of the_type head) → frames_of s ≡ []
@@ -116,43 +112,13 @@ pub none_missing : (options : Map) → missing_required [] options ≡ none
 unfolding missing_required
 none_missing options = refl
 
--- THE SEARCH: what is told, or else what is missing from the place reached, is what is missing from the beginning; nothing is told while definitions are ahead
-pub record Searched (node : List ℕ) (options : Map) (start : ℕ) (told : Required) (at : ℕ) : Type 0 where
-  pub unsaid : at < length node → required_by node told ≡ none
-  pub same : on_missing (required_by node told) some (missing_required (definitions_at node at) options) ≡ missing_required (definitions_at node start) options
+-- THE SEARCH: what is missing from the place reached is what is missing from the beginning
+abbrev pub Searched : List ℕ → Map → ℕ → ℕ → Type 0
+Searched node options start at = missing_required (definitions_at node at) options ≡ missing_required (definitions_at node start) options
 
-module _ (node : List ℕ) (options : Map) (start : ℕ) where
-  pub searched_from : Searched node options start Fine start
-  searched_from = record { unsaid = λ h. refl; same = refl }
-
-  module _ (told : Required) (at : ℕ) (s : Searched node options start told at) where
-    -- one is missing here and is told: nothing may be ahead of the search any more
-    pub searched_told : (name : Span) (next : ℕ) → at < length node → missing_required (definitions_at node at) options ≡ required_by node (Missing name) → length node ≤ next
-        → Searched node options start (Missing name) next
-    searched_told name next h e end = record {
-      unsaid = λ more. absurd (omega (arith, more, end));
-      same = sym e ∙ sym (ap (λ (o : Option (List ℕ)). on_missing o some (missing_required (definitions_at node at) options)) (s.unsaid h)) ∙ s.same;
-    }
-
-    -- none is missing here
-    pub searched_on : (next : ℕ) → at < length node → missing_required (definitions_at node at) options ≡ missing_required (definitions_at node next) options → Searched node options start told next
-    searched_on next h e = record { unsaid = λ more. s.unsaid h; same = ap (on_missing (required_by node told) some) (sym e) ∙ s.same }
-
-    -- no definition stands here: nothing is missing
-    pub searched_stop : at < length node → definitions_at node at ≡ [] → none ≡ missing_required (definitions_at node start) options
-    searched_stop h e =
-        sym (none_missing options) ∙ ap (λ (l : List Frame). missing_required l options) (sym e)
-        ∙ sym (ap (λ (o : Option (List ℕ)). on_missing o some (missing_required (definitions_at node at) options)) (s.unsaid h)) ∙ s.same
-
-    pub searched_end : length node ≤ at → required_by node told ≡ missing_required (definitions_at node start) options
-    unfolding missing_required
-    searched_end h =
-        told_alone told
-        ∙ ap (λ (l : List Frame). on_missing (required_by node told) some (missing_required l options)) (sym (definitions_end node at h)) ∙ s.same
-      where
-        told_alone : (r : Required) → required_by node r ≡ on_missing (required_by node r) some (missing_required [] options)
-        told_alone Fine = refl
-        told_alone (Missing name) = refl
+-- no definition stands at a place: nothing is missing
+pub searched_stop : (node : List ℕ) (options : Map) (start at : ℕ) → Searched node options start at → definitions_at node at ≡ [] → none ≡ missing_required (definitions_at node start) options
+searched_stop node options start at s e = sym (none_missing options) ∙ ap (λ (l : List Frame). missing_required l options) (sym e) ∙ s
 
 -- where the definitions of a node begin
 module _ (node : List ℕ) where

@@ -1,9 +1,12 @@
 -- What a verdict rests on: the scan's stand, the command that was reached, and the limits of its node, within which a table holds what the map holds.
+use Rattle.std.specs.Prelude.{Ok, Err, Option, Result, ⊤, MatchResult, IsErrAnd}
+use Rattle.std.proofs.lemmas.Result.{err_from_is_err_and}
+use Rattle.table.specs.declared.packing.Span.{Span}
 use Prim.Native.Nat.{ℕ, suc, ◌+◌, ◌≤◌}
 use mathlib.Core.Path.{◌≡◌, refl, sym, ap, ◌∙◌}
 use mathlib.Core.Bool.{Bool, true, false, cond}
 use mathlib.Core.List.{List, [], ◌∷◌, ◌++◌}
-use mathlib.Core.Option.{Option}
+use mathlib.Core.Option.{Option as Maybe}
 use native.Mathlib.Omega.{arith}
 use borrow.Author.Tests.{leb-true}
 use lib.Dec.{leb}
@@ -24,12 +27,10 @@ use Rattle.tree.specs.Rules.{is_less, after, check_tree}
 use Rattle.tree.specs.Commands.{Reached, on_subtree, descend, reached_by}
 use Rattle.tree.specs.Trails.{image_part, Within, Descended, Leads}
 use Rattle.tree.specs.Forest.{Forest, bare, grown, flatten, options_in, flags_in, definitions_only, modest, orderly}
-use Rattle.tree.specs.declared.check.Checked.TheVariants.{Good}
 use Rattle.tree.proofs.WellFormedImages.{WellFormed, good_well_formed}
 use Rattle.tree.proofs.Planting.{obeys_forest}
 use Rattle.tree.specs.Subtrees.{up_to, subtree}
 use Rattle.tree.specs.declared.command.Place.{Place}
-use Rattle.tree.specs.declared.command.Found.{Found as Command}
 use Rattle.lookup.specs.Searches.{is_node}
 use Rattle.lookup.specs.Subtrees.{tree_named}
 use Rattle.lookup.proofs.Lookups.{subtree_named, child_named, named_orderly}
@@ -44,18 +45,27 @@ use Rattle.arguments.proofs.Room.{options_few, flags_few, args_same}
 use Rattle.words.proofs.GoodWords.{Each, also, Good as Worthy}
 use Rattle.parse.proofs.Answers.{descent_keeps}
 use Rattle.parse.specs.Commands.{missing_required, Outcome, parsed, fault, on_missing, outcome_of, concluded, parse_in, parse_words, empty_command}
-use Rattle.parse.specs.Inner.{outcome_by, outcome_in, number_of, Parted, Judging}
-use Rattle.parse.specs.declared.judging.Verdict.{Verdict}
+use Rattle.parse.specs.Inner.{required_by, outcome_by, outcome_in, Parted, Judging}
+use Rattle.parse.specs.declared.judging.Fault.{Fault}
+use Rattle.parse.specs.declared.judging.Fault.TheVariants.{MissingRequired}
 use Rattle.parse.specs.declared.judging.Judged.{Judged}
+
+-- what is required decides: a name that is missing is the fault
+pub required_decides : (words part : List ℕ) (path : List (List ℕ)) (found : Found) (v : Result ⊤ Span) (r : Result ⊤ Fault) → MatchResult v (λ x. r ≡ Ok x) (λ name. IsErrAnd r (λ f. f ≡ MissingRequired name))
+    → outcome_by words part path found r ≡ on_missing (required_by part v) (λ name. fault 7 name) (parsed path found)
+required_decides words part path found (Ok u) r m = ap (outcome_by words part path found) m
+required_decides words part path found (Err name) r m =
+    let p = err_from_is_err_and r m in
+    ap (outcome_by words part path found) (p.1 ∙ ap Err p.2)
 
 -- THE VERDICT on a scan
 module _ (words part : List ℕ) (s : Scan) (defs : List Frame) (path : List (List ℕ)) (rest : List ℕ) where
   -- while it goes on, what is required decides
-  pub verdict_going : (x : Option (List ℕ)) → s.progress ≡ Going → x ≡ missing_required defs (map_of words part s.options)
+  pub verdict_going : (x : Maybe (List ℕ)) → s.progress ≡ Going → x ≡ missing_required defs (map_of words part s.options)
       → on_missing x (λ name. fault 7 name) (parsed path (found_of words part rest s)) ≡ outcome_of path defs (stand_of words part rest s)
   unfolding found_of
   verdict_going x e q =
-      ap (λ (y : Option (List ℕ)). on_missing y (λ name. fault 7 name) (parsed path (found_of words part rest s))) q
+      ap (λ (y : Maybe (List ℕ)). on_missing y (λ name. fault 7 name) (parsed path (found_of words part rest s))) q
       ∙ sym (ap (outcome_of path defs) (stand_by_lem words part rest s Going e))
 
   -- else its progress does
@@ -192,7 +202,7 @@ concluded_same r m =
     ap (outcome_of r.path (definitions_of r.frames)) s.same
 
 -- A WELL-FORMED IMAGE
-module _ (image : List ℕ) (b : Bytes image) (good : check_tree image ≡ Good) where
+module _ (image : List ℕ) (b : Bytes image) (good : check_tree image ≡ Ok tt) where
   whole_image : WellFormed image (frames_of image)
   whole_image = good_well_formed image b good
 
@@ -218,7 +228,7 @@ path_begins (x ∷ l) d fs w p = by (subtree d x fs) (λ c. path_begins l (suc d
     by (f ∷ m) more = more (f ∷ m)
 
 -- THE FIRST WORD
-module _ (words image : List ℕ) (kind n : ℕ) (e : frame_first words ≡ Framed kind n) (bi : Bytes image) (good : check_tree image ≡ Good) where
+module _ (words image : List ℕ) (kind n : ℕ) (e : frame_first words ≡ Framed kind n) (bi : Bytes image) (good : check_tree image ≡ Ok tt) where
   abbrev first : List ℕ
   first = part_of words 3 n
 
@@ -276,7 +286,7 @@ module _ (words image : List ℕ) (kind n : ℕ) (e : frame_first words ≡ Fram
         ∙ sym (ap (parse_words (frames_of image)) texts_first)
 
 -- what was found, by what it is
-pub leads_as : (words image : List ℕ) (x y : Command) (r : Reached) → x ≡ y → Leads words image x r → Leads words image y r
+pub leads_as : (words image : List ℕ) (x y : Option Place) (r : Reached) → x ≡ y → Leads words image x r → Leads words image y r
 leads_as words image x y r e l = rw e at l
 
 -- THE WORDS that lead to a command are parted after its path
@@ -299,18 +309,19 @@ words_parted words image place s d =
 pub judged_as : (words image rest left : List ℕ) (j : Judged) (a b : Outcome) (f g : List Frame) → a ≡ b → f ≡ g → Judging words image rest left j a f → Judging words image rest left j b g
 judged_as words image rest left j a b f g e q x = record { outcome = x.outcome ∙ e; within = x.within; kept = x.kept; room = x.room; lent = x.lent; command = λ k. x.command k ∙ q }
 
--- a verdict where there is no command
-pub judged_without : (words image rest : List ℕ) (j : Judged) (v : Verdict) (o : Outcome) (frames : List Frame) → j.verdict ≡ v → j.scan.kept ≡ 0 → ((words image : List ℕ) → Within words image j.place)
-    → ((part : List ℕ) (path : List (List ℕ)) (found : Found) → outcome_by words part path found v ≡ o) → (number_of v ≡ 0 → ⊥) → Judging words image rest rest j o frames
+-- a fault where there is no command
+pub judged_without : (words image rest : List ℕ) (j : Judged) (f : Fault) (o : Outcome) (frames : List Frame) → j.verdict ≡ Err f → j.scan.kept ≡ 0 → ((words image : List ℕ) → Within words image j.place)
+    → ((part : List ℕ) (path : List (List ℕ)) (found : Found) → outcome_by words part path found (Err f) ≡ o) → Judging words image rest rest j o frames
 unfolding outcome_in
-judged_without words image rest j v o frames e k w q n =
+judged_without words image rest j f o frames e k w q =
     record {
-      outcome = ap (outcome_by words (image_part image j.place) (texts_in (take j.place.at words)) (found_of words (image_part image j.place) rest j.scan)) e ∙ q _ _ _;
+      outcome = ap (outcome_by words (image_part image j.place) (texts_in (take j.place.at words)) (found_of words (image_part image j.place) rest j.scan)) e
+          ∙ q (image_part image j.place) (texts_in (take j.place.at words)) (found_of words (image_part image j.place) rest j.scan);
       within = w words image;
       kept = omega arith;
       room = refl;
-      lent = λ z. absurd (n (sym (ap number_of e) ∙ z));
-      command = λ z. absurd (n (sym (ap number_of e) ∙ z));
+      lent = λ z. cc;
+      command = λ z. cc;
     }
 
 pub no_words_lem : (words image : List ℕ) → texts_in words ≡ [] → fault 4 empty_command ≡ parse_words (frames_of image) (texts_in words)

@@ -1,69 +1,68 @@
--- What is told of an outcome: the fault of a verdict in its parts, and the answer and the bytes that a writer's answer stands for.
+-- What is told of an outcome: a fault in its parts, and the answer and the bytes that a writer's answer stands for.
+use Rattle.std.specs.Prelude.{Err, Result, Ok, IsErrAnd}
+use Rattle.std.proofs.lemmas.Result.{err_from_is_err_and}
 use Prim.Native.Nat.{ℕ, ◌≤◌}
 use mathlib.Core.Path.{◌≡◌, refl, sym, ap, ◌∙◌}
 use mathlib.Core.Bool.{Bool, true, false, cond}
-use mathlib.Core.List.{List, [], ◌∷◌}
+use mathlib.Core.List.{List}
 use native.Mathlib.Omega.{arith}
-use borrow.Author.Tests.{ne_eqb}
-use types.Run.{OneOf, miss}
-use denote.Enum.Declared.{tag_of}
 use lib.Dec.{ltb}
-use lib.ListN.{length, length-take, length-drop}
+use lib.ListN.{length, take, length-take, length-drop}
 use Rattle.buffer.specs.Write.{over}
-use Rattle.buffer.proofs.Choices.{else_is}
-use Rattle.report.specs.Report.{report_of, fault_of}
 use Rattle.report.specs.Inner.{dashed, report_answer, leaves_by, report_leaves, Reporting}
-use Rattle.report.specs.declared.answer.Reported.{Reported}
-use Rattle.report.specs.declared.answer.Reported.TheVariants.{Report as AllWritten, NoRoom as TooShort}
+use Rattle.buffer.specs.declared.show.TooShort.{TooShort}
 use Rattle.table.specs.Inner.{part_of}
 use Rattle.arguments.specs.Arguments.{Found}
 use Rattle.parse.specs.Commands.{Outcome, parsed, fault}
-use Rattle.parse.specs.Answer.{told_in, fault_answer, named_as, outcome_answer, outcome_leaves}
-use Rattle.parse.specs.Inner.{numbered, answered_by, Telling, outcome_by, number_of, dashes_of, text_of}
-use Rattle.parse.specs.declared.answer.Parsed.{Parsed}
-use Rattle.parse.specs.declared.answer.Parsed.TheVariants.{MissingRequired, NoRoom}
-use Rattle.parse.specs.declared.judging.Verdict.{Verdict}
-use Rattle.parse.specs.declared.judging.Verdict.TheVariants.{Fine, NoWords, UnknownCommand, UnknownOption, MissingValue, MissingRequired as LacksOption}
-use Rattle.parse.specs.contracts.judging.Verdict.{the_type}
+use Rattle.parse.specs.Answer.{told_in, named_as, outcome_answer, outcome_leaves}
+use Rattle.parse.specs.Inner.{Telling, outcome_by, outcome_in, number_of, dashes_of, text_of}
+use Rattle.parse.specs.declared.judging.Judged.{Judged}
+use Rattle.frame.specs.Series.{texts_in}
+use Rattle.tree.specs.Trails.{image_part}
+use Rattle.arguments.specs.Inner.{found_of}
+use Rattle.parse.specs.declared.answer.ParseRefusal.{ParseRefusal}
+use Rattle.parse.specs.declared.answer.ParseRefusal.TheVariants.{NoRoom}
+use Rattle.parse.specs.declared.judging.Fault.{Fault}
+use Rattle.parse.specs.declared.judging.Fault.TheVariants.{NoWords, UnknownCommand, UnknownOption, MissingValue, MissingRequired as LacksOption}
 
--- the last of the fault numbers
-pub last_fault : (number n : ℕ) → (number ≡ 0 → ⊥) → (number ≡ 4 → ⊥) → (number ≡ 5 → ⊥) → (number ≡ 6 → ⊥) → MissingRequired n ≡ numbered number n
-last_fault number n a b c d = sym (else_is _ _ _ (ne_eqb number 0 a) ∙ else_is _ _ _ (ne_eqb number 4 b) ∙ else_is _ _ _ (ne_eqb number 5 c) ∙ else_is _ _ _ (ne_eqb number 6 d))
-
--- a verdict without dashes
-pub no_dashes : (v : Verdict) → OneOf (0 ∷ 1 ∷ 2 ∷ 5 ∷ []) (tag_of the_type v) → 0 ≡ dashes_of v
-no_dashes Fine k = refl
-no_dashes NoWords k = refl
-no_dashes (UnknownCommand word) k = refl
-no_dashes (UnknownOption told) k = absurd (miss (0 ∷ 1 ∷ 2 ∷ 5 ∷ []) 3 tt k)
-no_dashes (MissingValue told) k = absurd (miss (0 ∷ 1 ∷ 2 ∷ 5 ∷ []) 4 tt k)
-no_dashes (LacksOption name) k = refl
-
--- THE FAULT of a verdict is told in its parts
+-- WHAT WAS JUDGED is told in its parts: a fault, or a report
 module _ (words part : List ℕ) (path : List (List ℕ)) (found : Found) where
-  pub fault_told : (v : Verdict) → (number_of v ≡ 0 → ⊥) → outcome_by words part path found v ≡ fault (number_of v) (dashed (dashes_of v) (text_of words part v))
+  fault_told : (f : Fault) → fault (number_of f) (dashed (dashes_of f) (text_of words part f)) ≡ outcome_by words part path found (Err f)
   unfolding dashed
-  fault_told Fine k = absurd (k refl)
-  fault_told NoWords k = refl
-  fault_told (UnknownCommand word) k = refl
-  fault_told (UnknownOption told) k = refl
-  fault_told (MissingValue told) k = refl
-  fault_told (LacksOption name) k = refl
+  fault_told NoWords = refl
+  fault_told (UnknownCommand word) = refl
+  fault_told (UnknownOption told) = refl
+  fault_told (MissingValue told) = refl
+  fault_told (LacksOption name) = refl
 
-  pub report_told : (v : Verdict) → number_of v ≡ 0 → outcome_by words part path found v ≡ parsed path found
-  report_told Fine k = refl
-  report_told NoWords k = absurd (omega arith)
-  report_told (UnknownCommand word) k = absurd (omega arith)
-  report_told (UnknownOption told) k = absurd (omega arith)
-  report_told (MissingValue told) k = absurd (omega arith)
-  report_told (LacksOption name) k = absurd (omega arith)
+module _ (words image rest : List ℕ) (j : Judged) where
+  abbrev part : List ℕ
+  part = image_part image j.place
+
+  abbrev path : List (List ℕ)
+  path = texts_in (take j.place.at words)
+
+  abbrev found : Found
+  found = found_of words part rest j.scan
+
+  pub fault_in : (f : Fault) (dashes : ℕ) (text : List ℕ) → j.verdict ≡ Err f → dashes ≡ dashes_of f → text ≡ text_of words part f
+      → fault (number_of f) (dashed dashes text) ≡ outcome_in words image rest j
+  unfolding outcome_in
+  fault_in f dashes text v d t =
+      ap (λ (n : ℕ). fault (number_of f) (dashed n text)) d
+      ∙ ap (λ (s : List ℕ). fault (number_of f) (dashed (dashes_of f) s)) t
+      ∙ fault_told words part path found f
+      ∙ sym (ap (outcome_by words part path found) v)
+
+  pub report_in : j.verdict ≡ Ok tt → parsed path found ≡ outcome_in words image rest j
+  unfolding outcome_in
+  report_in v = sym (ap (outcome_by words part path found) v)
 
 -- its text is short
 part_short : (s : List ℕ) (start n : ℕ) → length (part_of s start n) ≤ length s
 part_short s start n = rw (length-take, length-drop) (omega arith)
 
-pub text_short : (words part : List ℕ) (v : Verdict) → length words ≤ 32768 → length part ≤ 32768 → length (text_of words part v) ≤ 32768
-text_short words part Fine h g = omega arith
+pub text_short : (words part : List ℕ) (f : Fault) → length words ≤ 32768 → length part ≤ 32768 → length (text_of words part f) ≤ 32768
 text_short words part NoWords h g = omega arith
 text_short words part (UnknownCommand word) h g = let k = part_short words word.start word.length in omega arith
 text_short words part (UnknownOption told) h g = let k = part_short words told.start told.length in omega arith
@@ -71,47 +70,34 @@ text_short words part (MissingValue told) h g = let k = part_short words told.st
 text_short words part (LacksOption name) h g = let k = part_short part name.start name.length in omega arith
 
 -- WHAT A WRITER ANSWERED is the answer of the outcome
-module _ (frames out left : List ℕ) (q : Reported) (w : Reporting frames out q left) (number : ℕ) (r : Parsed) (e : r ≡ answered_by number q) where
-  answers : r ≡ cond (ltb (length out) (length frames)) (NoRoom (length frames)) (numbered number (length frames))
-  unfolding report_answer
-  answers = e ∙ ap (answered_by number) w.answer ∙ by (ltb (length out) (length frames))
-    where
-      by : (t : Bool) → answered_by number (cond t (TooShort (length frames)) (AllWritten (length frames))) ≡ cond t (NoRoom (length frames)) (numbered number (length frames))
-      by true = refl
-      by false = refl
+module _ (o : Outcome) (out left : List ℕ) (q : Result ℕ TooShort) (w : Reporting (told_in o) out q left) where
+  abbrev n : ℕ
+  n = length (told_in o)
 
-  leaves : left ≡ cond (ltb (length out) (length frames)) out (over frames out)
+  written : (t : Bool) (k : ℕ) → cond {A = Result ℕ TooShort} t (Err (record { needed = n })) (Ok n) ≡ Ok k → named_as o k ≡ cond t (Err (NoRoom n)) (named_as o n)
+  written true k e = cc
+  written false k e = cc
+
+  refused : (t : Bool) (refusal : TooShort) → cond {A = Result ℕ TooShort} t (Err (record { needed = n })) (Ok n) ≡ Err refusal → Err (NoRoom refusal.needed) ≡ cond t (Err (NoRoom n)) (named_as o n)
+  refused true refusal e = cc
+  refused false refusal e = cc
+
+  leaves : left ≡ cond (ltb (length out) n) out (over (told_in o) out)
   unfolding report_answer report_leaves
-  leaves = w.bytes ∙ by (ltb (length out) (length frames))
+  leaves = w.bytes ∙ by (ltb (length out) n)
     where
-      by : (t : Bool) → leaves_by (cond t (TooShort (length frames)) (AllWritten (length frames))) frames out ≡ cond t out (over frames out)
+      by : (t : Bool) → leaves_by (cond t (Err (record { needed = n })) (Ok n)) (told_in o) out ≡ cond t out (over (told_in o) out)
       by true = refl
       by false = refl
 
-  -- for an outcome whose bytes those are, and whose answer has that number
-  pub telling : (o : Outcome) → told_in o ≡ frames → ((n : ℕ) → numbered number n ≡ named_as o n) → Telling o out r left
-  unfolding outcome_answer outcome_leaves
-  telling o b n =
-      record {
-        answer = answers ∙ ap (λ (p : Parsed). cond (ltb (length out) (length frames)) (NoRoom (length frames)) p) (n (length frames))
-            ∙ sym (ap (λ (x : List ℕ). cond (ltb (length out) (length x)) (NoRoom (length x)) (named_as o (length x))) b);
-        bytes = leaves ∙ sym (ap (λ (x : List ℕ). cond (ltb (length out) (length x)) out (over x out)) b);
-      }
+  -- it was written
+  pub told_whole : (k : ℕ) → q ≡ Ok k → Telling o out (named_as o k) left
+  unfolding report_answer outcome_answer outcome_leaves
+  told_whole k e = record { answer = written (ltb (length out) n) k (sym w.answer ∙ e); bytes = leaves }
 
--- as a verdict has it
-module _ (words part : List ℕ) (path : List (List ℕ)) (found : Found) (out left : List ℕ) (q : Reported) (r : Parsed) (v : Verdict) where
-  pub fault_telling : (number dashes : ℕ) (text : List ℕ) → number ≡ number_of v → dashes ≡ dashes_of v → text ≡ text_of words part v → (number ≡ 0 → ⊥)
-      → Reporting (fault_of (dashed dashes text)) out q left → r ≡ answered_by number q → Telling (outcome_by words part path found v) out r left
-  unfolding told_in
-  fault_telling number dashes text a b c k w e =
-      let o = fault_told words part path found v (λ z. k (a ∙ z)) in
-      let same : dashed (dashes_of v) (text_of words part v) ≡ dashed dashes text = ap (λ (n : ℕ). dashed n (text_of words part v)) (sym b) ∙ ap (dashed dashes) (sym c) in
-      telling (fault_of (dashed dashes text)) out left q w number r e (outcome_by words part path found v) (ap told_in o ∙ ap fault_of same)
-      (λ n. else_is _ _ _ (ne_eqb number 0 k) ∙ ap (λ (m : ℕ). fault_answer m n) a ∙ sym (ap (λ (x : Outcome). named_as x n) o))
-
-  pub report_telling : (number : ℕ) → number ≡ number_of v → number ≡ 0 → Reporting (report_of path found.options found.flags found.positionals) out q left → r ≡ answered_by 0 q
-      → Telling (outcome_by words part path found v) out r left
-  unfolding told_in
-  report_telling number a k w e =
-      let o = report_told words part path found v (sym a ∙ k) in
-      telling _ out left q w 0 r e (outcome_by words part path found v) (ap told_in o) (λ n. sym (ap (λ (x : Outcome). named_as x n) o))
+  -- it was not, at the exit of a `?`
+  pub untold : (refusal : TooShort) (r : Result ℕ ParseRefusal) → IsErrAnd r (λ x. x ≡ NoRoom refusal.needed) → q ≡ Err refusal → Telling o out r left
+  unfolding report_answer outcome_answer outcome_leaves
+  untold refusal r x e =
+      let p = err_from_is_err_and r x in
+      record { answer = p.1 ∙ ap Err p.2 ∙ refused (ltb (length out) n) refusal (sym w.answer ∙ e); bytes = leaves }

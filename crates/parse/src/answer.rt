@@ -1,13 +1,15 @@
-// What parsing a line answers.
-ghost use Rattle.std.specs.Prelude.{◌≡◌};
-ghost use Rattle.parse.specs.Inner.{answered_by};
+// Why a line has no report.
+ghost use Rattle.std.specs.Prelude.{◌≡◌, Err};
+ghost use Rattle.parse.specs.Answer.{fault_answer};
+ghost use Rattle.parse.specs.Inner.{number_of};
+ghost use Rattle.parse.specs.declared.answer.ParseRefusal.TheVariants.{BadTree, NoRoom};
 
-use report::Reported;
+use super::judging::Fault;
+use buffer::TooShort;
+use tree::BadFrame;
 
 #[derive(Clone, Copy)]
-pub enum Parsed {
-    // The report of a command, so many bytes.
-    Report(usize),
+pub enum ParseRefusal {
     // The tree is bad: the number of its first frame that breaks a rule.
     BadTree(usize),
     // The line has over 1,024 bytes: its length, 65,535 if more.
@@ -23,18 +25,30 @@ pub enum Parsed {
     NoRoom(usize),
 }
 
-// The answer of what was written for a fault of that number, or for a report, whose number is 0.
-pub fn answer(number: usize, reported: Reported) -> Parsed
-    ensures { result ≡ answered_by number reported }
+impl From<BadFrame> for ParseRefusal {
+    ghost from_gives = { λ bad refusal. refusal ≡ BadTree bad.number };
+
+    fn from(bad: BadFrame) -> ParseRefusal {
+        ParseRefusal::BadTree(bad.number)
+    }
+}
+
+impl From<TooShort> for ParseRefusal {
+    ghost from_gives = { λ short refusal. refusal ≡ NoRoom short.needed };
+
+    fn from(short: TooShort) -> ParseRefusal {
+        ParseRefusal::NoRoom(short.needed)
+    }
+}
+
+// The refusal of a line with a fault, whose frame was written, so many bytes.
+pub fn refusal_of(fault: Fault, length: usize) -> ParseRefusal
+    ensures { Err result ≡ fault_answer (number_of fault) length }
 {
-    match reported {
-        Reported::NoRoom(n) => Parsed::NoRoom(n),
-        Reported::Report(n) => match number {
-            0 => Parsed::Report(n),
-            4 => Parsed::UnknownCommand(n),
-            5 => Parsed::UnknownOption(n),
-            6 => Parsed::MissingValue(n),
-            _ => Parsed::MissingRequired(n),
-        },
+    match fault {
+        Fault::NoWords | Fault::UnknownCommand(_) => ParseRefusal::UnknownCommand(length),
+        Fault::UnknownOption(_) => ParseRefusal::UnknownOption(length),
+        Fault::MissingValue(_) => ParseRefusal::MissingValue(length),
+        Fault::MissingRequired(_) => ParseRefusal::MissingRequired(length),
     }
 }

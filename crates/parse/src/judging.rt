@@ -1,19 +1,18 @@
 // What a line says, before anything is written: a verdict on its words, with all that a report needs.
-ghost use Rattle.std.specs.Prelude.{◌≡◌, List, ℕ};
+ghost use Rattle.std.specs.Prelude.{◌≡◌, List, ℕ, Err};
 ghost use Rattle.tree.specs.Trails.{Within};
 ghost use Rattle.parse.specs.Inner.{Judges, ArgumentsAsk, ArgumentsJudged, WordsAsk, WordsJudged};
 
-use super::required::{Required, validate_required_options};
+use super::required::validate_required_options;
 use arguments::{FaultText, Progress, Scan, parse_args};
 use frame::{Framed, read_frame};
 use image::{Head, head_of};
 use table::Span;
-use tree::{Found, Place};
+use tree::Place;
 
-// Texts are told by where they stand: a word in the words, a name in the command's part of the image.
+// What is wrong with a line. Texts are told by where they stand: a word in the words, a name in the command's part of the image.
 #[derive(Clone, Copy)]
-pub enum Verdict {
-    Fine,
+pub enum Fault {
     NoWords,
     UnknownCommand(Span),
     UnknownOption(FaultText),
@@ -23,40 +22,35 @@ pub enum Verdict {
 
 #[derive(Clone, Copy)]
 pub struct Judged {
-    pub verdict: Verdict,
+    pub verdict: Result<(), Fault>,
     pub place: Place,
     pub scan: Scan,
 }
 
 // The verdict on a scan that is at its end.
-fn verdict_of<'a>(words: &'a [u8], node: &'a [u8], from: usize, scan: Scan) -> Verdict
+fn verdict_of<'a>(words: &'a [u8], node: &'a [u8], from: usize, scan: Scan) -> Result<(), Fault>
     ensures { Judges words.now node.now from scan result }
 {
-    let progress = scan.progress;
-    match progress {
-        Progress::Going => {
-            let options = scan.options;
-            match validate_required_options(words, node, from, options) {
-                Required::Fine => Verdict::Fine,
-                Required::Missing(name) => Verdict::MissingRequired(name),
-            }
-        }
+    match scan.progress {
+        Progress::Going => validate_required_options(words, node, from, scan.options).map_err(
+            Fault::MissingRequired,
+        ),
         Progress::Waiting {
             source: _,
             key: _,
             told,
-        } => Verdict::MissingValue(told),
-        Progress::UnknownOption(told) => Verdict::UnknownOption(told),
-        Progress::MissingValue(told) => Verdict::MissingValue(told),
+        } => Err(Fault::MissingValue(told)),
+        Progress::UnknownOption(told) => Err(Fault::UnknownOption(told)),
+        Progress::MissingValue(told) => Err(Fault::MissingValue(told)),
     }
 }
 
-// A verdict where there is no command.
-fn without_command(verdict: Verdict) -> Judged
-    ensures { (result.verdict ≡ verdict) × (result.scan.kept ≡ 0) × ((words image : List ℕ) → Within words image result.place) }
+// A fault where there is no command.
+fn without_command(fault: Fault) -> Judged
+    ensures { (result.verdict ≡ Err fault) × (result.scan.kept ≡ 0) × ((words image : List ℕ) → Within words image result.place) }
 {
     Judged {
-        verdict,
+        verdict: Err(fault),
         place: Place {
             start: 0,
             end: 0,
@@ -77,16 +71,14 @@ fn judge_arguments<'a>(
     requires { ArgumentsAsk words.now image.now place rest.old }
     ensures { ArgumentsJudged words.now image.now place rest.old result rest.new }
 {
-    let start = place.start;
-    let end = place.end;
-    let node = &image[start..end];
+    let node = &image[place.start..place.end];
     let Head::Node {
         depth: _,
         handler: _,
         texts,
     } = head_of(node)
     else {
-        return without_command(Verdict::UnknownCommand(first));
+        return without_command(Fault::UnknownCommand(first));
     };
     let from = texts.size;
     let scan = parse_args(words, node, from, place.at, rest);
@@ -98,16 +90,16 @@ fn judge_arguments<'a>(
 }
 
 // What the words of a line say under a well-formed tree, in which they lead to what was found; positional words are kept in `rest`.
-pub fn judge<'a>(words: &'a [u8], image: &'a [u8], found: Found, rest: &mut [u8]) -> Judged
+pub fn judge<'a>(words: &'a [u8], image: &'a [u8], found: Option<Place>, rest: &mut [u8]) -> Judged
     requires { WordsAsk words.now image.now found rest.old }
     ensures { WordsJudged words.now image.now rest.old result rest.new }
 {
     let Framed::Frame { kind: _, length } = read_frame(words, 0) else {
-        return without_command(Verdict::NoWords);
+        return without_command(Fault::NoWords);
     };
     let first = Span { start: 3, length };
-    let Found::At(place) = found else {
-        return without_command(Verdict::UnknownCommand(first));
+    let Some(place) = found else {
+        return without_command(Fault::UnknownCommand(first));
     };
     judge_arguments(words, image, place, first, rest)
 }

@@ -7,7 +7,7 @@ mod judging;
 mod parser;
 mod required;
 
-pub use answer::Parsed;
+pub use answer::ParseRefusal;
 pub use fault::{dashes_of, number_of, text_of};
-pub use judging::{Judged, Verdict, judge};
+pub use judging::{Fault, Judged, judge};
 pub use parser::parse;

@@ -1,5 +1,5 @@
 // `parse`: the line is split into words, the image tested, the words are judged, and the report or the fault is written.
-ghost use Rattle.std.specs.Prelude.{◌≡◌, ◌≤◌, length};
+ghost use Rattle.std.specs.Prelude.{◌≡◌, ◌≤◌, length, Err};
 ghost use Rattle.frame.specs.Limits.{frames_limit};
 ghost use Rattle.frame.specs.Series.{texts_in};
 ghost use Rattle.tree.specs.Images.{frames_of};
@@ -8,64 +8,54 @@ ghost use Rattle.arguments.specs.Inner.{WellSplit};
 ghost use Rattle.parse.specs.Commands.{parse_words};
 ghost use Rattle.parse.specs.Answer.{on_checked, Parsing};
 ghost use Rattle.parse.specs.Inner.{Enough, outcome_in, TellingAsks, CommandAsks, Telling, Worded};
-ghost use Rattle.parse.specs.declared.answer.Parsed.TheVariants.{BadTree};
+ghost use Rattle.parse.specs.declared.answer.ParseRefusal.TheVariants.{BadTree};
 
-use super::answer::{Parsed, answer};
-use super::fault::{EMPTY, dashes_of, number_of, text_of};
+use super::answer::{ParseRefusal, refusal_of};
+use super::fault::{dashes_of, text_of};
 use super::judging::{Judged, judge};
 use frame::FRAMES_LIMIT;
 use report::{write_fault, write_report};
-use tree::{Checked, Found, check_tree, find_command};
-use words::{Tokens, tokenize};
+use tree::{Place, check_tree, find_command};
+use words::{TokenizeRefusal, tokenize};
 
 // Writes what was judged: a report, or the frame of a fault.
-fn tell<'a>(words: &'a [u8], image: &'a [u8], judged: Judged, rest: &[u8], out: &mut [u8]) -> Parsed
+fn tell<'a>(
+    words: &'a [u8],
+    image: &'a [u8],
+    judged: Judged,
+    rest: &[u8],
+    out: &mut [u8],
+) -> Result<usize, ParseRefusal>
     requires { TellingAsks words.now image.now judged rest.now }
     ensures { Telling (outcome_in words.now image.now rest.now judged) out.old result out.new }
 {
-    let place = judged.place;
-    let start = place.start;
-    let end = place.end;
-    let node = &image[start..end];
+    let node = &image[judged.place.start..judged.place.end];
     let verdict = judged.verdict;
-    let number = number_of(verdict);
-    if number != 0 {
-        return answer(
-            number,
-            write_fault(
-                dashes_of(verdict),
-                text_of(words, node, &EMPTY, verdict),
-                out,
-            ),
-        );
+    if let Err(fault) = verdict {
+        let text = text_of(words, node, b"empty command", fault);
+        let length = write_fault(dashes_of(fault), text, out)?;
+        return Err(refusal_of(fault, length));
     }
-    let scan = judged.scan;
-    let at = place.at;
-    let kept = scan.kept;
-    let options = scan.options;
-    let flags = scan.flags;
-    answer(
-        0,
-        write_report(
-            words,
-            node,
-            &words[..at],
-            options,
-            flags,
-            &rest[..kept],
-            out,
-        ),
-    )
+    let length = write_report(
+        words,
+        node,
+        &words[..judged.place.at],
+        judged.scan.options,
+        judged.scan.flags,
+        &rest[..judged.scan.kept],
+        out,
+    )?;
+    Ok(length)
 }
 
 // The words of a line under a well-formed tree, in which they lead to what was found.
 fn parse_command<'a>(
     words: &'a [u8],
     image: &'a [u8],
-    found: Found,
+    found: Option<Place>,
     rest: &mut [u8],
     out: &mut [u8],
-) -> Parsed
+) -> Result<usize, ParseRefusal>
     requires { CommandAsks words.now image.now found rest.old }
     ensures { Telling (parse_words (frames_of image.now) (texts_in words.now)) out.old result out.new }
 {
@@ -74,29 +64,25 @@ fn parse_command<'a>(
 }
 
 // The words of a line. The image is tested, and on the way the words are followed to their command.
-fn parse_words<'a>(words: &'a [u8], image: &'a [u8], rest: &mut [u8], out: &mut [u8]) -> Parsed
+fn parse_words<'a>(
+    words: &'a [u8],
+    image: &'a [u8],
+    rest: &mut [u8],
+    out: &mut [u8],
+) -> Result<usize, ParseRefusal>
     requires { (length words.now ≤ length rest.old) × (length rest.old ≤ frames_limit) × WellSplit words.now }
     ensures { Worded image.now words.now out.old result out.new }
 {
-    let tested = find_command(words, image);
-    let checked = tested.checked;
-    match checked {
-        Checked::BadFrame(n) => Parsed::BadTree(n),
-        Checked::Good => {
-            let found = tested.found;
-            parse_command(words, image, found, rest, out)
-        }
-    }
+    let found = find_command(words, image)?;
+    parse_command(words, image, found, rest, out)
 }
 
 // A refusal of the line, which that of the image goes before.
-fn unless_bad(image: &[u8], refusal: Parsed) -> Parsed
-    ensures { result ≡ on_checked (check_tree image.now) (λ n. BadTree n) refusal }
+fn unless_bad(image: &[u8], refusal: ParseRefusal) -> Result<usize, ParseRefusal>
+    ensures { result ≡ on_checked (check_tree image.now) (λ n. Err (BadTree n)) (Err refusal) }
 {
-    match check_tree(image) {
-        Checked::BadFrame(frame) => Parsed::BadTree(frame),
-        Checked::Good => refusal,
-    }
+    check_tree(image)?;
+    Err(refusal)
 }
 
 // A line with buffers for its words, and for those of them that are positional.
@@ -106,15 +92,15 @@ fn parse_with(
     words: &mut [u8],
     rest: &mut [u8],
     out: &mut [u8],
-) -> Parsed
+) -> Result<usize, ParseRefusal>
     requires { Enough line.now (length words.old) × (length rest.old ≡ length words.old) }
     ensures { Parsing image.now line.now out.old result out.new }
 {
     match tokenize(line, words) {
-        Tokens::Words(n) => parse_words(&words[..n], image, rest, out),
-        Tokens::LineTooLong(n) => unless_bad(image, Parsed::LineTooLong(n)),
-        Tokens::IllFormed(n) => unless_bad(image, Parsed::IllFormed(n)),
-        Tokens::NoRoom(n) => Parsed::NoRoom(n),
+        Ok(n) => parse_words(&words[..n], image, rest, out),
+        Err(TokenizeRefusal::LineTooLong(n)) => unless_bad(image, ParseRefusal::LineTooLong(n)),
+        Err(TokenizeRefusal::IllFormed(n)) => unless_bad(image, ParseRefusal::IllFormed(n)),
+        Err(TokenizeRefusal::NoRoom(n)) => Err(ParseRefusal::NoRoom(n)),
     }
 }
 
@@ -125,7 +111,7 @@ const TYPED_FRAMES: usize = 4 * TYPED;
 
 // The report of a line's command, at the front of out; or a refusal, of which 4 to 7 write a frame with their text. The words of a line always find
 // room: four bytes for each byte of it. A line that was typed has at most 255, and needs no more than small buffers.
-pub fn parse(image: &[u8], line: &[u8], out: &mut [u8]) -> Parsed
+pub fn parse(image: &[u8], line: &[u8], out: &mut [u8]) -> Result<usize, ParseRefusal>
     ensures { Parsing image.now line.now out.old result out.new }
 {
     if line.len() <= TYPED {

@@ -9,13 +9,6 @@ use buffer::part;
 use image::{Head, head_at};
 use table::{Span, Table};
 
-#[derive(Clone, Copy)]
-pub enum Required {
-    Fine,
-    // The place of its name in the command's part of the image.
-    Missing(Span),
-}
-
 // Whether an option of that name is missing.
 fn is_missing<'a>(
     words: &'a [u8],
@@ -26,22 +19,18 @@ fn is_missing<'a>(
 ) -> bool
     ensures { result ≡ lacking required name.now (map_of words.now node.now options) }
 {
-    if required == 1 {
-        return !options.has(words, node, name);
-    }
-    false
+    required == 1 && !options.has(words, node, name)
 }
 
-// Of the definitions from a place on, in their order.
+// Of the definitions from a place on, in their order. Where one is missing: the place of its name in the command's part of the image.
 pub fn validate_required_options<'a>(
     words: &'a [u8],
     node: &'a [u8],
     from: usize,
     options: Table,
-) -> Required
+) -> Result<(), Span>
     ensures { required_by node.now result ≡ missing_required (definitions_at node.now from) (map_of words.now node.now options) }
 {
-    let mut missing = Required::Fine;
     let mut at = from;
     while at < node.len() {
         match head_at(node, at) {
@@ -51,21 +40,17 @@ pub fn validate_required_options<'a>(
                 texts,
             } => {
                 let name = part(node, at + 4, texts.name);
-                let next = at + texts.size;
                 if is_missing(words, node, required, name, options) {
-                    missing = Required::Missing(Span {
+                    return Err(Span {
                         start: at + 4,
                         length: texts.name,
                     });
-                    // The first is told: nothing after it is looked at.
-                    at = node.len();
-                } else {
-                    at = next;
                 }
+                at += texts.size;
             }
             Head::Flag { short: _, texts } => at += texts.size,
-            _ => return Required::Fine,
+            _ => return Ok(()),
         }
     }
-    missing
+    Ok(())
 }

@@ -1,5 +1,6 @@
 -- The bytes in use: in every state that calls reach the total is the sum of the entries' lengths, at most 25,500, and a status page reads it in two bytes; a state with another total is
 -- refused with 12, and no turn of a key depends on it, nor what is the Rust's. (The same of the calls for Rust and C: Exported. That a history is the Rust's: SameAsRust.)
+use Rattle.std.specs.Prelude.{Ok, Result, ⊤}
 use Prim.Native.Nat.{ℕ, ◌+◌, ◌-◌, ◌*◌, ◌≤◌}
 use mathlib.Core.Path.{◌≡◌, refl, ap, ◌∙◌}
 use mathlib.Core.Bool.{Bool, true, false, cond}
@@ -11,10 +12,8 @@ use Rattle.history.specs.Journal.{Journal, no_entries, count, entry_of, record_o
 use Rattle.history.specs.Answer.{number as added_number, value as added_value, Addition}
 use Rattle.history.specs.Forgotten.{Forgets, number as forgot_number, value as forgot_value}
 use Rattle.history.specs.declared.stepping.History.{History}
-use Rattle.history.specs.declared.adding.Added.{Added}
-use Rattle.history.specs.declared.adding.Added.TheVariants.{Done}
-use Rattle.history.specs.declared.forgetting.Forgot.{Forgot}
-use Rattle.history.specs.declared.forgetting.Forgot.TheVariants.{Gone}
+use Rattle.history.specs.declared.adding.AddRefusal.{AddRefusal}
+use Rattle.history.specs.declared.forgetting.ForgetRefusal.{ForgetRefusal}
 use Rattle.history.specs.Steps.{back, onward}
 use Rattle.history.proofs.Steps.{back_total, onward_total}
 use Rattle.history.proofs.Journals.{good_total, wrong_total, one_total}
@@ -26,6 +25,7 @@ use Rattle.buffer.specs.Lend.{zeros}
 use Rattle.buffer.proofs.Choices.{neither}
 use Rattle.editor.specs.declared.line.Editor.{Editor}
 use Rattle.editor.specs.declared.drawing.Pressed.{Pressed}
+use Rattle.editor.specs.declared.drawing.KeyRefusal.{KeyRefusal}
 use Rattle.editor.specs.Line.{line_of, good_editor}
 use Rattle.editor.specs.Turns.{turn_of}
 use Rattle.editor.specs.Answer.{state_of, good_state, number as pressed_number, value as pressed_value, kind as pressed_kind, beside as pressed_beside}
@@ -81,7 +81,7 @@ pub by_step : (h : History) → ((back h).history.total ≡ h.total) × ((onward
 by_step h = (back_total h, onward_total h)
 
 -- AN ADD changes it by what it adds and drops: a text that is not new leaves it, one that is makes it greater by its length, and the oldest of 100 less by its own
-pub by_add : (h : History) (slots text : List ℕ) (r : History) (left : List ℕ) → Addition h slots text r Done left
+pub by_add : (h : History) (slots text : List ℕ) (r : History) (left : List ℕ) → Addition h slots text r (Ok tt) left
     → r.total
     ≡ cond (is_new text (journal_of h slots).entries)
     (cond (ltb (count (journal_of h slots)) most_entries) h.total (h.total - length (entry_of (journal_of h slots) 0)) + length text)
@@ -89,7 +89,7 @@ pub by_add : (h : History) (slots text : List ℕ) (r : History) (left : List �
 by_add = added_total
 
 -- AN ENTRY THAT IS FORGOTTEN makes it less by its length, and by that of the older of two equal ones where that goes with it
-pub by_forget : (h : History) (slots : List ℕ) (k : ℕ) (r : History) (n : ℕ) (left : List ℕ) → Forgets h slots k r (Gone n) left
+pub by_forget : (h : History) (slots : List ℕ) (k : ℕ) (r : History) (n : ℕ) (left : List ℕ) → Forgets h slots k r (Ok n) left
     → r.total + total (take n (drop (k + 1 - n) (journal_of h slots).entries)) ≡ h.total
 by_forget = forgotten_total
 
@@ -113,18 +113,18 @@ other_bad state slots n = by (good_saved state slots) refl
     by true g = absurd (n (saved_right state slots g).0)
     by false g = refl
 
-pub key_refused : (state slots prompt : List ℕ) (byte : ℕ) (line screen : List ℕ) (r : Pressed) (state' slots' line' screen' : List ℕ)
+pub key_refused : (state slots prompt : List ℕ) (byte : ℕ) (line screen : List ℕ) (r : Result Pressed KeyRefusal) (state' slots' line' screen' : List ℕ)
     → SavedKey state slots prompt byte line screen r state' slots' line' screen' → (in_use state ≡ total (journal_of (history_in state) slots).entries → ⊥)
     → told (pressed_number r) (pressed_value r) (keyed {L = Lent} (pressed_kind r) (pressed_beside r) (state', slots', line', screen')) ≡ told 12 0 (keyed {L = Lent} 0 0 (state, slots, line, screen))
 key_refused state slots prompt byte line screen r state' slots' line' screen' p n =
     press_bad state slots prompt byte line screen r state' slots' line' screen' p (other_bad state slots n)
 
-pub add_refused : (state slots text : List ℕ) (r : Added) (state' slots' : List ℕ) → SavedAdd state slots text r state' slots'
+pub add_refused : (state slots text : List ℕ) (r : Result ⊤ AddRefusal) (state' slots' : List ℕ) → SavedAdd state slots text r state' slots'
     → (in_use state ≡ total (journal_of (history_in state) slots).entries → ⊥)
     → told {L = List ℕ × List ℕ} (added_number r) (added_value r) (state', slots') ≡ told 12 0 (state, slots)
 add_refused state slots text r state' slots' p n = saved_add_bad state slots text r state' slots' p (other_bad state slots n)
 
-pub forget_refused : (state slots : List ℕ) (k : ℕ) (r : Forgot) (state' slots' : List ℕ) → SavedForget state slots k r state' slots'
+pub forget_refused : (state slots : List ℕ) (k : ℕ) (r : Result ℕ ForgetRefusal) (state' slots' : List ℕ) → SavedForget state slots k r state' slots'
     → (in_use state ≡ total (journal_of (history_in state) slots).entries → ⊥)
     → told {L = List ℕ × List ℕ} (forgot_number r) (forgot_value r) (state', slots') ≡ told 12 0 (state, slots)
 forget_refused state slots k r state' slots' p n = saved_forget_bad state slots k r state' slots' p (other_bad state slots n)

@@ -1,4 +1,5 @@
 -- The calls for Rust and C, `rissemat_*`: the tables of demand 1, what lasts, demand 2 and demand 3, each reached through the packing of an answer into 64 bits.
+use Rattle.std.specs.Prelude.{Result, Ok, Err, ⊤}
 use Prim.Native.Nat.{ℕ, ◌/◌, ◌%◌, ◌<◌, ◌≤◌, min}
 use mathlib.Core.Path.{◌≡◌, refl, sym, ap, ◌∙◌, subst}
 use mathlib.Core.Bool.{Bool, true, false, cond}
@@ -9,7 +10,7 @@ use lib.Dec.{eqb}
 use lib.ListN.{length, take}
 use Rattle.text.specs.Apart.{trimmed, words_between}
 use Rattle.words.specs.Tokens.{words_of, word_frames}
-use Rattle.words.specs.declared.tokenizer.Tokens.{Tokens}
+use Rattle.words.specs.declared.tokenizer.TokenizeRefusal.{TokenizeRefusal}
 use Rattle.words.specs.Answer.{number as words_number, value as words_value}
 use Rattle.history.specs.Entries.{total}
 use Rattle.history.specs.Slots.{slot_after, ChangesOnly}
@@ -17,17 +18,19 @@ use Rattle.history.specs.Journal.{offered, Longer, journal_of}
 use Rattle.history.specs.Answer.{record_by, Addition, number as add_number, value as add_value}
 use Rattle.history.specs.Forgotten.{without, Forgets, number as forget_number, value as forget_value}
 use Rattle.history.specs.declared.stepping.History.{History}
-use Rattle.history.specs.declared.adding.Added.{Added}
-use Rattle.history.specs.declared.adding.Added.TheVariants.{Done, BadState as BadHistory, TooLong, IllFormed}
-use Rattle.history.specs.declared.forgetting.Forgot.{Forgot}
-use Rattle.history.specs.declared.forgetting.Forgot.TheVariants.{Gone, BadState as NoHistory, NoEntry}
+use Rattle.history.specs.declared.adding.AddRefusal.{AddRefusal}
+use Rattle.history.specs.declared.adding.AddRefusal.TheVariants.{BadState as BadHistory, TooLong, IllFormed}
+use Rattle.history.specs.declared.forgetting.ForgetRefusal.{ForgetRefusal}
+use Rattle.history.specs.declared.forgetting.ForgetRefusal.TheVariants.{BadState as NoHistory, NoEntry}
 use Rattle.history.proofs.Shortened.{gone_has}
 use Rattle.keys.specs.declared.standing.Profile.TheVariants.{Rust}
 use Rattle.keys.specs.declared.standing.Mode.TheVariants.{Typing}
 use Rattle.keys.specs.Modes.{profile_number}
 use Rattle.editor.specs.declared.drawing.KeyAnswer.{KeyAnswer}
 use Rattle.editor.specs.declared.drawing.Pressed.{Pressed}
-use Rattle.editor.specs.declared.drawing.Pressed.TheVariants.{Shown, Entered, Dropped, BadState, BadPrompt, NoRoom}
+use Rattle.editor.specs.declared.drawing.KeyRefusal.{KeyRefusal}
+use Rattle.editor.specs.declared.drawing.Pressed.TheVariants.{Shown, Entered, Dropped}
+use Rattle.editor.specs.declared.drawing.KeyRefusal.TheVariants.{BadState, BadPrompt, NoRoom}
 use Rattle.editor.specs.declared.line.Editor.{Editor}
 use Rattle.editor.specs.Line.{limit, good_line}
 use Rattle.editor.specs.Turns.{SameBut}
@@ -37,22 +40,22 @@ use Rattle.editor.proofs.States.{good_parts, editor_parts, state_parts}
 use Rattle.editor.proofs.Fine.{stays_good}
 use Rattle.state.specs.State.{saved_of, editor_in, history_in, good_saved}
 use Rattle.state.specs.Calls.{Beginning, turn_in, saved_forget_answer, SavedForget, number as begun_number, value as begun_value}
-use Rattle.state.specs.declared.calls.Begun.{Begun}
-use Rattle.state.specs.declared.calls.Begun.TheVariants.{Ready, NoRoom as NoSpace, BadState as NoState}
+use Rattle.state.specs.declared.calls.BeginRefusal.{BeginRefusal}
+use Rattle.state.specs.declared.calls.BeginRefusal.TheVariants.{NoRoom as NoSpace, BadState as NoState}
 use Rattle.state.proofs.Savings.{held_saved, history_saved_lem, good_saved_parts}
 use Rattle.state.proofs.Stored.{held_in}
 use Rattle.state.proofs.ByValue.{key_for, key_by_value, key_saved, add_by_value, add_saved}
 use Rattle.state.proofs.Lasting.{Reached, begun, by_key as key_reached, by_add as add_reached, by_forget as forget_reached}
 use Rattle.tree.specs.Rules.{check_tree}
-use Rattle.tree.specs.declared.check.Checked.TheVariants.{Good}
 use Rattle.parse.specs.Answer.{number as parse_number, value as parse_value}
-use Rattle.parse.specs.declared.answer.Parsed.{Parsed}
+use Rattle.parse.specs.declared.answer.ParseRefusal.{ParseRefusal}
 use Rattle.help.specs.Answer.{number as help_number, value as help_value}
-use Rattle.help.specs.declared.call.Helped.{Helped}
+use Rattle.help.specs.declared.call.HelpRefusal.{HelpRefusal}
 use Rattle.shell.specs.Lines.{builtin_of}
 use Rattle.shell.specs.Answer.{number as run_number, value as run_value, kind as run_kind, beside as run_beside}
 use Rattle.shell.specs.declared.answer.Ran.{Ran}
-use Rattle.shell.specs.declared.answer.Ran.TheVariants.{NoRoom as RunNoRoom}
+use Rattle.shell.specs.declared.answer.RunRefusal.{RunRefusal}
+use Rattle.shell.specs.declared.answer.RunRefusal.TheVariants.{NoRoom as RunNoRoom}
 use Rattle.shell.specs.declared.builtin.Builtin.TheVariants.{Help}
 use Rattle.shell.proofs.Answers.{naming}
 use Rattle.rissemat.specs.Packed.{answered, plain}
@@ -60,7 +63,7 @@ use Rattle.rissemat.specs.Calls.{WordsCall, QuoteCall, FreshWithCall, FreshCall,
 use Rattle.rissemat.proofs.Unpacking.{value_back, number_back, kind_back, second_back}
 use Rattle.rissemat.proofs.Packings.{words_packs, quote_packs, fresh_packs, key_packs, add_packs, forget_packs, tree_packs, parse_packs, help_packs, run_packs}
 use Rattle.rust.specs.Tree.{Commands}
-use Rattle.rust.specs.Parser.{tokenize, Result, parse}
+use Rattle.rust.specs.Parser.{tokenize, Result as RustResult, parse}
 use Rattle.rust.specs.Help.{show_help}
 use Rattle.rust.specs.Shell.{enter}
 use Rattle.rust.specs.History.{CommandHistory, add_command, shortened}
@@ -117,12 +120,12 @@ pub record TellTables : Type 0 where
   pub help : (image line out : List ℕ) (p : ℕ) (left : List ℕ) → HelpCall image line out p left → Packs (help_table image line out) p left
   pub run : (image line out : List ℕ) (p : ℕ) (left : List ℕ) → RunCall image line out p left → PacksRun (run_table image line out) p left
 
-packs_key : {L : Type 0} (r : Pressed) (left : L) (t : Answered (Keyed L)) (p : ℕ) → told (key_number r) (key_value r) (keyed (key_kind r) (key_beside r) left) ≡ t → p ≡ key_told r → PacksKey t p left
+packs_key : {L : Type 0} (r : Result Pressed KeyRefusal) (left : L) (t : Answered (Keyed L)) (p : ℕ) → told (key_number r) (key_value r) (keyed (key_kind r) (key_beside r) left) ≡ t → p ≡ key_told r → PacksKey t p left
 unfolding key_told
 packs_key r left t p e f =
     record { answer = f ∙ ap (λ (x : Answered (Keyed _)). answered x.number x.value x.left.kind x.left.submitted) e; bytes = ap (λ (x : Answered (Keyed _)). x.left.held) e }
 
-packs_run : (r : Ran) (left : List ℕ) (t : Answered Ended) (p : ℕ) → told (run_number r) (run_value r) (record { kind = run_kind r; beside = run_beside r; buffer = left }) ≡ t → p ≡ run_told r → PacksRun t p left
+packs_run : (r : Result Ran RunRefusal) (left : List ℕ) (t : Answered Ended) (p : ℕ) → told (run_number r) (run_value r) (record { kind = run_kind r; beside = run_beside r; buffer = left }) ≡ t → p ≡ run_told r → PacksRun t p left
 unfolding run_told
 packs_run r left t p e f =
     record {
@@ -173,15 +176,15 @@ pub data ReachedByCalls : List ℕ → List ℕ → Type 0 where
 abbrev pub number_in : ℕ → ℕ
 number_in p = p / 0x1_0000_0000 % 256
 
-ready_of : (r : Begun) → 0 ≡ plain (begun_number r) (begun_value r) → r ≡ Ready
+ready_of : (r : Result ⊤ BeginRefusal) → 0 ≡ plain (begun_number r) (begun_value r) → r ≡ Ok tt
 unfolding answered
-ready_of Ready e = refl
-ready_of (NoSpace n) e = absurd (omega arith)
-ready_of NoState e = absurd (omega arith)
+ready_of (Ok u) e = refl
+ready_of (Err (NoSpace n)) e = absurd (omega arith)
+ready_of (Err NoState) e = absurd (omega arith)
 
 fresh_reached : (profile : ℕ) {state slots state' slots' : List ℕ} → FreshWithCall profile state slots 0 state' slots' → Reached state' slots'
 fresh_reached profile {state} {slots} {state'} {slots'} c =
-    let b = fresh_packs profile state slots 0 state' slots' c in begun (subst (λ (r : Begun). Beginning profile state slots r state' slots') (ready_of b.0 b.2) b.1)
+    let b = fresh_packs profile state slots 0 state' slots' c in begun (subst (λ (r : Result ⊤ BeginRefusal). Beginning profile state slots r state' slots') (ready_of b.0 b.2) b.1)
 
 reached : {state slots : List ℕ} → ReachedByCalls state slots → Reached state slots
 reached (by_fresh c) = fresh_reached (profile_number Rust) c
@@ -233,7 +236,7 @@ module _ (state slots state₂ slots₂ : List ℕ) (g : good_saved state slots 
       let x = add_packs state slots text p state' slots' c in
       let y = add_packs state₂ slots₂ text q state₂' slots₂' d in
       let s = same_saved_add state slots state₂ slots₂ g g₂ a text x.0 y.0 state' slots' state₂' slots₂' x.1 y.1 in
-      (y.2 ∙ ap (λ (r : Added). plain (add_number r) (add_value r)) s.0 ∙ sym x.2, s.1, s.2, s.3)
+      (y.2 ∙ ap (λ (r : Result ⊤ AddRefusal). plain (add_number r) (add_value r)) s.0 ∙ sym x.2, s.1, s.2, s.3)
 
   pub same_forget_by_calls : (k p q : ℕ) (state' slots' state₂' slots₂' : List ℕ) → ForgetCall state slots k p state' slots' → ForgetCall state₂ slots₂ k q state₂' slots₂'
       → (q ≡ p) × SameBut (held_in state' slots') (held_in state₂' slots₂') × (good_saved state' slots' ≡ true) × (good_saved state₂' slots₂' ≡ true)
@@ -241,29 +244,29 @@ module _ (state slots state₂ slots₂ : List ℕ) (g : good_saved state slots 
       let x = forget_packs state slots k p state' slots' c in
       let y = forget_packs state₂ slots₂ k q state₂' slots₂' d in
       let s = same_saved_forget state slots state₂ slots₂ g g₂ a k x.0 y.0 state' slots' state₂' slots₂' x.1 y.1 in
-      (y.2 ∙ ap (λ (r : Forgot). plain (forget_number r) (forget_value r)) s.0 ∙ sym x.2, s.1, s.2, s.3)
+      (y.2 ∙ ap (λ (r : Result ℕ ForgetRefusal). plain (forget_number r) (forget_value r)) s.0 ∙ sym x.2, s.1, s.2, s.3)
 
 -- an entry that is forgotten: the editor's bytes stay, whatever is answered; and an answer without a refusal's number is how many entries went, as Forgetting says of them by value
 pub editor_stays_by_calls : (state slots : List ℕ) (k p : ℕ) (state' slots' : List ℕ) → ForgetCall state slots k p state' slots' → take 261 state' ≡ take 261 state
 editor_stays_by_calls state slots k p state' slots' c =
     let b = forget_packs state slots k p state' slots' c in editor_stays state slots k b.0 state' slots' b.1
 
-gone_so : (r : Forgot) (p : ℕ) → p ≡ plain (forget_number r) (forget_value r) → number_in p ≡ 0 → (n : ℕ) × (r ≡ Gone n)
+gone_so : (r : Result ℕ ForgetRefusal) (p : ℕ) → p ≡ plain (forget_number r) (forget_value r) → number_in p ≡ 0 → (n : ℕ) × (r ≡ Ok n)
 unfolding answered
-gone_so (Gone n) p e z = (n, refl)
-gone_so NoHistory p e z = absurd (omega arith)
-gone_so (NoEntry n) p e z = absurd (omega arith)
+gone_so (Ok n) p e z = (n, refl)
+gone_so (Err NoHistory) p e z = absurd (omega arith)
+gone_so (Err (NoEntry n)) p e z = absurd (omega arith)
 
 pub forgets_by_calls : (state slots : List ℕ) (k p : ℕ) (state' slots' : List ℕ) → ForgetCall state slots k p state' slots' → number_in p ≡ 0
-    → (n : ℕ) × (p ≡ plain 0 n) × Forgets (history_in state) slots k (history_in state') (Gone n) slots'
+    → (n : ℕ) × (p ≡ plain 0 n) × Forgets (history_in state) slots k (history_in state') (Ok n) slots'
 unfolding saved_forget_answer
 forgets_by_calls state slots k p state' slots' c zero =
     let b = forget_packs state slots k p state' slots' c in
     let g = gone_so b.0 p b.2 zero in
-    let made = subst (λ (r : Forgot). SavedForget state slots k r state' slots') g.1 b.1 in (
+    let made = subst (λ (r : Result ℕ ForgetRefusal). SavedForget state slots k r state' slots') g.1 b.1 in (
       g.0,
-      b.2 ∙ ap (λ (r : Forgot). plain (forget_number r) (forget_value r)) g.1,
-      as_by_value state slots k (Gone g.0) state' slots' made (gone_has (good_saved state slots) k (journal_of (history_in state) slots).entries g.0 made.answer).0,
+      b.2 ∙ ap (λ (r : Result ℕ ForgetRefusal). plain (forget_number r) (forget_value r)) g.1,
+      as_by_value state slots k (Ok g.0) state' slots' made (gone_has (good_saved state slots) k (journal_of (history_in state) slots).entries g.0 made.answer).0,
     )
 
 -- no trace of it is left in the history's bytes and in the slots (the line stays, also where it was recalled from that entry)
@@ -276,7 +279,7 @@ no_trace_by_calls state slots state₂ slots₂ k g g₂ l l₂ e f w p q state'
     let x = forget_packs state slots k p state' slots' c in
     let y = forget_packs state₂ slots₂ k q state₂' slots₂' d in
     let s = no_trace_saved state slots state₂ slots₂ k g g₂ l l₂ e f w x.0 y.0 state' slots' state₂' slots₂' x.1 y.1 in
-    (y.2 ∙ ap (λ (r : Forgot). plain (forget_number r) (forget_value r)) s.0 ∙ sym x.2, s.1, s.2)
+    (y.2 ∙ ap (λ (r : Result ℕ ForgetRefusal). plain (forget_number r) (forget_value r)) s.0 ∙ sym x.2, s.1, s.2)
 
 -- and its room is given back: keys and adds to a history that has not 100 entries again drop none of those that remained
 pub data GoesOnByCalls (state slots : List ℕ) : List ℕ → List ℕ → Type 0 where
@@ -313,7 +316,7 @@ maps w f g = record { fitting = λ l. let a = w.fitting l in (f a.0, a.1); lacki
 same_plain : {n n' v v' : ℕ} → n ≡ n' → v ≡ v' → plain n v ≡ plain n' v'
 same_plain p q = cc
 
-run_short : {n : ℕ} {r : Ran} → r ≡ RunNoRoom n → run_told r ≡ plain 9 n
+run_short : {n : ℕ} {r : Result Ran RunRefusal} → r ≡ Err (RunNoRoom n) → run_told r ≡ plain 9 n
 unfolding run_told
 run_short f = ap run_told f
 
@@ -322,7 +325,7 @@ abbrev pub PacksBytes : ℕ → List ℕ → List ℕ → ℕ → List ℕ → T
 PacksBytes number bytes out p left = Writes bytes out left (p ≡ plain number (length bytes)) (p ≡ plain 9 (length bytes))
 
 -- help: 14 where the Rust panics
-abbrev pub PacksHelp : Option (Result (List ℕ)) → List ℕ → ℕ → List ℕ → Type 0
+abbrev pub PacksHelp : Option (RustResult (List ℕ)) → List ℕ → ℕ → List ℕ → Type 0
 PacksHelp (some result) out p left = PacksBytes (result_number result) (help_bytes result) out p left
 PacksHelp none out p left = (p ≡ plain 14 0) × (left ≡ out)
 
@@ -343,7 +346,7 @@ commands_in state slots = original (journal_of (history_in state) slots)
 
 -- one turn of the Rust's loop: the state, the bytes in both buffers, and the answer, whose number, value, kind and second value are the 64 bits
 pub record PacksTurn (prompt : List ℕ) (shell : Shell) (byte : ℕ) (line screen : List ℕ) (p : ℕ) (after : Shell) (line' screen' : List ℕ) : Type 0 where
-  pub told : Pressed
+  pub told : Result Pressed KeyRefusal
   pub bits : p ≡ key_told told
   pub turn : PressesAs prompt (rust_key prompt shell byte) line screen after told line' screen'
 
@@ -364,7 +367,7 @@ pub record PacksAsRust (image : List ℕ) (tree : Commands) : Type 0 where
   pub forgets : (state slots : List ℕ) (k p : ℕ) (state' slots' : List ℕ) → ForgetCall state slots k p state' slots' → number_in p ≡ 0
       → shortened k (commands_in state slots) ≡ commands_in state' slots'
 
-says_packed : (s : Seen) (r : Ran) (p : ℕ) → p ≡ run_told r → Says s r → PacksSeen s p
+says_packed : (s : Seen) (r : Result Ran RunRefusal) (p : ℕ) → p ≡ run_told r → Says s r → PacksSeen s p
 unfolding run_told
 says_packed quiet r p e f = e ∙ ap run_told f
 says_packed (output number bytes) r p e f = e ∙ ap run_told f
@@ -372,27 +375,27 @@ says_packed (handed handler report) r p e f = e ∙ ap run_told f
 says_packed (exited bytes) r p e f = e ∙ ap run_told f
 says_packed crashed r p e f = f
 
-helps_packed : (o : Option (Result (List ℕ))) (out : List ℕ) (r : Helped) (p : ℕ) (left : List ℕ) → p ≡ plain (help_number r) (help_value r) → HelpsAs o out r left → PacksHelp o out p left
+helps_packed : (o : Option (RustResult (List ℕ))) (out : List ℕ) (r : Result ℕ HelpRefusal) (p : ℕ) (left : List ℕ) → p ≡ plain (help_number r) (help_value r) → HelpsAs o out r left → PacksHelp o out p left
 helps_packed (some result) out r p left e w =
-    maps w (λ f. e ∙ same_plain f.0 f.1) (λ f. e ∙ ap (λ (x : Helped). plain (help_number x) (help_value x)) f)
-helps_packed none out r p left e f = (e ∙ ap (λ (x : Helped). plain (help_number x) (help_value x)) f.0, f.1)
+    maps w (λ f. e ∙ same_plain f.0 f.1) (λ f. e ∙ ap (λ (x : Result ℕ HelpRefusal). plain (help_number x) (help_value x)) f)
+helps_packed none out r p left e f = (e ∙ ap (λ (x : Result ℕ HelpRefusal). plain (help_number x) (help_value x)) f.0, f.1)
 
 -- a number of 0 is no refusal
-taken_key : (r : Pressed) (p : ℕ) → p ≡ key_told r → number_in p ≡ 0 → refused r ≡ false
+taken_key : (r : Result Pressed KeyRefusal) (p : ℕ) → p ≡ key_told r → number_in p ≡ 0 → refused r ≡ false
 unfolding key_told answered
-taken_key (Shown n) p e z = refl
-taken_key (Entered n) p e z = refl
-taken_key Dropped p e z = refl
-taken_key BadState p e z = absurd (omega arith)
-taken_key (BadPrompt n) p e z = absurd (omega arith)
-taken_key (NoRoom n) p e z = absurd (omega arith)
+taken_key (Ok (Shown n)) p e z = refl
+taken_key (Ok (Entered n)) p e z = refl
+taken_key (Ok Dropped) p e z = refl
+taken_key (Err BadState) p e z = absurd (omega arith)
+taken_key (Err (BadPrompt n)) p e z = absurd (omega arith)
+taken_key (Err (NoRoom n)) p e z = absurd (omega arith)
 
-done_add : (r : Added) (p : ℕ) → p ≡ plain (add_number r) (add_value r) → number_in p ≡ 0 → r ≡ Done
+done_add : (r : Result ⊤ AddRefusal) (p : ℕ) → p ≡ plain (add_number r) (add_value r) → number_in p ≡ 0 → r ≡ Ok tt
 unfolding answered
-done_add Done p e z = refl
-done_add BadHistory p e z = absurd (omega arith)
-done_add (TooLong n) p e z = absurd (omega arith)
-done_add (IllFormed n) p e z = absurd (omega arith)
+done_add (Ok u) p e z = refl
+done_add (Err BadHistory) p e z = absurd (omega arith)
+done_add (Err (TooLong n)) p e z = absurd (omega arith)
+done_add (Err (IllFormed n)) p e z = absurd (omega arith)
 
 -- a good editor's line has all its bytes
 line_whole : (e : Editor) → good_line e ≡ true → length e.line ≡ 255
@@ -424,11 +427,11 @@ module _ (state slots text : List ℕ) (p : ℕ) (state' slots' : List ℕ) wher
       let fair = (state_parts (editor_in state) (history_in state) slots is.1).0 in
       let line = (editor_parts (editor_in state) fair).1 in
       let done = done_add b.0 p b.2 zero in
-      let after : Added → History = λ x. record_by x (history_in state) (offered text (journal_of (history_in state) slots)) in
-      let held : history_in state' ≡ after Done =
+      let after : Result ⊤ AddRefusal → History = λ x. record_by x (history_in state) (offered text (journal_of (history_in state) slots)) in
+      let held : history_in state' ≡ after (Ok tt) =
       ap history_in (add_saved state slots text b.0 state' slots' b.1 is.0 fair) ∙ history_saved_lem (editor_in state) (after b.0) (line_whole (editor_in state) line) ∙ ap after done in
-      add_command_lem (history_in state) slots text (after Done) slots'
-      (subst (λ (x : Added). Addition (history_in state) slots text (after x) x slots') done (add_by_value state slots text b.0 state' slots' b.1 is.0 fair))
+      add_command_lem (history_in state) slots text (after (Ok tt)) slots'
+      (subst (λ (x : Result ⊤ AddRefusal). Addition (history_in state) slots text (after x) x slots') done (add_by_value state slots text b.0 state' slots' b.1 is.0 fair))
       ∙ ap (λ (h : History). original (journal_of h slots')) (sym held)
 
 pub packs_as_rust : (image : List ℕ) (tree : Commands) → SameAsRust image tree → PacksAsRust image tree
@@ -436,10 +439,10 @@ packs_as_rust image tree same =
     record {
       splits = λ line out p left fair c.
           let b = words_packs line out p left c in
-          maps (words line fair out left b.0 b.1) (λ f. b.2 ∙ ap (λ (x : Tokens). plain (words_number x) (words_value x)) f) (λ f. b.2 ∙ ap (λ (x : Tokens). plain (words_number x) (words_value x)) f);
+          maps (words line fair out left b.0 b.1) (λ f. b.2 ∙ ap (λ (x : Result ℕ TokenizeRefusal). plain (words_number x) (words_value x)) f) (λ f. b.2 ∙ ap (λ (x : Result ℕ TokenizeRefusal). plain (words_number x) (words_value x)) f);
       parses = λ line out p left fair c.
           let b = parse_packs image line out p left c in
-          maps (same.parses line out left b.0 fair b.1) (λ f. b.2 ∙ same_plain f.0 f.1) (λ f. b.2 ∙ ap (λ (x : Parsed). plain (parse_number x) (parse_value x)) f);
+          maps (same.parses line out left b.0 fair b.1) (λ f. b.2 ∙ same_plain f.0 f.1) (λ f. b.2 ∙ ap (λ (x : Result ℕ ParseRefusal). plain (parse_number x) (parse_value x)) f);
       helps = λ line out p left fair c.
           let b = help_packs image line out p left c in
           helps_packed (show_help tree (words_between line)) out b.0 p left b.2 (same.helps line out left b.0 fair b.1);
@@ -461,19 +464,19 @@ pub record PacksAlone (image other : List ℕ) : Type 0 where
   pub run : (line out : List ℕ) (p q : ℕ) (left left' : List ℕ) → (too_long line ≡ false → ill_formed line ≡ false → builtin_of (trimmed line) ≡ Help → ⊥)
       → Agree image other (named naming line) → RunCall image line out p left → RunCall other line out q left' → (p ≡ q) × (left ≡ left')
 
-pub packs_alone : (image other : List ℕ) → check_tree image ≡ Good → check_tree other ≡ Good → PacksAlone image other
+pub packs_alone : (image other : List ℕ) → check_tree image ≡ Ok tt → check_tree other ≡ Ok tt → PacksAlone image other
 packs_alone image other good good' =
     record {
       parse = λ line out p q left left' agree c d.
           let a = parse_packs image line out p left c in
           let b = parse_packs other line out q left' d in
           let s = parse_alone image other line good good' out left left' agree a.0 b.0 a.1 b.1 in
-          (a.2 ∙ ap (λ (x : Parsed). plain (parse_number x) (parse_value x)) s.0 ∙ sym b.2, s.1);
+          (a.2 ∙ ap (λ (x : Result ℕ ParseRefusal). plain (parse_number x) (parse_value x)) s.0 ∙ sym b.2, s.1);
       help = λ line out p q left left' agree c d.
           let a = help_packs image line out p left c in
           let b = help_packs other line out q left' d in
           let s = help_alone image other line good good' out left left' agree a.0 b.0 a.1 b.1 in
-          (a.2 ∙ ap (λ (x : Helped). plain (help_number x) (help_value x)) s.0 ∙ sym b.2, s.1);
+          (a.2 ∙ ap (λ (x : Result ℕ HelpRefusal). plain (help_number x) (help_value x)) s.0 ∙ sym b.2, s.1);
       run = λ line out p q left left' bare agree c d.
           let a = run_packs image line out p left c in
           let b = run_packs other line out q left' d in

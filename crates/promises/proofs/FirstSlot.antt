@@ -1,5 +1,6 @@
 -- Where a history begins: the record holds the slot of the oldest entry, 0 to 99, and the others follow round the end. An add and a key change the bytes of one slot at most; and what is
 -- answered, shown, submitted and held after every key, add and entry that is forgotten is the same wherever the entries lie. (The same of the calls for Rust and C: Exported. What a history is: SameAsRust.)
+use Rattle.std.specs.Prelude.{Ok, Result, ⊤}
 use Prim.Native.Nat.{ℕ, ◌<◌, ◌≤◌}
 use mathlib.Core.Path.{◌≡◌, refl, ap, ◌∙◌}
 use mathlib.Core.Bool.{Bool, true, false, cond}
@@ -13,9 +14,8 @@ use Rattle.history.specs.Journal.{Journal, no_entries, entry_of, first_after, Al
 use Rattle.history.specs.Answer.{number as added_number, value as added_value, Addition}
 use Rattle.history.specs.Forgotten.{Forgets, number as forgot_number, value as forgot_value}
 use Rattle.history.specs.declared.stepping.History.{History}
-use Rattle.history.specs.declared.adding.Added.{Added}
-use Rattle.history.specs.declared.adding.Added.TheVariants.{Done}
-use Rattle.history.specs.declared.forgetting.Forgot.{Forgot}
+use Rattle.history.specs.declared.adding.AddRefusal.{AddRefusal}
+use Rattle.history.specs.declared.forgetting.ForgetRefusal.{ForgetRefusal}
 use Rattle.history.specs.Steps.{back, onward}
 use Rattle.history.proofs.Steps.{back_placed, onward_placed, same_steps}
 use Rattle.history.proofs.States.{good_has}
@@ -29,6 +29,7 @@ use Rattle.keys.specs.Modes.{profile_number}
 use Rattle.editor.specs.declared.line.Editor.{Editor}
 use Rattle.editor.specs.declared.drawing.KeyAnswer.{KeyAnswer}
 use Rattle.editor.specs.declared.drawing.Pressed.{Pressed}
+use Rattle.editor.specs.declared.drawing.KeyRefusal.{KeyRefusal}
 use Rattle.editor.specs.Line.{good_editor}
 use Rattle.editor.specs.Turns.{State, SameBut, after_keys, shown_by}
 use Rattle.editor.specs.Answer.{state_of, good_state, number as pressed_number, value as pressed_value, kind as pressed_kind, beside as pressed_beside, Pressing}
@@ -102,12 +103,12 @@ any_slot h slots first g l =
 pub by_step : (h : History) → ((back h).history.first ≡ h.first) × ((onward h).history.first ≡ h.first)
 by_step h = (ap (λ (x : History). x.first) (back_placed h), ap (λ (x : History). x.first) (onward_placed h))
 
-pub by_add : (h : History) (slots text : List ℕ) (r : History) (left : List ℕ) → Addition h slots text r Done left
+pub by_add : (h : History) (slots text : List ℕ) (r : History) (left : List ℕ) → Addition h slots text r (Ok tt) left
     → r.first ≡ first_after text (journal_of h slots).entries h.first
 unfolding journal_of
 by_add h slots text r left a = ap (λ (j : Journal). j.first) (add_after h slots text r left a)
 
-pub by_forget : (h : History) (slots : List ℕ) (k : ℕ) (r : History) (a : Forgot) (left : List ℕ) → Forgets h slots k r a left → r.first ≡ h.first
+pub by_forget : (h : History) (slots : List ℕ) (k : ℕ) (r : History) (a : Result ℕ ForgetRefusal) (left : List ℕ) → Forgets h slots k r a left → r.first ≡ h.first
 by_forget = forget_first
 
 -- ABOVE 99 is bad, whatever else the state is; a saved state with such a byte is refused with 12 by a key, by an add and where an entry is to be forgotten, and every byte stays
@@ -129,33 +130,33 @@ above_bad state slots n = by (good_saved state slots) refl
     by true g = absurd (let b = first_below state slots g in omega arith)
     by false g = refl
 
-pub key_refused : (state slots prompt : List ℕ) (byte : ℕ) (line screen : List ℕ) (r : Pressed) (state' slots' line' screen' : List ℕ)
+pub key_refused : (state slots prompt : List ℕ) (byte : ℕ) (line screen : List ℕ) (r : Result Pressed KeyRefusal) (state' slots' line' screen' : List ℕ)
     → SavedKey state slots prompt byte line screen r state' slots' line' screen' → 100 ≤ first_byte state
     → told (pressed_number r) (pressed_value r) (keyed {L = Lent} (pressed_kind r) (pressed_beside r) (state', slots', line', screen')) ≡ told 12 0 (keyed {L = Lent} 0 0 (state, slots, line, screen))
 key_refused state slots prompt byte line screen r state' slots' line' screen' p n =
     press_bad state slots prompt byte line screen r state' slots' line' screen' p (above_bad state slots n)
 
-pub add_refused : (state slots text : List ℕ) (r : Added) (state' slots' : List ℕ) → SavedAdd state slots text r state' slots' → 100 ≤ first_byte state
+pub add_refused : (state slots text : List ℕ) (r : Result ⊤ AddRefusal) (state' slots' : List ℕ) → SavedAdd state slots text r state' slots' → 100 ≤ first_byte state
     → told {L = List ℕ × List ℕ} (added_number r) (added_value r) (state', slots') ≡ told 12 0 (state, slots)
 add_refused state slots text r state' slots' p n = saved_add_bad state slots text r state' slots' p (above_bad state slots n)
 
-pub forget_refused : (state slots : List ℕ) (k : ℕ) (r : Forgot) (state' slots' : List ℕ) → SavedForget state slots k r state' slots' → 100 ≤ first_byte state
+pub forget_refused : (state slots : List ℕ) (k : ℕ) (r : Result ℕ ForgetRefusal) (state' slots' : List ℕ) → SavedForget state slots k r state' slots' → 100 ≤ first_byte state
     → told {L = List ℕ × List ℕ} (forgot_number r) (forgot_value r) (state', slots') ≡ told 12 0 (state, slots)
 forget_refused state slots k r state' slots' p n = saved_forget_bad state slots k r state' slots' p (above_bad state slots n)
 
 -- ONE SLOT: whatever an add or a key answers, no byte changes but those of the slot after the newest entry, which in a full history is that of the oldest. By value, and saved.
-pub add_changes_one : (h : History) (slots text : List ℕ) (r : History) (a : Added) (left : List ℕ) → Addition h slots text r a left → ChangesOnly (slot_after h.first h.count) slots left
+pub add_changes_one : (h : History) (slots text : List ℕ) (r : History) (a : Result ⊤ AddRefusal) (left : List ℕ) → Addition h slots text r a left → ChangesOnly (slot_after h.first h.count) slots left
 add_changes_one = add_changes
 
 pub key_changes_one : (e : Editor) (h : History) (slots prompt : List ℕ) (byte : ℕ) (line screen : List ℕ) (k : KeyAnswer) (slots' line' screen' : List ℕ)
     → Pressing e h slots prompt byte line screen k slots' line' screen' → ChangesOnly (slot_after h.first h.count) slots slots'
 key_changes_one = key_changes
 
-pub saved_key_changes_one : (state slots prompt : List ℕ) (byte : ℕ) (line screen : List ℕ) (r : Pressed) (state' slots' line' screen' : List ℕ)
+pub saved_key_changes_one : (state slots prompt : List ℕ) (byte : ℕ) (line screen : List ℕ) (r : Result Pressed KeyRefusal) (state' slots' line' screen' : List ℕ)
     → SavedKey state slots prompt byte line screen r state' slots' line' screen' → ChangesOnly (slot_after (history_in state).first (history_in state).count) slots slots'
 saved_key_changes_one = key_changes_saved
 
-pub saved_add_changes_one : (state slots text : List ℕ) (r : Added) (state' slots' : List ℕ) → SavedAdd state slots text r state' slots'
+pub saved_add_changes_one : (state slots text : List ℕ) (r : Result ⊤ AddRefusal) (state' slots' : List ℕ) → SavedAdd state slots text r state' slots'
     → ChangesOnly (slot_after (history_in state).first (history_in state).count) slots slots'
 saved_add_changes_one = add_changes_saved
 
@@ -172,14 +173,14 @@ same_history h slots h₂ slots₂ g g₂ a =
     (n, λ k. ap (λ (es : List (List ℕ)). get_or es k []) a.entries, s.0, s.1, s.2, s.3)
 
 pub same_add : (h : History) (slots : List ℕ) (h₂ : History) (slots₂ : List ℕ) → good h slots ≡ true → good h₂ slots₂ ≡ true → Alike (journal_of h slots) (journal_of h₂ slots₂)
-    → (text : List ℕ) (r r₂ : History) (x x₂ : Added) (left left₂ : List ℕ) → Addition h slots text r x left → Addition h₂ slots₂ text r₂ x₂ left₂
+    → (text : List ℕ) (r r₂ : History) (x x₂ : Result ⊤ AddRefusal) (left left₂ : List ℕ) → Addition h slots text r x left → Addition h₂ slots₂ text r₂ x₂ left₂
     → (x₂ ≡ x) × Alike (journal_of r left) (journal_of r₂ left₂) × (good r left ≡ true) × (good r₂ left₂ ≡ true)
 same_add h slots h₂ slots₂ g g₂ a text r r₂ x x₂ left left₂ p q =
     let s = add_alike_by_value h slots h₂ slots₂ g g₂ a text r r₂ x x₂ left left₂ p q in
     (s.0, s.1, added_good h slots text r x left g p, added_good h₂ slots₂ text r₂ x₂ left₂ g₂ q)
 
 pub same_forget : (h : History) (slots : List ℕ) (h₂ : History) (slots₂ : List ℕ) → good h slots ≡ true → good h₂ slots₂ ≡ true → Alike (journal_of h slots) (journal_of h₂ slots₂)
-    → (k : ℕ) (r r₂ : History) (x x₂ : Forgot) (left left₂ : List ℕ) → Forgets h slots k r x left → Forgets h₂ slots₂ k r₂ x₂ left₂
+    → (k : ℕ) (r r₂ : History) (x x₂ : Result ℕ ForgetRefusal) (left left₂ : List ℕ) → Forgets h slots k r x left → Forgets h₂ slots₂ k r₂ x₂ left₂
     → (x₂ ≡ x) × Alike (journal_of r left) (journal_of r₂ left₂) × (good r left ≡ true) × (good r₂ left₂ ≡ true)
 same_forget h slots h₂ slots₂ g g₂ a k r r₂ x x₂ left left₂ p q =
     let s = forget_alike_by_value h slots h₂ slots₂ g g₂ a k r r₂ x x₂ left left₂ p q in
@@ -208,7 +209,7 @@ same_keys = keys_alike
 
 -- of saved states: a key, a text that is added, and an entry that is forgotten
 module _ (state slots state₂ slots₂ : List ℕ) (g : good_saved state slots ≡ true) (g₂ : good_saved state₂ slots₂ ≡ true) (a : SameBut (held_in state slots) (held_in state₂ slots₂)) where
-  pub same_saved_key : (prompt : List ℕ) (byte : ℕ) (line screen : List ℕ) (r r₂ : Pressed) (state' slots' line' screen' state₂' slots₂' line₂' screen₂' : List ℕ)
+  pub same_saved_key : (prompt : List ℕ) (byte : ℕ) (line screen : List ℕ) (r r₂ : Result Pressed KeyRefusal) (state' slots' line' screen' state₂' slots₂' line₂' screen₂' : List ℕ)
       → SavedKey state slots prompt byte line screen r state' slots' line' screen' → SavedKey state₂ slots₂ prompt byte line screen r₂ state₂' slots₂' line₂' screen₂'
       → (r₂ ≡ r) × (line₂' ≡ line') × (screen₂' ≡ screen') × SameBut (held_in state' slots') (held_in state₂' slots₂')
       × (good_saved state' slots' ≡ true) × (good_saved state₂' slots₂' ≡ true)
@@ -222,13 +223,13 @@ module _ (state slots state₂ slots₂ : List ℕ) (g : good_saved state slots 
         key_stays state₂ slots₂ prompt byte line screen r₂ state₂' slots₂' line₂' screen₂' g₂ q,
       )
 
-  pub same_saved_add : (text : List ℕ) (r r₂ : Added) (state' slots' state₂' slots₂' : List ℕ) → SavedAdd state slots text r state' slots' → SavedAdd state₂ slots₂ text r₂ state₂' slots₂'
+  pub same_saved_add : (text : List ℕ) (r r₂ : Result ⊤ AddRefusal) (state' slots' state₂' slots₂' : List ℕ) → SavedAdd state slots text r state' slots' → SavedAdd state₂ slots₂ text r₂ state₂' slots₂'
       → (r₂ ≡ r) × SameBut (held_in state' slots') (held_in state₂' slots₂') × (good_saved state' slots' ≡ true) × (good_saved state₂' slots₂' ≡ true)
   same_saved_add text r r₂ state' slots' state₂' slots₂' p q =
       let s = add_alike state slots state₂ slots₂ g g₂ a text r r₂ state' slots' state₂' slots₂' p q in
       (s.0, s.1, add_stays state slots text r state' slots' g p, add_stays state₂ slots₂ text r₂ state₂' slots₂' g₂ q)
 
-  pub same_saved_forget : (k : ℕ) (r r₂ : Forgot) (state' slots' state₂' slots₂' : List ℕ) → SavedForget state slots k r state' slots' → SavedForget state₂ slots₂ k r₂ state₂' slots₂'
+  pub same_saved_forget : (k : ℕ) (r r₂ : Result ℕ ForgetRefusal) (state' slots' state₂' slots₂' : List ℕ) → SavedForget state slots k r state' slots' → SavedForget state₂ slots₂ k r₂ state₂' slots₂'
       → (r₂ ≡ r) × SameBut (held_in state' slots') (held_in state₂' slots₂') × (good_saved state' slots' ≡ true) × (good_saved state₂' slots₂' ≡ true)
   same_saved_forget k r r₂ state' slots' state₂' slots₂' p q =
       let s = forget_alike state slots state₂ slots₂ g g₂ a k r r₂ state' slots' state₂' slots₂' p q in

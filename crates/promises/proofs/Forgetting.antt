@@ -1,5 +1,6 @@
 -- Forgetting an entry: which go, what remains of the entries, of the buffer and of the state, that the history keeps no trace of what went, and that its room is given back. (What is
 -- answered and refused: KeyAnswers. The total: BytesInUse. The first slot: FirstSlot. The Rust's history with the shortened list: SameAsRust. The calls for Rust and C: Exported.)
+use Rattle.std.specs.Prelude.{Result, ⊤, Ok}
 use Prim.Native.Nat.{ℕ, ◌+◌, ◌-◌, ◌<◌, ◌≤◌}
 use mathlib.Core.Path.{◌≡◌, refl, sym, ap, ◌∙◌}
 use mathlib.Core.Bool.{Bool, true, false, cond}
@@ -15,9 +16,8 @@ use Rattle.history.specs.Journal.{Journal, entry_of, Longer, slots_of, journal_o
 use Rattle.history.specs.Answer.{Addition}
 use Rattle.history.specs.Forgotten.{without, remaining, Forgets}
 use Rattle.history.specs.declared.stepping.History.{History}
-use Rattle.history.specs.declared.adding.Added.{Added}
-use Rattle.history.specs.declared.forgetting.Forgot.{Forgot}
-use Rattle.history.specs.declared.forgetting.Forgot.TheVariants.{Gone}
+use Rattle.history.specs.declared.adding.AddRefusal.{AddRefusal}
+use Rattle.history.specs.declared.forgetting.ForgetRefusal.{ForgetRefusal}
 use Rattle.history.proofs.Journals.{count_held, place_held, good_fair, slots_held}
 use Rattle.history.proofs.Forgotten.{gone_few, two_go, then_two, remaining_cut, length_remaining, sound_remaining, neighbours}
 use Rattle.history.proofs.States.{good_has}
@@ -27,6 +27,7 @@ use Rattle.editor.specs.Saved.{saved_size as editor_size}
 use Rattle.editor.specs.declared.line.Editor.{Editor}
 use Rattle.editor.specs.declared.drawing.KeyAnswer.{KeyAnswer}
 use Rattle.editor.specs.declared.drawing.Pressed.{Pressed}
+use Rattle.editor.specs.declared.drawing.KeyRefusal.{KeyRefusal}
 use Rattle.editor.specs.Answer.{Pressing}
 use Rattle.editor.proofs.Begun.{key_longer}
 use Rattle.state.specs.State.{history_in, good_saved}
@@ -43,7 +44,7 @@ pub enough : (k : ℕ) (es : List (List ℕ)) → k < length es → sound [] es 
 enough = sound_remaining
 
 -- AN ENTRY THAT WENT
-module _ (h : History) (slots : List ℕ) (k : ℕ) (r : History) (n : ℕ) (left : List ℕ) (a : Forgets h slots k r (Gone n) left) where
+module _ (h : History) (slots : List ℕ) (k : ℕ) (r : History) (n : ℕ) (left : List ℕ) (a : Forgets h slots k r (Ok n) left) where
   there : k < length (journal_of h slots).entries
   there = let l = was_there h slots k r n left a in let c = count_held h slots in omega arith
 
@@ -84,7 +85,7 @@ module _ (h : History) (slots : List ℕ) (k : ℕ) (r : History) (n : ℕ) (lef
       let f = ap length after_is in
       let p = ap (λ (j : Journal). j.place) (forget_after h slots k r n left a) in
       let q = place_held r left in
-      (omega arith, sym q ∙ p ∙ sym f ∙ d, forget_first h slots k r (Gone n) left a)
+      (omega arith, sym q ∙ p ∙ sym f ∙ d, forget_first h slots k r (Ok n) left a)
 
   -- NEIGHBOURS STILL DIFFER, and the state is good
   pub differ : (i : ℕ) → i + 1 < r.count → entry_of (journal_of r left) i ≡ entry_of (journal_of r left) (i + 1) → ⊥
@@ -107,14 +108,14 @@ module _ (h : History) (slots : List ℕ) (k : ℕ) (r : History) (n : ℕ) (lef
 -- NO TRACE: two good states that begin in one slot and differ in entry k alone, whatever it is and however long, are the same once it is forgotten: the answer, the record, every byte
 pub no_trace : (h : History) (slots : List ℕ) (h₂ : History) (slots₂ : List ℕ) (k : ℕ) → good h slots ≡ true → good h₂ slots₂ ≡ true → k < h.count → k < h₂.count → h₂.first ≡ h.first
     → without k (journal_of h₂ slots₂).entries ≡ without k (journal_of h slots).entries
-    → (r r₂ : History) (x x₂ : Forgot) (left left₂ : List ℕ) → Forgets h slots k r x left → Forgets h₂ slots₂ k r₂ x₂ left₂ → (x₂ ≡ x) × (r₂ ≡ r) × (left₂ ≡ left)
+    → (r r₂ : History) (x x₂ : Result ℕ ForgetRefusal) (left left₂ : List ℕ) → Forgets h slots k r x left → Forgets h₂ slots₂ k r₂ x₂ left₂ → (x₂ ≡ x) × (r₂ ≡ r) × (left₂ ≡ left)
 no_trace = no_trace_by_value
 
 -- THE ROOM IS GIVEN BACK: keys and adds in any number, whatever each is answered, each to a history that has not 100 entries again, drop none of those that remained, nor move one from
 -- its slot (`Longer`)
 pub data GoesOn (e : Editor) (h : History) (slots : List ℕ) : Editor → History → List ℕ → Type 0 where
   no_call : GoesOn e h slots e h slots
-  by_add : {d : Editor} {i r : History} {held text left : List ℕ} {told : Added} → GoesOn e h slots d i held → i.count < 100 → Addition i held text r told left → GoesOn e h slots d r left
+  by_add : {d : Editor} {i r : History} {held text left : List ℕ} {told : Result ⊤ AddRefusal} → GoesOn e h slots d i held → i.count < 100 → Addition i held text r told left → GoesOn e h slots d r left
   by_key : {d : Editor} {i : History} {held prompt line screen held' line' screen' : List ℕ} {byte : ℕ} {k : KeyAnswer} → GoesOn e h slots d i held → i.count < 100
       → Pressing d i held prompt byte line screen k held' line' screen' → GoesOn e h slots k.editor k.history held'
 
@@ -127,7 +128,7 @@ drops_none e h slots _ _ left (by_key {d} {i} {held} {prompt} {line} {screen} {l
     (key_longer d i held prompt byte line screen k left line' screen' p room)
 
 -- and there is room, after an entry went
-pub room_after : (h : History) (slots : List ℕ) (k : ℕ) (r : History) (n : ℕ) (left : List ℕ) → Forgets h slots k r (Gone n) left → r.count < 100
+pub room_after : (h : History) (slots : List ℕ) (k : ℕ) (r : History) (n : ℕ) (left : List ℕ) → Forgets h slots k r (Ok n) left → r.count < 100
 room_after h slots k r n left a =
     let c = (numbers h slots k r n left a).0 in
     let few = (one_or_two h slots k r n left a).1 in
@@ -137,9 +138,9 @@ room_after h slots k r n left a =
 -- of saved states, from a good one on
 pub data GoesOnSaved (state slots : List ℕ) : List ℕ → List ℕ → Type 0 where
   no_call : GoesOnSaved state slots state slots
-  by_add : {mid held text state' slots' : List ℕ} {told : Added} → GoesOnSaved state slots mid held → (history_in mid).count < 100 → SavedAdd mid held text told state' slots'
+  by_add : {mid held text state' slots' : List ℕ} {told : Result ⊤ AddRefusal} → GoesOnSaved state slots mid held → (history_in mid).count < 100 → SavedAdd mid held text told state' slots'
       → GoesOnSaved state slots state' slots'
-  by_key : {mid held prompt line screen state' slots' line' screen' : List ℕ} {byte : ℕ} {told : Pressed} → GoesOnSaved state slots mid held → (history_in mid).count < 100
+  by_key : {mid held prompt line screen state' slots' line' screen' : List ℕ} {byte : ℕ} {told : Result Pressed KeyRefusal} → GoesOnSaved state slots mid held → (history_in mid).count < 100
       → SavedKey mid held prompt byte line screen told state' slots' line' screen' → GoesOnSaved state slots state' slots'
 
 pub drops_none_saved : (state slots state' slots' : List ℕ) → good_saved state slots ≡ true → GoesOnSaved state slots state' slots'
@@ -158,11 +159,11 @@ drops_none_saved state slots state' slots' g (by_key {mid} {held} {prompt} {line
     )
 
 -- A SAVED STATE: the editor's 261 bytes stay, line, cursor, mode, sequence and profile, whatever is answered; and what is forgotten of a good one is forgotten as above
-pub editor_stays : (state slots : List ℕ) (k : ℕ) (told : Forgot) (state' slots' : List ℕ) → SavedForget state slots k told state' slots' → take 261 state' ≡ take 261 state
+pub editor_stays : (state slots : List ℕ) (k : ℕ) (told : Result ℕ ForgetRefusal) (state' slots' : List ℕ) → SavedForget state slots k told state' slots' → take 261 state' ≡ take 261 state
 unfolding editor_size
 editor_stays = forget_keeps
 
-pub as_by_value : (state slots : List ℕ) (k : ℕ) (told : Forgot) (state' slots' : List ℕ) → SavedForget state slots k told state' slots' → good_saved state slots ≡ true
+pub as_by_value : (state slots : List ℕ) (k : ℕ) (told : Result ℕ ForgetRefusal) (state' slots' : List ℕ) → SavedForget state slots k told state' slots' → good_saved state slots ≡ true
     → Forgets (history_in state) slots k (history_in state') told slots'
 as_by_value = forget_by_value
 
@@ -171,7 +172,7 @@ as_by_value = forget_by_value
 pub no_trace_saved : (state slots state₂ slots₂ : List ℕ) (k : ℕ) → good_saved state slots ≡ true → good_saved state₂ slots₂ ≡ true → k < (history_in state).count → k < (history_in state₂).count
     → take 261 state₂ ≡ take 261 state → (history_in state₂).first ≡ (history_in state).first
     → without k (journal_of (history_in state₂) slots₂).entries ≡ without k (journal_of (history_in state) slots).entries
-    → (told told₂ : Forgot) (state' slots' state₂' slots₂' : List ℕ) → SavedForget state slots k told state' slots' → SavedForget state₂ slots₂ k told₂ state₂' slots₂'
+    → (told told₂ : Result ℕ ForgetRefusal) (state' slots' state₂' slots₂' : List ℕ) → SavedForget state slots k told state' slots' → SavedForget state₂ slots₂ k told₂ state₂' slots₂'
     → (told₂ ≡ told) × (state₂' ≡ state') × (slots₂' ≡ slots')
 unfolding editor_size
 no_trace_saved state slots state₂ slots₂ k g g₂ l l₂ e f w told told₂ state' slots' state₂' slots₂' p q =

@@ -1,5 +1,6 @@
 -- The key profiles: one is chosen at the fresh state and kept by every key and every other call; in the profile of ECMA-48 a whole control sequence does what the grammar says of it, and
 -- the state of a sequence is refused exactly if no bytes lead to it. (What brings typing back is in Lasting, the original's profile in SameAsRust.)
+use Rattle.std.specs.Prelude.{Result, ⊤}
 use Prim.Native.Nat.{ℕ, ◌+◌, ◌≤◌}
 use mathlib.Core.Path.{◌≡◌}
 use mathlib.Core.Bool.{true, false}
@@ -7,8 +8,8 @@ use mathlib.Core.List.{List, [], ◌∷◌, ◌++◌}
 use lib.ListN.{length}
 use Rattle.buffer.specs.Lend.{zeros}
 use Rattle.history.specs.declared.stepping.History.{History}
-use Rattle.history.specs.declared.adding.Added.{Added}
-use Rattle.history.specs.declared.forgetting.Forgot.{Forgot}
+use Rattle.history.specs.declared.adding.AddRefusal.{AddRefusal}
+use Rattle.history.specs.declared.forgetting.ForgetRefusal.{ForgetRefusal}
 use Rattle.keys.specs.declared.standing.Profile.{Profile}
 use Rattle.keys.specs.declared.standing.Profile.TheVariants.{Ecma48}
 use Rattle.keys.specs.declared.standing.Mode.{Mode}
@@ -23,6 +24,7 @@ use Rattle.keys.proofs.Reached.{led_good, good_led}
 use Rattle.editor.specs.declared.line.Editor.{Editor}
 use Rattle.editor.specs.declared.drawing.KeyAnswer.{KeyAnswer}
 use Rattle.editor.specs.declared.drawing.Pressed.{Pressed}
+use Rattle.editor.specs.declared.drawing.KeyRefusal.{KeyRefusal}
 use Rattle.editor.specs.Turns.{State, turn_by}
 use Rattle.editor.specs.Answer.{Pressing}
 use Rattle.editor.proofs.Called.{profile_kept}
@@ -41,15 +43,15 @@ pub kept : (e : Editor) (h : History) (slots prompt : List ℕ) (byte : ℕ) (li
     → Pressing e h slots prompt byte line screen k slots' line' screen' → k.editor.profile ≡ e.profile
 kept = profile_kept
 
-pub kept_in_bytes : (state slots prompt : List ℕ) (byte : ℕ) (line screen : List ℕ) (told : Pressed) (state' slots' line' screen' : List ℕ)
+pub kept_in_bytes : (state slots prompt : List ℕ) (byte : ℕ) (line screen : List ℕ) (told : Result Pressed KeyRefusal) (state' slots' line' screen' : List ℕ)
     → SavedKey state slots prompt byte line screen told state' slots' line' screen' → (editor_in state').profile ≡ (editor_in state).profile
 kept_in_bytes = kept_saved
 
-pub kept_by_add : (state slots text : List ℕ) (told : Added) (state' slots' : List ℕ) → SavedAdd state slots text told state' slots'
+pub kept_by_add : (state slots text : List ℕ) (told : Result ⊤ AddRefusal) (state' slots' : List ℕ) → SavedAdd state slots text told state' slots'
     → (editor_in state').profile ≡ (editor_in state).profile
 kept_by_add = add_kept
 
-pub kept_by_forget : (state slots : List ℕ) (k : ℕ) (told : Forgot) (state' slots' : List ℕ) → SavedForget state slots k told state' slots'
+pub kept_by_forget : (state slots : List ℕ) (k : ℕ) (told : Result ℕ ForgetRefusal) (state' slots' : List ℕ) → SavedForget state slots k told state' slots'
     → (editor_in state').profile ≡ (editor_in state).profile
 kept_by_forget = forget_kept
 

@@ -1,5 +1,6 @@
 -- Demand 1, what lasts: no sequence of calls from fresh reaches a bad state; a byte typed into a full line is dropped; two further bytes bring typing back, in the profile of ECMA-48
 -- seventeen.
+use Rattle.std.specs.Prelude.{Ok, Err, Result, ⊤}
 use Prim.Native.Nat.{ℕ, ◌≤◌}
 use mathlib.Core.Path.{◌≡◌, refl, ap, ◌∙◌}
 use mathlib.Core.Bool.{Bool, true, false, cond}
@@ -8,8 +9,7 @@ use native.Mathlib.Omega.{arith}
 use lib.Dec.{ltb}
 use lib.ListN.{length}
 use borrow.Author.Tests.{ltb-true, ltb-false}
-use Rattle.tree.specs.declared.check.Checked.{Checked}
-use Rattle.tree.specs.declared.check.Checked.TheVariants.{Good, BadFrame}
+use Rattle.tree.specs.declared.check.BadFrame.{BadFrame}
 use Rattle.tree.specs.Growth.{admits}
 use Rattle.history.specs.Journal.{no_entries, record_of, slots_of as journal_slots}
 use Rattle.history.specs.declared.stepping.History.{History}
@@ -20,6 +20,7 @@ use Rattle.keys.specs.Modes.{patience}
 use Rattle.editor.specs.declared.line.Editor.{Editor}
 use Rattle.editor.specs.declared.drawing.KeyAnswer.{KeyAnswer}
 use Rattle.editor.specs.declared.drawing.Pressed.{Pressed}
+use Rattle.editor.specs.declared.drawing.KeyRefusal.{KeyRefusal}
 use Rattle.editor.specs.declared.drawing.Pressed.TheVariants.{Dropped}
 use Rattle.editor.specs.Line.{limit, fresh_editor}
 use Rattle.editor.specs.Turns.{State}
@@ -57,7 +58,7 @@ module _ (e : Editor) (h : History) (slots prompt : List ℕ) (byte : ℕ) (line
 
   -- DROPPED: while typing, at length 255, a byte of 20 to FF other than 7F is answered dropped, and nothing changes
   pub full_line : good_state e h slots ≡ true → good_prompt prompt ≡ true → limit ≤ length line → e.mode ≡ Typing → limit ≤ e.length → 0x20 ≤ byte → (byte ≡ 0x7F → ⊥)
-      → (k.answer ≡ Dropped) × (k.editor ≡ e) × (k.history ≡ h) × (slots₁ ≡ slots) × (line₁ ≡ line) × (screen₁ ≡ screen)
+      → (k.answer ≡ Ok Dropped) × (k.editor ≡ e) × (k.history ≡ h) × (slots₁ ≡ slots) × (line₁ ≡ line) × (screen₁ ≡ screen)
   full_line = dropped e h slots prompt byte line screen k slots₁ line₁ screen₁ first
 
   -- (the same of a saved state: `full_line_saved`; of `rissemat_key`: Exported)
@@ -77,10 +78,10 @@ pub back_to_typing_in : (e : Editor) (h : History) (slots : List ℕ) (n : ℕ) 
 back_to_typing_in = typing_back
 
 -- DROPPED, as `press` on a saved state answers it
-pub full_line_saved : (state slots prompt : List ℕ) (byte : ℕ) (line screen : List ℕ) (told : Pressed) (state' slots' line' screen' : List ℕ)
+pub full_line_saved : (state slots prompt : List ℕ) (byte : ℕ) (line screen : List ℕ) (told : Result Pressed KeyRefusal) (state' slots' line' screen' : List ℕ)
     → SavedKey state slots prompt byte line screen told state' slots' line' screen' → good_saved state slots ≡ true → good_prompt prompt ≡ true → limit ≤ length line
     → (editor_in state).mode ≡ Typing → limit ≤ (editor_in state).length → 0x20 ≤ byte → (byte ≡ 0x7F → ⊥)
-    → (told ≡ Dropped) × (state' ≡ state) × (slots' ≡ slots) × (line' ≡ line) × (screen' ≡ screen)
+    → (told ≡ Ok Dropped) × (state' ≡ state) × (slots' ≡ slots) × (line' ≡ line) × (screen' ≡ screen)
 full_line_saved = dropped_saved
 
 -- NO BAD STATE in a session: what its lines and keys reach from `Session::fresh` and slots that hold no entry, each with buffers of its own, refused or not
@@ -132,10 +133,10 @@ key_good h image slots byte out r slots' out' p g = by (ltb (length out) key_roo
     stays_so : Kept h slots out r slots' out' → after r.session slots' ≡ true
     stays_so k = ap (λ (x : Session). after x slots') k.session ∙ ap (after h) k.held ∙ g
 
-    by : (b : Bool) (c : Checked) → ltb (length out) key_room ≡ b → tree_before byte (image_of h image) ≡ c → after r.session slots' ≡ true
+    by : (b : Bool) (c : Result ⊤ BadFrame) → ltb (length out) key_room ≡ b → tree_before byte (image_of h image) ≡ c → after r.session slots' ≡ true
     by true c e f = stays_so (p.short (ltb-true (length out) key_room e)).1
-    by false (BadFrame n) e f = stays_so (p.bad_tree (ltb-false (length out) key_room e) n f).1
-    by false Good e f =
+    by false (Err refusal) e f = stays_so (p.bad_tree (ltb-false (length out) key_room e) refusal.number f).1
+    by false (Ok u) e f =
         let d = p.pressed (ltb-false (length out) key_room e) f g in
         let s : State = (turn_in h slots byte).after in
         ap (λ (x : Session). after x slots') d.session ∙ ap (after (with_state h s)) d.held

@@ -1,4 +1,5 @@
 -- The marked examples of the standard, M1 to M14, as one table under one theorem.
+use Rattle.std.specs.Prelude.{Result, Ok}
 use Prim.Native.Nat.{ℕ}
 use mathlib.Core.Path.{◌≡◌, refl, ap, ◌∙◌}
 use mathlib.Core.Bool.{false, cond}
@@ -14,13 +15,12 @@ use Rattle.buffer.specs.Numbers.{number_bytes}
 use Rattle.frame.specs.Text.{text_of}
 use Rattle.words.specs.Tokens.{role_of, tokens_from, tokens, words_of, word_frames}
 use Rattle.words.specs.Answer.{written, Tokenized, number as tokens_number, value as tokens_value}
-use Rattle.words.specs.declared.tokenizer.Tokens.{Tokens}
+use Rattle.words.specs.declared.tokenizer.TokenizeRefusal.{TokenizeRefusal}
 use Rattle.image.specs.Frames.{absent, present, Frame, node, option, flag, text, perhaps, encode_frame}
 use Rattle.image.specs.Limits.{all_shown, is_name, is_note, is_short, definable, fair}
 use Rattle.image.specs.Reading.{span, perhaps_in, node_lengths, definition_lengths, node_first, option_first, flag_first, head_first, node_in, option_in, flag_in, read_first}
 use Rattle.tree.specs.Images.{items_from, items, frames_in, frames_of, flat}
 use Rattle.tree.specs.Rules.{rises, follows, obeys, after, judge_items, check_tree}
-use Rattle.tree.specs.declared.check.Checked.TheVariants.{Good}
 use Rattle.lookup.specs.Searches.{keyed}
 use Rattle.tree.specs.Subtrees.{up_to, on_from, subtree}
 use Rattle.table.specs.Map.{put, has}
@@ -30,7 +30,7 @@ use Rattle.arguments.specs.Arguments.{with_option, with_flag, with_positional, s
 use Rattle.parse.specs.Commands.{is_missing, missing_required, Outcome, parsed, fault, concluded, parse_in, parse_words, parse_line}
 use Rattle.tree.specs.Commands.{descend}
 use Rattle.parse.specs.Answer.{Parsing, number as parsed_number, value as parsed_value}
-use Rattle.parse.specs.declared.answer.Parsed.{Parsed}
+use Rattle.parse.specs.declared.answer.ParseRefusal.{ParseRefusal}
 use Rattle.buffer.specs.Ascii.{ascii}
 use Rattle.promises.proofs.Tables.{told, row, first, lacks}
 use Rattle.promises.proofs.Answers.{too_long, ill_formed, is_bad_tree, tokenize_table, tokenize_tells, outcome_table, parse_table, parse_tells}
@@ -85,11 +85,11 @@ M1-to-M14 = (refl, (refl, (refl, (refl, (refl, (refl, (refl, (refl, (refl, (refl
 -- AS CALLED: `tokenize` and `parse` answer each line so, and refuse it only with 9, where what they tell does not fit
 abbrev pub Called : Row → Type 0
 Called (splits line words) =
-    (out left : List ℕ) (r : Tokens) → Tokenized line out r left
+    (out left : List ℕ) (r : Result ℕ TokenizeRefusal) → Tokenized line out r left
     → told (tokens_number r) (tokens_value r) left
     ≡ first (row 9 (lacks (word_frames words) out) (length (word_frames words)) out ∷ []) (told 0 (length (word_frames words)) (over (word_frames words) out))
 Called (says line outcome) =
-    (out left : List ℕ) (r : Parsed) → Parsing (flat set_tree) line out r left → told (parsed_number r) (parsed_value r) left ≡ outcome_table outcome out
+    (out left : List ℕ) (r : Result ℕ ParseRefusal) → Parsing (flat set_tree) line out r left → told (parsed_number r) (parsed_value r) left ≡ outcome_table outcome out
 
 -- no line is refused for itself
 abbrev Fair : Row → Type 0
@@ -101,7 +101,7 @@ unfolding marked ascii encode_all encode codes_in codes_of pieces_of pieces_from
 all_fair_lem = ((refl, refl), ((refl, refl), ((refl, refl), ((refl, refl), ((refl, refl), ((refl, refl), ((refl, refl), ((refl, refl), ((refl, refl), ((refl, refl), ((refl, refl), ((refl, refl), ((refl, refl), ((refl, refl), tt))))))))))))))
 
 -- the image of the node `set`
-set_good : check_tree (flat set_tree) ≡ Good
+set_good : check_tree (flat set_tree) ≡ Ok tt
 unfolding set_tree ascii order number_bytes text_of text perhaps encode_frame all_shown is_name is_note is_short definable fair span perhaps_in node_lengths definition_lengths node_first option_first flag_first head_first node_in option_in flag_in read_first items_from items flat rises follows obeys after judge_items check_tree
 set_good = refl
 

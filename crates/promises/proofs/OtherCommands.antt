@@ -1,5 +1,6 @@
 -- Demand 3, no command depends on another: under two well-formed trees in which the command that a line names is absent or has the same subtree, and with
 -- equal buffers, answer, refusal and every byte written are the same. A line that is over-long, ill-formed or wordless names none and is answered alike under all trees.
+use Rattle.std.specs.Prelude.{Result, Ok}
 use Prim.Native.Nat.{ℕ}
 use mathlib.Core.Path.{◌≡◌, refl, sym, ◌∙◌}
 use mathlib.Core.Bool.{Bool, true, false, cond}
@@ -13,19 +14,19 @@ use Rattle.text.specs.Apart.{trimmed, words_between}
 use Rattle.image.specs.Frames.{Frame}
 use Rattle.tree.specs.Images.{frames_of}
 use Rattle.tree.specs.Rules.{check_tree}
-use Rattle.tree.specs.declared.check.Checked.TheVariants.{Good}
 use Rattle.tree.specs.Subtrees.{subtree}
 use Rattle.words.specs.Tokens.{words_of}
 use Rattle.parse.specs.Commands.{parse_in, parse_words, parse_line}
 use Rattle.parse.specs.Answer.{Parsing}
-use Rattle.parse.specs.declared.answer.Parsed.{Parsed}
+use Rattle.parse.specs.declared.answer.ParseRefusal.{ParseRefusal}
 use Rattle.parse.proofs.Answers.{AgreeOn, other_commands as parse_alike}
 use Rattle.help.specs.Answer.{help_in, help_of, help_line, Helping}
-use Rattle.help.specs.declared.call.Helped.{Helped}
+use Rattle.help.specs.declared.call.HelpRefusal.{HelpRefusal}
 use Rattle.help.proofs.OtherCommands.{Alike, same_command}
 use Rattle.shell.specs.Lines.{builtin_of, execute_in, execute}
 use Rattle.shell.specs.Answer.{Running}
 use Rattle.shell.specs.declared.answer.Ran.{Ran}
+use Rattle.shell.specs.declared.answer.RunRefusal.{RunRefusal}
 use Rattle.shell.specs.declared.builtin.Builtin.TheVariants.{Help}
 use Rattle.shell.proofs.Answers.{naming, other_commands as run_alike}
 use Rattle.promises.proofs.Answers.{too_long, ill_formed}
@@ -49,14 +50,14 @@ asked P true w words p a b = absurd (true_is_not_false a)
 asked P false true words p a b = absurd (true_is_not_false b)
 asked P false false words p a b = p
 
-module _ (image other line : List ℕ) (good : check_tree image ≡ Good) (good' : check_tree other ≡ Good) (out left left' : List ℕ) where
+module _ (image other line : List ℕ) (good : check_tree image ≡ Ok tt) (good' : check_tree other ≡ Ok tt) (out left left' : List ℕ) where
   -- PARSE: the first word of the line, untrimmed
-  pub parse_alone : Agree image other (named words_of line) → (r q : Parsed) → Parsing image line out r left → Parsing other line out q left' → (r ≡ q) × (left ≡ left')
+  pub parse_alone : Agree image other (named words_of line) → (r q : Result ℕ ParseRefusal) → Parsing image line out r left → Parsing other line out q left' → (r ≡ q) × (left ≡ left')
   parse_alone agree r q a b =
       parse_alike image other line good good' out left left' r q a b (asked (Agree image other) (too_long line) (ill_formed line) (words_of line) agree)
 
   -- HELP: the first of its words, split on white space only
-  pub help_alone : Agree image other (named words_between line) → (r q : Helped) → Helping image line out r left → Helping other line out q left' → (r ≡ q) × (left ≡ left')
+  pub help_alone : Agree image other (named words_between line) → (r q : Result ℕ HelpRefusal) → Helping image line out r left → Helping other line out q left' → (r ≡ q) × (left ≡ left')
   help_alone agree r q a b = same_command image other line alike good good' out left left' r q a b
     where
       alike : Alike image other line
@@ -69,13 +70,13 @@ module _ (image other line : List ℕ) (good : check_tree image ≡ Good) (good'
 
   -- RUN: the first word after an untrimmed `help `, split on white space only, else of the trimmed line. A bare `help`, judged after trimming, lists all commands.
   pub run_alone : (too_long line ≡ false → ill_formed line ≡ false → builtin_of (trimmed line) ≡ Help → ⊥) → Agree image other (named naming line)
-      → (r q : Ran) → Running image line out r left → Running other line out q left' → (r ≡ q) × (left ≡ left')
+      → (r q : Result Ran RunRefusal) → Running image line out r left → Running other line out q left' → (r ≡ q) × (left ≡ left')
   run_alone bare agree r q a b =
       run_alike image other line good good' out left left' r q a b (λ l w. (bare l w, asked (Agree image other) (too_long line) (ill_formed line) (naming line) agree l w))
 
 -- THE TWO CASES BY NAME. The command that a line names is absent from both trees, or it is present in both with the same complete subtree: its node and all
 -- frames before the next node of its depth or less (Subtrees). What else stands in either tree, before it or after it, does not matter.
-module _ (image other line : List ℕ) (good : check_tree image ≡ Good) (good' : check_tree other ≡ Good) where
+module _ (image other line : List ℕ) (good : check_tree image ≡ Ok tt) (good' : check_tree other ≡ Ok tt) where
   module _ (words : List ℕ → List (List ℕ)) (name : List ℕ) (more : List (List ℕ)) (e : words line ≡ name ∷ more) where
     -- of a line that is over-long or ill-formed nothing is asked
     same_named : subtree 0 name (frames_of image) ≡ subtree 0 name (frames_of other) → Agree image other (named words line)
@@ -95,29 +96,29 @@ module _ (image other line : List ℕ) (good : check_tree image ≡ Good) (good'
   module _ (out left left' : List ℕ) (name : List ℕ) (more : List (List ℕ)) where
     -- PARSE
     pub parse_absent : words_of line ≡ name ∷ more → Absent name (frames_of image) → Absent name (frames_of other)
-        → (r q : Parsed) → Parsing image line out r left → Parsing other line out q left' → (r ≡ q) × (left ≡ left')
+        → (r q : Result ℕ ParseRefusal) → Parsing image line out r left → Parsing other line out q left' → (r ≡ q) × (left ≡ left')
     parse_absent e a b = parse_alone image other line good good' out left left' (absent_agree words_of name more e a b)
 
     pub parse_present : words_of line ≡ name ∷ more → (command : List Frame) → Present name command (frames_of image) → Present name command (frames_of other)
-        → (r q : Parsed) → Parsing image line out r left → Parsing other line out q left' → (r ≡ q) × (left ≡ left')
+        → (r q : Result ℕ ParseRefusal) → Parsing image line out r left → Parsing other line out q left' → (r ≡ q) × (left ≡ left')
     parse_present e command a b = parse_alone image other line good good' out left left' (present_agree words_of name more e command a b)
 
     -- HELP
     pub help_absent : words_between line ≡ name ∷ more → Absent name (frames_of image) → Absent name (frames_of other)
-        → (r q : Helped) → Helping image line out r left → Helping other line out q left' → (r ≡ q) × (left ≡ left')
+        → (r q : Result ℕ HelpRefusal) → Helping image line out r left → Helping other line out q left' → (r ≡ q) × (left ≡ left')
     help_absent e a b = help_alone image other line good good' out left left' (absent_agree words_between name more e a b)
 
     pub help_present : words_between line ≡ name ∷ more → (command : List Frame) → Present name command (frames_of image) → Present name command (frames_of other)
-        → (r q : Helped) → Helping image line out r left → Helping other line out q left' → (r ≡ q) × (left ≡ left')
+        → (r q : Result ℕ HelpRefusal) → Helping image line out r left → Helping other line out q left' → (r ≡ q) × (left ≡ left')
     help_present e command a b = help_alone image other line good good' out left left' (present_agree words_between name more e command a b)
 
     -- RUN, of any line but a bare `help`
     pub run_absent : (builtin_of (trimmed line) ≡ Help → ⊥) → naming line ≡ name ∷ more → Absent name (frames_of image) → Absent name (frames_of other)
-        → (r q : Ran) → Running image line out r left → Running other line out q left' → (r ≡ q) × (left ≡ left')
+        → (r q : Result Ran RunRefusal) → Running image line out r left → Running other line out q left' → (r ≡ q) × (left ≡ left')
     run_absent bare e a b = run_alone image other line good good' out left left' (λ l w. bare) (absent_agree naming name more e a b)
 
     pub run_present : (builtin_of (trimmed line) ≡ Help → ⊥) → naming line ≡ name ∷ more → (command : List Frame) → Present name command (frames_of image) → Present name command (frames_of other)
-        → (r q : Ran) → Running image line out r left → Running other line out q left' → (r ≡ q) × (left ≡ left')
+        → (r q : Result Ran RunRefusal) → Running image line out r left → Running other line out q left' → (r ≡ q) × (left ≡ left')
     run_present bare e command a b = run_alone image other line good good' out left left' (λ l w. bare) (present_agree naming name more e command a b)
 
 -- THE SAME OVER THE DEFINITIONS, which a constant would not satisfy: what a line says is a function of the subtree of its first word

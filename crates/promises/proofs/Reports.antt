@@ -1,5 +1,6 @@
 -- What a report is (STANDARD 8): one frame for each path word, option, flag and positional, in that order, the keys of the options and those of the flags each
 -- rising strictly by bytes. Whenever `parse` answers a report, it is such a one.
+use Rattle.std.specs.Prelude.{Ok, Err, Result, ⊤}
 use Prim.Native.Nat.{ℕ, min}
 use mathlib.Core.Path.{◌≡◌, refl, ap, ◌∙◌}
 use mathlib.Core.Bool.{Bool, true, false, cond}
@@ -18,8 +19,7 @@ use Rattle.tree.specs.Images.{frames_of}
 use Rattle.tree.specs.Rules.{check_tree}
 use Rattle.tree.specs.Subtrees.{subtree}
 use Rattle.tree.specs.Commands.{Reached, on_subtree, descend}
-use Rattle.tree.specs.declared.check.Checked.{Checked}
-use Rattle.tree.specs.declared.check.Checked.TheVariants.{Good, BadFrame}
+use Rattle.tree.specs.declared.check.BadFrame.{BadFrame}
 use Rattle.lookup.specs.Definitions.{has_key, has_short}
 use Rattle.words.specs.Tokens.{words_of}
 use Rattle.arguments.specs.Meanings.{definitions_of, Means, a_flag, an_option, nothing, meaning, on_means, is_option}
@@ -28,7 +28,7 @@ use Rattle.arguments.specs.Arguments.{Found, none_found, Stand, go, wait, unknow
 use Rattle.report.specs.Report.{report_of}
 use Rattle.parse.specs.Commands.{missing_required, Outcome, parsed, fault, on_missing, outcome_of, concluded, parse_in, parse_words, parse_line}
 use Rattle.parse.specs.Answer.{told_in, fault_answer, named_as, outcome_answer, outcome_leaves, on_checked, parse_answer, parse_leaves, Parsing}
-use Rattle.parse.specs.declared.answer.Parsed.TheVariants.{Report, BadTree, LineTooLong, IllFormed, UnknownCommand, UnknownOption, MissingValue, MissingRequired, NoRoom}
+use Rattle.parse.specs.declared.answer.ParseRefusal.TheVariants.{BadTree, LineTooLong, IllFormed, UnknownCommand, UnknownOption, MissingValue, MissingRequired, NoRoom}
 use Rattle.promises.proofs.Tables.{lacks}
 use Rattle.promises.proofs.Answers.{too_long, ill_formed}
 
@@ -142,29 +142,29 @@ record IsReport (o : Outcome) (n size : ℕ) (left bytes : List ℕ) : Type 0 wh
   counted : n ≡ size
   written : left ≡ bytes
 
-fault_other : (n number size : ℕ) → Report n ≡ fault_answer number size → ⊥
+fault_other : (n number size : ℕ) → Ok n ≡ fault_answer number size → ⊥
 fault_other n number size e = by (eqb number 4) (eqb number 5) (eqb number 6) e
   where
-    by : (a b c : Bool) → Report n ≡ cond a (UnknownCommand size) (cond b (UnknownOption size) (cond c (MissingValue size) (MissingRequired size))) → ⊥
+    by : (a b c : Bool) → Ok n ≡ cond a (Err (UnknownCommand size)) (cond b (Err (UnknownOption size)) (cond c (Err (MissingValue size)) (Err (MissingRequired size)))) → ⊥
     by true b c q = let z : ◌≡◌ {A = ℕ} 0 1 = cc in omega arith
     by false true c q = let z : ◌≡◌ {A = ℕ} 0 1 = cc in omega arith
     by false false true q = let z : ◌≡◌ {A = ℕ} 0 1 = cc in omega arith
     by false false false q = let z : ◌≡◌ {A = ℕ} 0 1 = cc in omega arith
 
 module _ (n long_by ill-by size : ℕ) (out left bytes : List ℕ) where
-  only_report : (c : Checked) (over-long ill lack : Bool) (o : Outcome)
-      → Report n ≡ on_checked c (λ k. BadTree k) (cond over-long (LineTooLong long_by) (cond ill (IllFormed ill-by) (cond lack (NoRoom size) (named_as o size))))
+  only_report : (c : Result ⊤ BadFrame) (over-long ill lack : Bool) (o : Outcome)
+      → Ok n ≡ on_checked c (λ k. Err (BadTree k)) (cond over-long (Err (LineTooLong long_by)) (cond ill (Err (IllFormed ill-by)) (cond lack (Err (NoRoom size)) (named_as o size))))
       → left ≡ on_checked c (λ k. out) (cond over-long out (cond ill out (cond lack out bytes)))
       → IsReport o n size left bytes
-  only_report (BadFrame k) over-long ill lack o e b = absurd (let z : ◌≡◌ {A = ℕ} 0 1 = cc in omega arith)
-  only_report Good true ill lack o e b = absurd (let z : ◌≡◌ {A = ℕ} 0 1 = cc in omega arith)
-  only_report Good false true lack o e b = absurd (let z : ◌≡◌ {A = ℕ} 0 1 = cc in omega arith)
-  only_report Good false false true o e b = absurd (let z : ◌≡◌ {A = ℕ} 0 1 = cc in omega arith)
-  only_report Good false false false (fault number told) e b = absurd (fault_other n number size e)
-  only_report Good false false false (parsed path found) e b = record { path = path; found = found; says = refl; counted = cc; written = b }
+  only_report (Err refusal) over-long ill lack o e b = absurd (let z : ◌≡◌ {A = ℕ} 0 1 = cc in omega arith)
+  only_report (Ok u) true ill lack o e b = absurd (let z : ◌≡◌ {A = ℕ} 0 1 = cc in omega arith)
+  only_report (Ok u) false true lack o e b = absurd (let z : ◌≡◌ {A = ℕ} 0 1 = cc in omega arith)
+  only_report (Ok u) false false true o e b = absurd (let z : ◌≡◌ {A = ℕ} 0 1 = cc in omega arith)
+  only_report (Ok u) false false false (fault number told) e b = absurd (fault_other n number size e)
+  only_report (Ok u) false false false (parsed path found) e b = record { path = path; found = found; says = refl; counted = cc; written = b }
 
 -- EVERY REPORT of parse
-pub parse_reports : (image line out : List ℕ) (n : ℕ) (left : List ℕ) → Parsing image line out (Report n) left → Reports image line out n left
+pub parse_reports : (image line out : List ℕ) (n : ℕ) (left : List ℕ) → Parsing image line out (Ok n) left → Reports image line out n left
 unfolding parse_answer parse_leaves outcome_answer outcome_leaves told_in parse_line
 parse_reports image line out n left t =
     let o : Outcome = parse_line image line in

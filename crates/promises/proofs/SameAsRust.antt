@@ -1,5 +1,6 @@
 -- Demand 2, same as the Rust: each call does what the Rust's function does, which stands as a function on values, beside its lines, in the crate `rust`.
 -- What both sides take from Rust's std is held to Unicode and to what it is, and a quoted list of words splits back into that list.
+use Rattle.std.specs.Prelude.{Ok, Result}
 use Prim.Native.Nat.{ℕ, ◌+◌, ◌<◌, ◌≤◌}
 use mathlib.Core.Path.{◌≡◌, ap}
 use mathlib.Core.Bool.{Bool, true, false}
@@ -8,7 +9,7 @@ use native.Mathlib.Omega.{arith}
 use lib.ListN.{length, take, get_or}
 use Rattle.buffer.specs.Compare.{order, same_bytes}
 use Rattle.buffer.specs.Write.{over}
-use Rattle.buffer.specs.declared.order.Order.TheVariants.{Less, Equal}
+use Rattle.std.specs.declared.cmp.Ordering.TheVariants.{Less, Equal}
 use Rattle.buffer.proofs.Ordering.{same_is, is_same, order_is, turned, order_turned, order_trans}
 use Rattle.text.specs.Unicode.{Scalar, Scalars, encode, encode_all, WellFormed}
 use Rattle.text.specs.Decoding.{decode_first, codes_in, well_formed_length}
@@ -23,15 +24,13 @@ use Rattle.frame.specs.Hex.{digit_of, digit_value, value_of as value_in}
 use Rattle.frame.proofs.Digits.{digit_read}
 use Rattle.words.specs.Tokens.{words_of}
 use Rattle.words.specs.Answer.{Tokenized}
-use Rattle.words.specs.declared.tokenizer.Tokens.{Tokens}
-use Rattle.words.specs.declared.tokenizer.Tokens.TheVariants.{Words}
+use Rattle.words.specs.declared.tokenizer.TokenizeRefusal.{TokenizeRefusal}
 use Rattle.quote.specs.Given.{listed, fine, judge_words}
 use Rattle.quote.specs.Answer.{quote_line}
 use Rattle.quote.proofs.GivenBack.{given_back, call_back}
 use Rattle.tree.specs.Images.{flat, frames_of}
 use Rattle.tree.specs.Forest.{Forest}
 use Rattle.tree.specs.Rules.{check_tree}
-use Rattle.tree.specs.declared.check.Checked.TheVariants.{Good}
 use Rattle.tree.proofs.Forests.{StandsFor}
 use Rattle.trees.specs.Commands.{base_tree, fs_tree}
 use Rattle.rust.specs.Std.{is_empty, is_utf8}
@@ -60,8 +59,6 @@ use Rattle.history.specs.Answer.{Addition}
 use Rattle.history.specs.Forgotten.{Forgets}
 use Rattle.history.specs.Steps.{back, onward}
 use Rattle.history.specs.declared.stepping.History.{History}
-use Rattle.history.specs.declared.adding.Added.TheVariants.{Done}
-use Rattle.history.specs.declared.forgetting.Forgot.TheVariants.{Gone}
 use Rattle.screen.specs.Decimal.{decimal, digits_value}
 use Rattle.screen.specs.Redraw.{redraw}
 use Rattle.screen.proofs.Numerals.{Digits, decimal_one, decimal_value, decimal_digits, decimal_lead}
@@ -77,12 +74,12 @@ use Rattle.promises.proofs.Std.{prop_list, Listed, white_is_listed, listed_is_wh
 pub history_new : original no_entries ≡ new 100
 history_new = fresh_is
 
-pub add_command_lem : (h : History) (slots text : List ℕ) (r : History) (left : List ℕ) → Addition h slots text r Done left
+pub add_command_lem : (h : History) (slots text : List ℕ) (r : History) (left : List ℕ) → Addition h slots text r (Ok tt) left
     → add_command (original (journal_of h slots)) text ≡ original (journal_of r left)
 add_command_lem = add_as_rust
 
 -- an entry that is forgotten leaves the Rust's history with the shortened list, at the place after its newest, from which add_command and the steps go on
-pub forget : (h : History) (slots : List ℕ) (k : ℕ) (r : History) (n : ℕ) (left : List ℕ) → Forgets h slots k r (Gone n) left
+pub forget : (h : History) (slots : List ℕ) (k : ℕ) (r : History) (n : ℕ) (left : List ℕ) → Forgets h slots k r (Ok n) left
     → shortened k (original (journal_of h slots)) ≡ original (journal_of r left)
 forget = forget_as_rust
 
@@ -108,10 +105,10 @@ key = presses_as
 -- WORDS, PARSE, HELP AND RUN (000), under the tree of 003 or any other: the Rust's functions stand beside their lines in the crate `rust`, on its own tree of nodes with
 -- maps by name. `SameAsRust image tree` says of parse, help and run that whatever their contracts allow is what the Rust does: its bytes and the number of its
 -- error, or 9 with their length. The Rust's domain is a well-formed line of at most 1,024 bytes; run takes ill-formed ones too.
-pub words : (line : List ℕ) → Fair line → (out left : List ℕ) (r : Tokens) → Tokenized line out r left → SplitsAs (tokenize line) out r left
+pub words : (line : List ℕ) → Fair line → (out left : List ℕ) (r : Result ℕ TokenizeRefusal) → Tokenized line out r left → SplitsAs (tokenize line) out r left
 words = splits_as
 
-pub good_tree : (image : List ℕ) → Bytes image → check_tree image ≡ Good → (f : Forest) × StandsFor image f × SameAsRust image (commands_of f)
+pub good_tree : (image : List ℕ) → Bytes image → check_tree image ≡ Ok tt → (f : Forest) × StandsFor image f × SameAsRust image (commands_of f)
 good_tree = good_same
 
 pub base_tree_lem : SameAsRust (flat base_tree) (build_command_tree false)
@@ -208,5 +205,5 @@ pub splits_back : (words : List ℕ) (ws : List (List ℕ)) → judge_words (lis
 splits_back = given_back
 
 pub frames_back : (words out : List ℕ) (ws : List (List ℕ)) → Bytes words → judge_words (listed words) ≡ fine ws → length (quote_line ws) ≤ 1024 → length words ≤ length out
-    → Tokenized (quote_line ws) out (Words (length words)) (over words out)
+    → Tokenized (quote_line ws) out (Ok (length words)) (over words out)
 frames_back = call_back

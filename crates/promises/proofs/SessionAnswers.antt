@@ -1,12 +1,14 @@
 -- Demand 1 for a session: each call's refusals, with number, value, and what stands in each lent buffer and state; and that from the fresh session on none is ever met but a bad line.
+use Rattle.std.specs.Prelude.{Ok, Err, Result}
 use Prim.Native.Nat.{ℕ, ◌≤◌, ◌<◌}
 use mathlib.Core.Path.{◌≡◌, ap, ◌∙◌}
 use mathlib.Core.Bool.{true, false}
 use mathlib.Core.List.{List}
 use lib.ListN.{length}
 use Rattle.buffer.proofs.Choices.{then_is}
+use Rattle.buffer.specs.Showing.{number as shown_number, value as shown_value}
+use Rattle.buffer.specs.declared.show.TooShort.{TooShort}
 use Rattle.tree.specs.Rules.{check_tree}
-use Rattle.tree.specs.declared.check.Checked.TheVariants.{Good, BadFrame}
 use Rattle.history.specs.Journal.{no_entries, slots_of as journal_slots}
 use Rattle.editor.specs.Answer.{good_state}
 use Rattle.keys.specs.declared.standing.Profile.{Profile}
@@ -15,7 +17,6 @@ use Rattle.session.specs.Calls.{fresh, TakingLine, image_of, is_enter, tree_befo
 use Rattle.session.specs.Held.{Holds}
 use Rattle.session.specs.Sizes.{key_room}
 use Rattle.session.specs.Answer.{number, value, line_number, line_value}
-use Rattle.session.specs.declared.running.Printing.{Printing}
 use Rattle.session.specs.declared.standing.Session.{Session}
 use Rattle.session.specs.declared.taking.Taken.TheVariants.{NoRoom}
 use Rattle.session.specs.declared.taking.Took.{Took}
@@ -34,12 +35,12 @@ module _ (h : Session) (image slots : List ℕ) (byte : ℕ) (out : List ℕ) (r
   pub press_9 : length out < key_room → (number r.answer ≡ 9) × (value r.answer ≡ key_room) × Kept h slots out r slots' out'
   press_9 e = (ap number (p.short e).0, ap value (p.short e).0, (p.short e).1)
 
-  pub press_1 : key_room ≤ length out → (n : ℕ) → is_enter byte ≡ true → check_tree (image_of h image) ≡ BadFrame n
+  pub press_1 : key_room ≤ length out → (n : ℕ) → is_enter byte ≡ true → check_tree (image_of h image) ≡ Err (record { number = n })
       → (number r.answer ≡ 1) × (value r.answer ≡ n) × Kept h slots out r slots' out'
   unfolding tree_before
   press_1 m n e f = let told = p.bad_tree m n (then_is _ _ _ e ∙ f) in (ap number told.0, ap value told.0, told.1)
 
-  pub press_12 : key_room ≤ length out → tree_before byte (image_of h image) ≡ Good → good_state h.editor h.history slots ≡ false
+  pub press_12 : key_room ≤ length out → tree_before byte (image_of h image) ≡ Ok tt → good_state h.editor h.history slots ≡ false
       → (number r.answer ≡ 12) × (value r.answer ≡ 0) × Kept h slots out r slots' out'
   press_12 m g e = let told = p.bad_state m g e in (ap number told.0, ap value told.0, told.1)
 
@@ -63,8 +64,8 @@ module _ (h : Session) (line image frame : List ℕ) (r : Took) (image' frame' :
       (p.read ∙ image_narrow h line image frame early w l _ _ _)
 
 -- REFUSE: 9
-pub refuse_9 : (n : ℕ) (out : List ℕ) (r : Printing) (out' : List ℕ) → RefusingLine n out r out' → length out < 7 → (number r ≡ 9) × (value r ≡ 7) × (out' ≡ out)
-refuse_9 n out r out' p e = (ap number (p.short e).0, ap value (p.short e).0, (p.short e).1)
+pub refuse_9 : (n : ℕ) (out : List ℕ) (r : Result ℕ TooShort) (out' : List ℕ) → RefusingLine n out r out' → length out < 7 → (shown_number r ≡ 9) × (shown_value r ≡ 7) × (out' ≡ out)
+refuse_9 n out r out' p e = (ap shown_number (p.short e).0, ap shown_value (p.short e).0, (p.short e).1)
 
 -- FROM FRESH: a session that is held stays held, and each line and each key is answered as the definitions say
 pub begins : (profile : Profile) (image : List ℕ) → Holds (beginning profile) (fresh profile) image (journal_slots no_entries)

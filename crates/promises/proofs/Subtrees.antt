@@ -1,5 +1,6 @@
 -- A command and its complete subtree in the words of the standard: a node of depth 0 and all frames before the next node of its depth or less. What the definitions look
 -- up (`subtree`) is that; in a well-formed tree no two commands have one name, so it does not matter which is looked up.
+use Rattle.std.specs.Prelude.{Ok, Err}
 use Prim.Native.Nat.{ℕ, zero, suc}
 use mathlib.Core.Path.{◌≡◌, refl, sym, ap, ◌∙◌}
 use mathlib.Core.Bool.{Bool, true, false, cond}
@@ -10,8 +11,8 @@ use lib.Dec.{ltb, leb, eqb}
 use lib.ListN.{length, take}
 use borrow.Author.Tests.{lt-leb, ne_eqb, eqb-true}
 use Rattle.buffer.specs.Compare.{order}
-use Rattle.buffer.specs.declared.order.Order.{Order}
-use Rattle.buffer.specs.declared.order.Order.TheVariants.{Less, Equal, Greater}
+use Rattle.std.specs.declared.cmp.Ordering.{Ordering}
+use Rattle.std.specs.declared.cmp.Ordering.TheVariants.{Less, Equal, Greater}
 use Rattle.buffer.proofs.Ordering.{order_trans, same_self, same_is}
 use Rattle.table.proofs.Maps.{less_unequal}
 use Rattle.image.specs.Frames.{Perhaps, Frame, node, option, flag}
@@ -20,7 +21,6 @@ use Rattle.image.proofs.Fields.{both_first, both_second}
 use Rattle.tree.specs.Images.{items, frames_of}
 use Rattle.tree.specs.Rules.{Seen, start, is_less, rises, follows, obeys, after, judge_items, obey_all, check_tree}
 use Rattle.tree.specs.Subtrees.{is_named, is_upper, up_to, on_from, rooted, subtree}
-use Rattle.tree.specs.declared.check.Checked.TheVariants.{Good, BadFrame}
 use Rattle.tree.proofs.WellFormedImages.{good_judged}
 use Rattle.lookup.proofs.Lookups.{NoneOf, on_skip, up_skip}
 use Rattle.lookup.proofs.Subtrees.{up_on}
@@ -54,7 +54,7 @@ absent_none name frames a =
     ap (λ (l : List Frame). rooted 0 (on_from (is_named 0 name) l)) (sym (append-nil frames)) ∙ ap (rooted 0) (on_skip (is_named 0 name) frames [] a)
 
 -- NO TWO COMMANDS have one name: after a node of depth 0 those of depth 0 have greater names
-less_is : (o : Order) → is_less o ≡ true → o ≡ Less
+less_is : (o : Ordering) → is_less o ≡ true → o ≡ Less
 less_is Less e = refl
 less_is Equal e = cc
 less_is Greater e = cc
@@ -106,11 +106,11 @@ module _ (h : ℕ) (n ds : List ℕ) (u : Perhaps) (l : List Frame) where
   none_before (flag c m x es ∷ before) seen o = (refl, none_before before _ (obeys_later seen (flag c m x es) (before ++ (node 0 h n ds u ∷ l)) o))
 
 -- what is present is found, whole
-good_obeys : (image : List ℕ) → check_tree image ≡ Good → obey_all start (frames_of image) ≡ true
+good_obeys : (image : List ℕ) → check_tree image ≡ Ok tt → obey_all start (frames_of image) ≡ true
 unfolding check_tree frames_of
 good_obeys image e = by (ltb 32768 (length image)) e
   where
-    by : (t : Bool) → cond t (BadFrame 0) (judge_items start 0 (items image)) ≡ Good → obey_all start (frames_of image) ≡ true
+    by : (t : Bool) → cond t (Err (record { number = 0 })) (judge_items start 0 (items image)) ≡ Ok tt → obey_all start (frames_of image) ≡ true
     by true q = absurd (let z : ◌≡◌ {A = ℕ} 0 1 = cc in omega arith)
     by false q = (good_judged (items image) start 0 q).obey
 
@@ -123,7 +123,7 @@ found_here : (h : ℕ) (n ds : List ℕ) (u : Perhaps) (l : List Frame) → on_f
 unfolding on_from
 found_here h n ds u l = rw (same_self n)
 
-pub present_found : (image name : List ℕ) (command : List Frame) → check_tree image ≡ Good → Present name command (frames_of image) → subtree 0 name (frames_of image) ≡ command
+pub present_found : (image name : List ℕ) (command : List Frame) → check_tree image ≡ Ok tt → Present name command (frames_of image) → subtree 0 name (frames_of image) ≡ command
 unfolding subtree
 present_found image name command good p =
     let first : Frame = node 0 p.handler name p.description p.usage in

@@ -17,9 +17,8 @@ use Rattle.quote.specs.Shown.{shown}
 use Rattle.quote.specs.Joined.{gap_before, joined_from, joined}
 use Rattle.quote.specs.Answer.{quote_line, line_of}
 use Rattle.quote.specs.Inner.{item_first, line_size_of, IsFine}
-use Rattle.quote.specs.declared.given.Item.TheVariants.{Bad as NoWord}
-use Rattle.quote.specs.declared.quoter.LineSize.{LineSize}
-use Rattle.quote.specs.declared.quoter.LineSize.TheVariants.{Needs, Bad}
+use Rattle.std.specs.Prelude.{Result, Ok, Err, None}
+use Rattle.quote.specs.declared.given.Item.{Item}
 use Rattle.quote.proofs.Listing.{good_formed, frame_room_lem, part_is, part_length, WordTold, ItemTold, judge_word, judge_bad, listed_end, item_first_lem, item_other}
 use Rattle.buffer.proofs.Choices.{else_is}
 use Rattle.quote.proofs.Showing.{shown_most}
@@ -50,24 +49,24 @@ module _ (words : List ℕ) (at len : ℕ) (t : WordTold (drop at words) len) wh
   word_judged = judge_word words at len t ∙ ap (λ (w : List ℕ). word_before w (judge_words (listed (drop (at + 3 + len) words)))) (sym (part_is words at len))
 
 -- what measuring finds, where n words of `size` bytes are passed
-abbrev pub resume : ℕ → ℕ → Judged → LineSize
-resume n size (bad k) = Bad (n + k)
-resume n size (fine ws) = Needs (size + length (joined_from n (map shown ws)))
+abbrev pub resume : ℕ → ℕ → Judged → Result ℕ ℕ
+resume n size (bad k) = Err (n + k)
+resume n size (fine ws) = Ok (size + length (joined_from n (map shown ws)))
 
-resume_start : (j : Judged) → on_judged j (λ k. Bad k) (λ ws. Needs (length (quote_line ws))) ≡ resume 0 0 j
+resume_start : (j : Judged) → on_judged j (λ k. Err k) (λ ws. Ok (length (quote_line ws))) ≡ resume 0 0 j
 unfolding quote_line joined
-resume_start (bad k) = ap Bad (omega arith)
-resume_start (fine ws) = ap Needs (omega arith)
+resume_start (bad k) = ap Err (omega arith)
+resume_start (fine ws) = ap Ok (omega arith)
 
 resume_turn : (n size : ℕ) (w : List ℕ) (j : Judged) → resume n size (word_before w j) ≡ resume (n + 1) (size + length (gap_before n) + length (shown w)) j
 unfolding joined_from
-resume_turn n size w (bad k) = ap Bad (omega arith)
+resume_turn n size w (bad k) = ap Err (omega arith)
 resume_turn n size w (fine ws) =
     let rest : List ℕ = joined_from (suc n) (map shown ws) in
     let a = length-append (gap_before n) (shown w ++ rest) in
     let b = length-append (shown w) rest in
     let c : length (joined_from (n + 1) (map shown ws)) ≡ length rest = ap (λ (k : ℕ). length (joined_from k (map shown ws))) (add-one n) in
-    ap Needs (omega arith)
+    ap Ok (omega arith)
 
 pub record Counted (words : List ℕ) (size n at : ℕ) : Type 0 where
   pub inside : at ≤ length words
@@ -80,38 +79,39 @@ unfolding line_size_of
 counted_start words = record { inside = omega arith; few = omega arith; cost = omega arith; all = resume_start (judge_words (listed words)) }
 
 module _ (words : List ℕ) (size n at : ℕ) (h : Counted words size n at) where
-  pub counted_cost : (len g r : ℕ) → ItemTold (drop at words) len r → g ≡ length (gap_before n) → size + g + r ≤ 2 * (at + 3 + len)
-  counted_cost len g r i p =
-      let w : List ℕ = take len (drop 3 (drop at words)) in
-      let l = part_length words at len (word_within words at len i.word) in
-      let same = ap length (part_is words at len) in
-      let m = shown_most w (good_formed w i.word.good) in
-      let s = i.shows in
+  pub counted_cost : (g : ℕ) (i : Item) → ItemTold (drop at words) i → g ≡ length (gap_before n) → size + g + i.size ≤ 2 * (at + 3 + i.length)
+  counted_cost g i t p =
+      let w : List ℕ = take i.length (drop 3 (drop at words)) in
+      let l = part_length words at i.length (word_within words at i.length t.word) in
+      let same = ap length (part_is words at i.length) in
+      let m = shown_most w (good_formed w t.word.good) in
+      let s = t.shows in
       let k = gap_most n in
       let c = h.cost in
       omega arith
 
-  pub counted_turn : (len g r : ℕ) → ItemTold (drop at words) len r → g ≡ length (gap_before n) → Counted words (size + g + r) (n + 1) (at + 3 + len)
-  counted_turn len g r i p =
+  pub counted_turn : (g : ℕ) (i : Item) → ItemTold (drop at words) i → g ≡ length (gap_before n)
+      → Counted words (size + g + i.size) (n + 1) (at + 3 + i.length)
+  counted_turn g i t p =
       record {
-        inside = word_within words at len i.word;
+        inside = word_within words at i.length t.word;
         few = let f = h.few in omega arith;
-        cost = counted_cost len g r i p;
+        cost = counted_cost g i t p;
         all =
             h.all
-            ∙ ap (resume n size) (judge_word words at len i.word)
-            ∙ resume_turn n size (take len (drop 3 (drop at words))) (judge_words (listed (drop (at + 3 + len) words)))
-            ∙ rw (p, i.shows);
+            ∙ ap (resume n size) (judge_word words at i.length t.word)
+            ∙ resume_turn n size (take i.length (drop 3 (drop at words))) (judge_words (listed (drop (at + 3 + i.length) words)))
+            ∙ rw (p, t.shows);
       }
 
-  pub counted_bad : at < length words → item_first (drop at words) ≡ NoWord → line_size_of words ≡ Bad n
+  pub counted_bad : at < length words → item_first (drop at words) ≡ None → line_size_of words ≡ Err n
   counted_bad k e =
       let some : 0 < length (drop at words) = rw (length-drop at words) (omega arith) in
-      h.all ∙ ap (resume n size) (judge_bad (drop at words) some e) ∙ ap Bad (omega arith)
+      h.all ∙ ap (resume n size) (judge_bad (drop at words) some e) ∙ ap Err (omega arith)
 
-  pub counted_end : length words ≤ at → line_size_of words ≡ Needs size
+  pub counted_end : length words ≤ at → line_size_of words ≡ Ok size
   unfolding joined_from
-  counted_end k = h.all ∙ ap (resume n size) (listed_end words at k) ∙ ap Needs (omega arith)
+  counted_end k = h.all ∙ ap (resume n size) (listed_end words at k) ∙ ap Ok (omega arith)
 
 -- what is still to be written after n words
 abbrev pub rest_line : ℕ → Judged → List ℕ
@@ -149,7 +149,7 @@ module _ (words : List ℕ) (n at : ℕ) (f : IsFine (judge_words (listed (drop 
       ap (rest_line n) (word_judged words at len t)
       ∙ rest_more n (take (at + 3 + len - (at + 3)) (drop (at + 3) words)) (judge_words (listed (drop (at + 3 + len) words))) (fine_turn len t)
 
-  pub rest_bad : at < length words → item_first (drop at words) ≡ NoWord → ⊥
+  pub rest_bad : at < length words → item_first (drop at words) ≡ None → ⊥
   rest_bad k e =
       let some : 0 < length (drop at words) = rw (length-drop at words) (omega arith) in
       rw (judge_bad (drop at words) some e) at f
@@ -162,7 +162,7 @@ rest_end words n at k = ap (rest_line n) (listed_end words at k)
 pub fine_word : (s : List ℕ) (kind n : ℕ) → IsFine (judge_words (listed s)) → frame_first s ≡ Frame kind n → WordTold s n
 fine_word s kind n f e = by (eqb kind 0x14) (good_word (take n (drop 3 s))) refl refl
   where
-    none : item_first s ≡ NoWord → WordTold s n
+    none : item_first s ≡ None → WordTold s n
     none b = absurd (rw (judge_bad s (let r = frame_within s kind n e in omega arith) b) at f)
 
     by : (t u : Bool) → eqb kind 0x14 ≡ t → good_word (take n (drop 3 s)) ≡ u → WordTold s n

@@ -1,7 +1,6 @@
 -- The way back: splitting the line of words that quoting accepts gives those words, and writes the very frames that were given.
 use Rattle.quote.specs.Shown.{quoting, special, plain, escaped_code, escaped, shown_codes, shown}
 use Rattle.words.specs.Answer.{Tokenized, written}
-use Rattle.words.specs.declared.tokenizer.Tokens.TheVariants.{Words}
 use Rattle.words.proofs.Answers.{all_words}
 use Rattle.text.proofs.Prefix.{whole_is, codes_are, codes_scalars, codes_whole, encode_append, is_whole}
 use Rattle.buffer.specs.Write.{over}
@@ -30,7 +29,7 @@ use Rattle.quote.specs.Joined.{gap_before, joined_from, joined}
 use Rattle.quote.specs.Answer.{quote_line}
 use Rattle.quote.specs.Inner.{item_first}
 use Rattle.quote.specs.declared.given.Item.{Item}
-use Rattle.quote.specs.declared.given.Item.TheVariants.{Word, Bad}
+use Rattle.std.specs.Prelude.{Option, Some, None, Ok}
 use Rattle.quote.proofs.Listing.{good_some, good_formed, item_told, judge_first, judge_bad}
 
 tokens_step : (w : List ℕ) (quotes after : Bool) (code : ℕ) (codes : List ℕ) (t : Role) → role_of quotes after code ≡ t
@@ -297,11 +296,12 @@ frames_within zero s ws h b e = absurd (omega arith)
 frames_within (suc k) [] ws h b e = rw (sym (nothing_fine ws e)) nothing_framed
 frames_within (suc k) (a ∷ s) ws h b e = by (item_first (a ∷ s)) refl (λ t vs l c r. frames_within k t vs l c r)
   where
-    by : (i : Item) → item_first (a ∷ s) ≡ i → ((t : List ℕ) (vs : List (List ℕ)) → length t < k → Bytes t → judge_words (listed t) ≡ fine vs → word_frames vs ≡ t)
+    by : (i : Option Item) → item_first (a ∷ s) ≡ i → ((t : List ℕ) (vs : List (List ℕ)) → length t < k → Bytes t → judge_words (listed t) ≡ fine vs → word_frames vs ≡ t)
         → word_frames ws ≡ a ∷ s
-    by Bad q again = absurd (not_fine 0 ws (sym (judge_bad (a ∷ s) (omega arith) q) ∙ e))
-    by (Word n size) q again =
-        let t = (item_told (a ∷ s) n size q).word in
+    by None q again = absurd (not_fine 0 ws (sym (judge_bad (a ∷ s) (omega arith) q) ∙ e))
+    by (Some i) q again =
+        let n : ℕ = i.length in
+        let t = (item_told (a ∷ s) i q).word in
         let fits = frame_within (a ∷ s) 0x14 n t.head in
         let size = length-drop (3 + n) (a ∷ s) in
         let rest : List ℕ = drop (3 + n) (a ∷ s) in
@@ -317,7 +317,7 @@ written_back words ws b e = ap word_frames (given_back words ws e) ∙ frames_ba
 
 -- The two calls together: where `quote` writes a line, `tokenize` of that line writes the frames that `quote` was given.
 pub call_back : (words out : List ℕ) (ws : List (List ℕ)) → Bytes words → judge_words (listed words) ≡ fine ws → length (quote_line ws) ≤ 1024 → length words ≤ length out
-    → Tokenized (quote_line ws) out (Words (length words)) (over words out)
+    → Tokenized (quote_line ws) out (Ok (length words)) (over words out)
 call_back words out ws b e h k =
     let line : List ℕ = quote_line ws in
     let back : written line ≡ words = written_back words ws b e in

@@ -25,7 +25,7 @@ use Rattle.quote.specs.Inner.{item_of, item_first, plain_word}
 use Rattle.text.proofs.Prefix.{prefix_fits}
 use Rattle.quote.proofs.Showing.{plain_formed, shown_plain}
 use Rattle.quote.specs.declared.given.Item.{Item}
-use Rattle.quote.specs.declared.given.Item.TheVariants.{Word, Bad}
+use Rattle.std.specs.Prelude.{Option, Some, None}
 
 -- what a good word is
 pub good_some : (w : List ℕ) → good_word w ≡ true → 0 < length w
@@ -53,17 +53,17 @@ unfolding good_word well_formed
 good_is w some h = else_is _ _ _ (ne_eqb (length w) 0 some) ∙ eq-eqb _ _ h
 
 -- what a word is
-pub item_empty : (n : ℕ) (w : List ℕ) → length w ≡ 0 → item_of n w ≡ Bad
+pub item_empty : (n : ℕ) (w : List ℕ) → length w ≡ 0 → item_of n w ≡ None
 unfolding good_word
 item_empty n w h = else_is _ _ _ (then_is _ _ _ (eq-eqb (length w) 0 h))
 
-pub item_good : (n r : ℕ) (w : List ℕ) → (length w ≡ 0 → ⊥) → well_formed_length w ≡ length w → r ≡ length (shown w) → item_of n w ≡ Word n r
-item_good n r w some h e = then_is _ _ _ (good_is w some h) ∙ ap (λ (k : ℕ). Word n k) (sym e)
+pub item_good : (n r : ℕ) (w : List ℕ) → (length w ≡ 0 → ⊥) → well_formed_length w ≡ length w → r ≡ length (shown w) → item_of n w ≡ Some (record { length = n; size = r })
+item_good n r w some h e = rw e (then_is _ _ _ (good_is w some h))
 
-pub item_plain : (w : List ℕ) → (length w ≡ 0 → ⊥) → plain_word w ≡ true → item_of (length w) w ≡ Word (length w) (length w)
+pub item_plain : (w : List ℕ) → (length w ≡ 0 → ⊥) → plain_word w ≡ true → item_of (length w) w ≡ Some (record { length = length w; size = length w })
 item_plain w some e = item_good (length w) (length w) w some (plain_formed w e) (sym (ap length (shown_plain w e)))
 
-pub item_broken : (n r : ℕ) (w : List ℕ) → (length w ≡ 0 → ⊥) → r ≡ well_formed_length w → r < length w → item_of n w ≡ Bad
+pub item_broken : (n r : ℕ) (w : List ℕ) → (length w ≡ 0 → ⊥) → r ≡ well_formed_length w → r < length w → item_of n w ≡ None
 unfolding good_word well_formed
 item_broken n r w some e h = else_is _ _ _ (else_is _ _ _ (ne_eqb (length w) 0 some) ∙ ne_eqb (well_formed_length w) (length w) (λ q. omega arith))
 
@@ -71,16 +71,16 @@ pub reaches_end : (w : List ℕ) (r : ℕ) → r ≡ well_formed_length w → le
 reaches_end w r e h = let f = prefix_fits w in omega arith
 
 -- the word at a place, by what is read there
-abbrev item_by : List ℕ → Framed → Item
-item_by s d = on_frame d (λ kind n. cond (eqb kind 0x14) (item_of n (take n (drop 3 s))) Bad) Bad
+abbrev item_by : List ℕ → Framed → Option Item
+item_by s d = on_frame d (λ kind n. cond (eqb kind 0x14) (item_of n (take n (drop 3 s))) None) None
 
-pub item_none : (s : List ℕ) (d : Framed) → frame_first s ≡ d → OneOf (1 ∷ 2 ∷ []) (tag_of the_type d) → item_first s ≡ Bad
+pub item_none : (s : List ℕ) (d : Framed) → frame_first s ≡ d → OneOf (1 ∷ 2 ∷ []) (tag_of the_type d) → item_first s ≡ None
 unfolding item_first
 item_none s (Frame kind n) e k = absurd (miss (1 ∷ 2 ∷ []) 0 tt k)
 item_none s Broken e k = ap (item_by s) e
 item_none s End e k = ap (item_by s) e
 
-pub item_other : (s : List ℕ) (kind n : ℕ) → frame_first s ≡ Frame kind n → (kind ≡ 0x14 → ⊥) → item_first s ≡ Bad
+pub item_other : (s : List ℕ) (kind n : ℕ) → frame_first s ≡ Frame kind n → (kind ≡ 0x14 → ⊥) → item_first s ≡ None
 unfolding item_first
 item_other s kind n e h = ap (item_by s) e ∙ else_is _ _ _ (ne_eqb kind 0x14 h)
 
@@ -103,7 +103,7 @@ part_is words at n =
 pub part_length : (words : List ℕ) (at n : ℕ) → at + 3 + n ≤ length words → length (take (at + 3 + n - (at + 3)) (drop (at + 3) words)) ≡ n
 part_length words at n h = rw (length-take, length-drop) (omega arith)
 
-pub item_judged : (words : List ℕ) (at kind n : ℕ) (r : Item) → frame_first (drop at words) ≡ Frame kind n → kind ≡ 0x14
+pub item_judged : (words : List ℕ) (at kind n : ℕ) (r : Option Item) → frame_first (drop at words) ≡ Frame kind n → kind ≡ 0x14
     → r ≡ item_of (length (take (at + 3 + n - (at + 3)) (drop (at + 3) words))) (take (at + 3 + n - (at + 3)) (drop (at + 3) words)) → r ≡ item_first (drop at words)
 item_judged words at kind n r e h q =
     q
@@ -116,35 +116,35 @@ pub record WordTold (s : List ℕ) (n : ℕ) : Type 0 where
   pub head : frame_first s ≡ Frame 0x14 n
   pub good : good_word (take n (drop 3 s)) ≡ true
 
-pub record ItemTold (s : List ℕ) (n size : ℕ) : Type 0 where
-  pub word : WordTold s n
-  pub shows : size ≡ length (shown (take n (drop 3 s)))
+pub record ItemTold (s : List ℕ) (i : Item) : Type 0 where
+  pub word : WordTold s i.length
+  pub shows : i.size ≡ length (shown (take i.length (drop 3 s)))
 
-no_word : (n size : ℕ) → Bad ≡ Word n size → ⊥
-no_word n size e = let z : ◌≡◌ {A = ℕ} 0 1 = cc in omega arith
+no_word : (i : Item) → None ≡ Some i → ⊥
+no_word i e = let z : ◌≡◌ {A = ℕ} 0 1 = cc in omega arith
 
-item_kind : (s : List ℕ) (n size kind m : ℕ) (t g : Bool) → eqb kind 0x14 ≡ t → good_word (take m (drop 3 s)) ≡ g → frame_first s ≡ Frame kind m
-    → cond t (cond g (Word m (length (shown (take m (drop 3 s))))) Bad) Bad ≡ Word n size → ItemTold s n size
-item_kind s n size kind m true true e g q r =
-    let long : m ≡ n = cc in
-    let wide : length (shown (take m (drop 3 s))) ≡ size = cc in
+item_kind : (s : List ℕ) (i : Item) (kind m : ℕ) (t g : Bool) → eqb kind 0x14 ≡ t → good_word (take m (drop 3 s)) ≡ g → frame_first s ≡ Frame kind m
+    → cond t (cond g (Some (record { length = m; size = length (shown (take m (drop 3 s))) })) None) None ≡ Some i → ItemTold s i
+item_kind s i kind m true true e g q r =
+    let long : m ≡ i.length = cc in
+    let wide : length (shown (take m (drop 3 s))) ≡ i.size = cc in
     let is = eqb-true kind 0x14 e in
     record {
       word =
           record { head = q ∙ ap (λ (k : ℕ). Frame k m) is ∙ ap (λ (k : ℕ). Frame 0x14 k) long; good = ap (λ (k : ℕ). good_word (take k (drop 3 s))) (sym long) ∙ g };
       shows = sym wide ∙ ap (λ (k : ℕ). length (shown (take k (drop 3 s)))) long;
     }
-item_kind s n size kind m true false e g q r = absurd (no_word n size r)
-item_kind s n size kind m false g e h q r = absurd (no_word n size r)
+item_kind s i kind m true false e g q r = absurd (no_word i r)
+item_kind s i kind m false g e h q r = absurd (no_word i r)
 
-pub item_told : (s : List ℕ) (n size : ℕ) → item_first s ≡ Word n size → ItemTold s n size
+pub item_told : (s : List ℕ) (i : Item) → item_first s ≡ Some i → ItemTold s i
 unfolding item_first
-item_told s n size e = by (frame_first s) refl e
+item_told s i e = by (frame_first s) refl e
   where
-    by : (d : Framed) → frame_first s ≡ d → item_by s d ≡ Word n size → ItemTold s n size
-    by (Frame kind m) q r = item_kind s n size kind m (eqb kind 0x14) (good_word (take m (drop 3 s))) refl refl q r
-    by Broken q r = absurd (no_word n size r)
-    by End q r = absurd (no_word n size r)
+    by : (d : Framed) → frame_first s ≡ d → item_by s d ≡ Some i → ItemTold s i
+    by (Frame kind m) q r = item_kind s i kind m (eqb kind 0x14) (good_word (take m (drop 3 s))) refl refl q r
+    by Broken q r = absurd (no_word i r)
+    by End q r = absurd (no_word i r)
 
 -- the list of the words at a place
 pub listed_skip : (s : List ℕ) (j : ℕ) → listed_from s j ≡ listed (drop j s)
@@ -182,22 +182,22 @@ judge_word words at n t =
     judge_first (drop at words) n t
     ∙ ap (λ (l : List ℕ). word_before w (judge_words (listed l))) (drop-drop (3 + n) at words ∙ ap (λ (k : ℕ). drop k words) place)
 
-word_or_bad : (n size : ℕ) → Word n size ≡ Bad → ⊥
-word_or_bad n size e = let z : ◌≡◌ {A = ℕ} 0 1 = cc in omega arith
+word_or_bad : (i : Item) → Some i ≡ None → ⊥
+word_or_bad i e = let z : ◌≡◌ {A = ℕ} 0 1 = cc in omega arith
 
 bad_kind : (a : ℕ) (s : List ℕ) (kind m : ℕ) (t g : Bool) → eqb kind 0x14 ≡ t → good_word (take m (drop 3 (a ∷ s))) ≡ g
-    → cond t (cond g (Word m (length (shown (take m (drop 3 (a ∷ s)))))) Bad) Bad ≡ Bad → judge_words (cond t (word (take m (drop 3 (a ∷ s))) (listed_from s (2 + m))) broken) ≡ bad 0
+    → cond {A = Option Item} t (cond g (Some (record { length = m; size = length (shown (take m (drop 3 (a ∷ s)))) })) None) None ≡ None → judge_words (cond t (word (take m (drop 3 (a ∷ s))) (listed_from s (2 + m))) broken) ≡ bad 0
 unfolding judge_words
-bad_kind a s kind m true true e g r = absurd (word_or_bad m _ r)
+bad_kind a s kind m true true e g r = absurd (word_or_bad _ r)
 bad_kind a s kind m true false e g r = else_is _ _ _ g
 bad_kind a s kind m false g e h r = refl
 
-pub judge_bad : (s : List ℕ) → 0 < length s → item_first s ≡ Bad → judge_words (listed s) ≡ bad 0
+pub judge_bad : (s : List ℕ) → 0 < length s → item_first s ≡ None → judge_words (listed s) ≡ bad 0
 unfolding listed_from listed item_first judge_words
 judge_bad [] h e = absurd (omega arith)
 judge_bad (a ∷ s) h e = by (frame_first (a ∷ s)) e
   where
-    by : (d : Framed) → item_by (a ∷ s) d ≡ Bad → judge_words (listed_by a s d) ≡ bad 0
+    by : (d : Framed) → item_by (a ∷ s) d ≡ None → judge_words (listed_by a s d) ≡ bad 0
     by (Frame kind m) r = bad_kind a s kind m (eqb kind 0x14) (good_word (take m (drop 3 (a ∷ s)))) refl refl r
     by Broken r = refl
     by End r = refl

@@ -4,6 +4,7 @@ use borrow.Author.Tests.{eq-eqb, ne_eqb, eqb-true, eqb-false}
 use lib.Dec.{eqb}
 use types.Run.{OneOf, hit, miss}
 use denote.Enum.Declared.{tag_of}
+use Rattle.std.specs.Prelude.{Some, None}
 use Rattle.text.specs.contracts.utf8.Decoded.{the_type}
 use Rattle.words.specs.Ordinary.{ordinary_first}
 use Rattle.words.proofs.Runs.{ordinary_told}
@@ -74,33 +75,36 @@ record Quiet (s : List ℕ) (n : ℕ) : Type 0 where
   decodes : decode_first s ≡ Character code n
   quiet : quoting code ≡ false
 
-quiet_told : (s : List ℕ) (n : ℕ) → n ≡ quiet_first s → (n ≡ 0 → ⊥) → Quiet s n
+some_not_none : (n : ℕ) → Some n ≡ None → ⊥
+some_not_none n e = let z : ◌≡◌ {A = ℕ} 0 1 = cc in omega arith
+
+quiet_told : (s : List ℕ) (n : ℕ) → Some n ≡ quiet_first s → Quiet s n
 unfolding quiet_first
-quiet_told s n e some = by (decode_first s) refl e
+quiet_told s n e = by (decode_first s) refl e
   where
-    told : (code m : ℕ) (t : Bool) → decode_first s ≡ Character code m → quoting code ≡ t → n ≡ cond t 0 m → Quiet s n
-    told code m true p q r = absurd (some r)
-    told code m false p q r = record { code = code; decodes = p ∙ ap (λ (k : ℕ). Character code k) (sym r); quiet = q }
+    told : (code m : ℕ) (t : Bool) → decode_first s ≡ Character code m → quoting code ≡ t → Some n ≡ cond t None (Some m) → Quiet s n
+    told code m true p q r = absurd (some_not_none n r)
+    told code m false p q r = let same : m ≡ n = cc in record { code = code; decodes = p ∙ ap (λ (k : ℕ). Character code k) same; quiet = q }
 
-    by : (d : Decoded) → decode_first s ≡ d → n ≡ quiet_of d → Quiet s n
+    by : (d : Decoded) → decode_first s ≡ d → Some n ≡ quiet_of d → Quiet s n
     by (Character code m) p q = told code m (quoting code) p refl q
-    by IllFormed p q = absurd (some q)
-    by End p q = absurd (some q)
+    by IllFormed p q = absurd (some_not_none n q)
+    by End p q = absurd (some_not_none n q)
 
-pub quiet_is : (s : List ℕ) (code n : ℕ) (t : Bool) → decode_first s ≡ Character code n → quoting code ≡ t → quiet_first s ≡ cond t 0 n
+pub quiet_is : (s : List ℕ) (code n : ℕ) (t : Bool) → decode_first s ≡ Character code n → quoting code ≡ t → quiet_first s ≡ cond t None (Some n)
 unfolding quiet_first
-quiet_is s code n t d e = ap quiet_of d ∙ ap (λ (x : Bool). cond x 0 n) e
+quiet_is s code n t d e = ap quiet_of d ∙ ap (λ (x : Bool). cond x None (Some n)) e
 
-pub quiet_stop : (s : List ℕ) (d : Decoded) → decode_first s ≡ d → OneOf (1 ∷ 2 ∷ []) (tag_of the_type d) → quiet_first s ≡ 0
+pub quiet_stop : (s : List ℕ) (d : Decoded) → decode_first s ≡ d → OneOf (1 ∷ 2 ∷ []) (tag_of the_type d) → quiet_first s ≡ None
 unfolding quiet_first
 quiet_stop s (Character code n) e k = absurd (miss (1 ∷ 2 ∷ []) 0 tt k)
 quiet_stop s IllFormed e k = ap quiet_of e
 quiet_stop s End e k = ap quiet_of e
 
-pub quiet_ordinary : (s : List ℕ) (at n : ℕ) → n ≡ ordinary_first (drop at s) → (n ≡ 0 → ⊥) → n ≡ quiet_first (drop at s)
+pub quiet_ordinary : (s : List ℕ) (at n : ℕ) → Some n ≡ ordinary_first (drop at s) → Some n ≡ quiet_first (drop at s)
 unfolding quoting special
-quiet_ordinary s at n e some =
-    let o = ordinary_told s at n e some in
+quiet_ordinary s at n e =
+    let o = ordinary_told s at n e in
     sym (quiet_is (drop at s) o.code n false o.decodes (else_is _ _ _ (else_is _ _ _ o.no_quote ∙ o.no_escape) ∙ o.solid))
 
 -- a well-formed word that is plain
@@ -124,13 +128,16 @@ both_more n a b c d p q = by (eqb a b) refl
     by true e = let k = eqb-true a b e in eq-eqb c d (omega arith)
     by false e = let k = eqb-false a b e in ne_eqb c d (λ z. k (omega arith))
 
-pub quiet_fits : (w : List ℕ) (at n : ℕ) → n ≡ quiet_first (drop at w) → (n ≡ 0 → ⊥) → at + n ≤ length w
-quiet_fits w at n e some = let q = quiet_told (drop at w) n e some in character_fits w at q.code n q.decodes
+pub quiet_fits : (w : List ℕ) (at n : ℕ) → Some n ≡ quiet_first (drop at w) → at + n ≤ length w
+quiet_fits w at n e = let q = quiet_told (drop at w) n e in character_fits w at q.code n q.decodes
 
-pub plain_turn : (w : List ℕ) (at n : ℕ) → n ≡ quiet_first (drop at w) → (n ≡ 0 → ⊥) → plain_word (drop (at + n) w) ≡ plain_word (drop at w)
+pub quiet_some : (s : List ℕ) (n : ℕ) → Some n ≡ quiet_first s → 0 < n
+quiet_some s n e = let q = quiet_told s n e in character_some s q.code n q.decodes
+
+pub plain_turn : (w : List ℕ) (at n : ℕ) → Some n ≡ quiet_first (drop at w) → plain_word (drop (at + n) w) ≡ plain_word (drop at w)
 unfolding plain_word plain well_formed
-plain_turn w at n e some =
-    let q = quiet_told (drop at w) n e some in
+plain_turn w at n e =
+    let q = quiet_told (drop at w) n e in
     let fits = character_fits w at q.code n q.decodes in
     let here = length-drop at w in
     let there = length-drop (at + n) w in
@@ -151,21 +158,21 @@ plain_quoting : (s : List ℕ) (code n : ℕ) → decode_first s ≡ Character c
 unfolding plain_word plain well_formed
 plain_quoting s code n d e = no_more (well_formed s) (plain (codes_in s)) (ap plain (codes_step s code n d) ∙ then_is _ _ _ e)
 
-stopped : (s : List ℕ) (n : ℕ) → 0 < length s → n ≡ quiet_first s → n ≡ 0 → plain_word s ≡ false
+stopped : (s : List ℕ) → 0 < length s → None ≡ quiet_first s → plain_word s ≡ false
 unfolding quiet_first
-stopped s n h e z = by (decode_first s) refl (sym e ∙ z)
+stopped s h e = by (decode_first s) refl (sym e)
   where
-    told : (code m : ℕ) (t : Bool) → decode_first s ≡ Character code m → quoting code ≡ t → cond t 0 m ≡ 0 → plain_word s ≡ false
+    told : (code m : ℕ) (t : Bool) → decode_first s ≡ Character code m → quoting code ≡ t → cond t None (Some m) ≡ None → plain_word s ≡ false
     told code m true p q r = plain_quoting s code m p q
-    told code m false p q r = absurd (let k = character_some s code m p in omega arith)
+    told code m false p q r = absurd (some_not_none m r)
 
-    by : (d : Decoded) → decode_first s ≡ d → quiet_of d ≡ 0 → plain_word s ≡ false
+    by : (d : Decoded) → decode_first s ≡ d → quiet_of d ≡ None → plain_word s ≡ false
     by (Character code m) p q = told code m (quoting code) p refl q
     by IllFormed p q = plain_broken s h (codes_stop s IllFormed p (hit (1 ∷ 2 ∷ []) 1 tt))
     by End p q = plain_broken s h (codes_stop s End p (hit (1 ∷ 2 ∷ []) 2 tt))
 
-pub plain_stop : (w : List ℕ) (at n : ℕ) → at < length w → n ≡ quiet_first (drop at w) → n ≡ 0 → plain_word (drop at w) ≡ false
-plain_stop w at n h e z = stopped (drop at w) n (rw (length-drop at w) (omega arith)) e z
+pub plain_stop : (w : List ℕ) (at : ℕ) → at < length w → None ≡ quiet_first (drop at w) → plain_word (drop at w) ≡ false
+plain_stop w at h e = stopped (drop at w) (rw (length-drop at w) (omega arith)) e
 
 plain_nothing : (s : List ℕ) → codes_in s ≡ [] → length s ≡ 0 → plain_word s ≡ true
 unfolding plain_word plain well_formed

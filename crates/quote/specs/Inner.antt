@@ -1,5 +1,5 @@
 -- What only contracts of inner functions cite: the next good word, a quiet character, a character's bytes, and what measuring finds.
-use Rattle.std.specs.Prelude.{ℕ, suc, Bool, false, cond, List, [], ◌∷◌, eqb, length, take, drop}
+use Rattle.std.specs.Prelude.{ℕ, suc, Bool, false, cond, List, [], ◌∷◌, eqb, length, take, drop, Option, Some, None, Result, Ok, Err}
 use Rattle.frame.specs.Framed.{frame_first}
 use Rattle.words.specs.Tokens.{backslash}
 use Rattle.frame.specs.Series.{on_frame}
@@ -9,23 +9,20 @@ use Rattle.text.specs.declared.utf8.Decoded.{Decoded}
 use Rattle.quote.specs.Shown.{special, quoting, plain, shown}
 use Rattle.quote.specs.Answer.{quote_line}
 use Rattle.quote.specs.declared.given.Item.{Item}
-use Rattle.quote.specs.declared.given.Item.TheVariants.{Word, Bad as NoWord}
-use Rattle.quote.specs.declared.quoter.LineSize.{LineSize}
-use Rattle.quote.specs.declared.quoter.LineSize.TheVariants.{Needs, Bad}
 
 -- a word of n bytes: a good one with its length when it is shown
-abbrev pub item_of : ℕ → List ℕ → Item
-item_of n w = cond (good_word w) (Word n (length (shown w))) NoWord
+abbrev pub item_of : ℕ → List ℕ → Option Item
+item_of n w = cond (good_word w) (Some (record { length = n; size = length (shown w) })) None
 
 -- the good word that bytes begin with
-unfoldable pub item_first : List ℕ → Item
-item_first s = on_frame (frame_first s) (λ kind n. cond (eqb kind 0x14) (item_of n (take n (drop 3 s))) NoWord) NoWord
+unfoldable pub item_first : List ℕ → Option Item
+item_first s = on_frame (frame_first s) (λ kind n. cond (eqb kind 0x14) (item_of n (take n (drop 3 s))) None) None
 
--- the length of a character that calls for no quotes, 0 for anything else
-abbrev pub quiet_of : Decoded → ℕ
-quiet_of d = on_decoded d (λ code n. cond (quoting code) 0 n) 0
+-- the length of a character that calls for no quotes
+abbrev pub quiet_of : Decoded → Option ℕ
+quiet_of d = on_decoded d (λ code n. cond (quoting code) None (Some n)) None
 
-unfoldable pub quiet_first : List ℕ → ℕ
+unfoldable pub quiet_first : List ℕ → Option ℕ
 quiet_first s = quiet_of (decode_first s)
 
 -- a well-formed word that is plain
@@ -42,8 +39,8 @@ abbrev pub escaped_bytes : Bool → List ℕ → List ℕ
 escaped_bytes is bytes = cond is (backslash ∷ bytes) bytes
 
 -- what measuring finds: the length of the line, or the number of the first bad word
-unfoldable pub line_size_of : List ℕ → LineSize
-line_size_of words = on_judged (judge_words (listed words)) (λ n. Bad n) (λ ws. Needs (length (quote_line ws)))
+unfoldable pub line_size_of : List ℕ → Result ℕ ℕ
+line_size_of words = on_judged (judge_words (listed words)) (λ n. Err n) (λ ws. Ok (length (quote_line ws)))
 
 -- all words are good
 abbrev pub IsFine : Judged → Type 0

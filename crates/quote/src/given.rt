@@ -6,48 +6,47 @@ use super::word::{is_plain, quoted_size};
 use frame::{Framed, read_frame};
 use text::well_formed_prefix;
 
-// What stands at a place: a good word of that many bytes, after the three bytes of its frame's head, which takes `size` bytes
-// when it is shown; or none.
+// A good word of that many bytes, after the three bytes of its frame's head, which takes `size` bytes when it is shown.
 #[derive(Clone, Copy)]
-pub enum Item {
-    Word { length: usize, size: usize },
-    Bad,
+pub struct Item {
+    pub length: usize,
+    pub size: usize,
 }
 
 // What a word is: good if it has some bytes and is well-formed. The pass that finds a word plain, as most are, finds it
 // well-formed too.
-fn item_of(word: &[u8]) -> Item
+fn item_of(word: &[u8]) -> Option<Item>
     requires { 3 + length word.now ≤ 0x8000000000000000 }
     ensures { result ≡ item_of (length word.now) word.now }
 {
     let length = word.len();
     if length == 0 {
-        return Item::Bad;
+        return None;
     }
     if is_plain(word) {
-        return Item::Word {
+        return Some(Item {
             length,
             size: length,
-        };
+        });
     }
     if well_formed_prefix(word) < length {
-        return Item::Bad;
+        return None;
     }
-    Item::Word {
+    Some(Item {
         length,
         size: quoted_size(word),
-    }
+    })
 }
 
-// The good word at the place `at`.
-pub fn word_at(words: &[u8], at: usize) -> Item
+// The good word at the place `at`, if one stands there.
+pub fn word_at(words: &[u8], at: usize) -> Option<Item>
     ensures { result ≡ item_first (drop at words.now) }
 {
     let Framed::Frame { kind, length } = read_frame(words, at) else {
-        return Item::Bad;
+        return None;
     };
     if kind != 0x14 {
-        return Item::Bad;
+        return None;
     }
     let start = at + 3;
     let end = start + length;

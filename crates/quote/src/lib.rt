@@ -5,4 +5,4 @@ mod given;
 mod quoter;
 mod word;
 
-pub use quoter::{Quoted, quote};
+pub use quoter::{QuoteRefusal, quote};

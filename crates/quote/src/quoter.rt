@@ -8,16 +8,14 @@ ghost use Rattle.quote.specs.Joined.{gap_before};
 ghost use Rattle.quote.specs.Answer.{line_of, Quotation};
 ghost use Rattle.quote.specs.Inner.{line_size_of, IsFine};
 
-use super::given::{Item, word_at};
+use super::given::word_at;
 use super::word::push_shown;
 use buffer::push_byte;
 use frame::{Framed, LINE_LIMIT, read_frame, told_length};
 
-// What quoting words answers.
+// Why words are not quoted.
 #[derive(Clone, Copy)]
-pub enum Quoted {
-    // Their line, so many bytes.
-    Line(usize),
+pub enum QuoteRefusal {
     // A word is empty, ill-formed or broken: its number, from 0.
     BadWord(usize),
     // The line has over 1,024 bytes: its length, 65,535 if more.
@@ -26,39 +24,27 @@ pub enum Quoted {
     NoRoom(usize),
 }
 
-// What measuring words finds: the length of their line, or the number of the first bad word.
-#[derive(Clone, Copy)]
-enum LineSize {
-    Needs(usize),
-    Bad(usize),
-}
-
 // How many bytes stand before a word that n words precede.
 fn gap_size(n: usize) -> usize
     ensures { result ≡ length (gap_before n) }
 {
-    if n == 0 { 0 } else { 1 }
+    usize::from(n != 0)
 }
 
-fn measure(words: &[u8]) -> LineSize
+// The length of the words' line, or `Err` with the number of the first bad word.
+fn measure(words: &[u8]) -> Result<usize, usize>
     ensures { result ≡ line_size_of words.now }
 {
     let mut size = 0;
     let mut n = 0;
     let mut at = 0;
     while at < words.len() {
-        let Item::Word {
-            length,
-            size: shown,
-        } = word_at(words, at)
-        else {
-            return LineSize::Bad(n);
-        };
-        size = size + gap_size(n) + shown;
+        let word = word_at(words, at).ok_or(n)?;
+        size = size + gap_size(n) + word.size;
         n += 1;
-        at = at + 3 + length;
+        at = at + 3 + word.length;
     }
-    LineSize::Needs(size)
+    Ok(size)
 }
 
 // Writes a word that n words precede at the place `at` and returns the place after.
@@ -84,7 +70,7 @@ fn write(words: &[u8], out: &mut [u8])
     let mut n = 0;
     let mut at = 0;
     while at < words.len() {
-        let Framed::Frame { kind: _, length } = read_frame(words, at) else {
+        let Framed::Frame { length, .. } = read_frame(words, at) else {
             return;
         };
         let start = at + 3;
@@ -96,20 +82,20 @@ fn write(words: &[u8], out: &mut [u8])
 }
 
 // The line of the words that are given as frames of kind 14, at the front of out.
-pub fn quote(words: &[u8], out: &mut [u8]) -> Quoted
+pub fn quote(words: &[u8], out: &mut [u8]) -> Result<usize, QuoteRefusal>
     ensures { Quotation words.now out.old result out.new }
 {
     match measure(words) {
-        LineSize::Bad(number) => Quoted::BadWord(number),
-        LineSize::Needs(needed) => {
+        Err(number) => Err(QuoteRefusal::BadWord(number)),
+        Ok(needed) => {
             if LINE_LIMIT < needed {
-                return Quoted::LineTooLong(told_length(needed));
+                return Err(QuoteRefusal::LineTooLong(told_length(needed)));
             }
             if out.len() < needed {
-                return Quoted::NoRoom(needed);
+                return Err(QuoteRefusal::NoRoom(needed));
             }
             write(words, out);
-            Quoted::Line(needed)
+            Ok(needed)
         }
     }
 }

@@ -11,41 +11,36 @@ use text::{Decoded, decode, is_white_space};
 use words::ordinary_at;
 
 // Whether a character is `"` or `\`.
+#[tactic(auto, unfolding(crate::specs::Shown::special))]
 fn is_special(code: u32) -> bool
     ensures { result ≡ special code }
 {
-    if code == 0x22 {
-        return true;
-    }
-    code == 0x5C
+    matches!(code, 0x22 | 0x5C)
 }
 
 // Whether a character is white space, `"` or `\`.
+#[tactic(auto, unfolding(crate::specs::Shown::quoting))]
 fn calls_for_quotes(code: u32) -> bool
     ensures { result ≡ quoting code }
 {
-    if is_special(code) {
-        return true;
-    }
-    is_white_space(code)
+    is_special(code) || is_white_space(code)
 }
 
-// The length of the character at a place if it calls for no quotes; 0 if it does, or if there is none.
-fn quiet_at(word: &[u8], at: usize) -> usize
+// The length of the character at a place, if there is one that calls for no quotes.
+fn quiet_at(word: &[u8], at: usize) -> Option<usize>
     ensures { result ≡ quiet_first (drop at word.now) }
 {
     // Most characters are ordinary ones, and need no decoder.
-    let n = ordinary_at(word, at);
-    if n != 0 {
-        return n;
+    if let Some(n) = ordinary_at(word, at) {
+        return Some(n);
     }
     let Decoded::Character { code, length } = decode(word, at) else {
-        return 0;
+        return None;
     };
     if calls_for_quotes(code) {
-        return 0;
+        return None;
     }
-    length
+    Some(length)
 }
 
 // Whether a word is well-formed and no character of it is white space, `"` or `\`.
@@ -54,10 +49,9 @@ pub fn is_plain(word: &[u8]) -> bool
 {
     let mut at = 0;
     while at < word.len() {
-        let n = quiet_at(word, at);
-        if n == 0 {
+        let Some(n) = quiet_at(word, at) else {
             return false;
-        }
+        };
         at += n;
     }
     true

@@ -44,8 +44,8 @@ pub fn next<'a>(r: Reader<'a>) -> Reader<'a>
     ensures { (result.image ≡ r.entry.image) × (result.at ≡ next_place r.entry.image.now r.entry.at) }
 {
     Reader {
-        image: r.image,
         at: next_at(r.image, r.at),
+        ..r
     }
 }
 

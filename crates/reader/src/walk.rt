@@ -5,24 +5,14 @@ ghost use Rattle.reader.specs.Places.{size_first, next_place};
 
 use image::{Head, head_at};
 
-// How many bytes a frame takes, 0 where there is none.
+// How many bytes a frame takes, 0 where there is none: so much is passed, as the definition `next_place` says.
 fn size_of(head: Head) -> usize
     ensures { result ≡ size_first head }
 {
     match head {
-        Head::Node {
-            depth: _,
-            handler: _,
-            texts,
-        } => texts.size,
-        Head::Option {
-            required: _,
-            short: _,
-            texts,
-        } => texts.size,
-        Head::Flag { short: _, texts } => texts.size,
-        Head::Bad => 0,
-        Head::End => 0,
+        Head::Node { texts, .. } | Head::Option { texts, .. } | Head::Flag { texts, .. } =>
+            texts.size,
+        Head::Bad | Head::End => 0,
     }
 }
 

@@ -1,42 +1,80 @@
 // What the programs put of an answer to a call that was lent a buffer: what was written, what stayed, a refusal.
-use super::line;
+use super::line::Bytes;
+use std::fmt;
 
 // What every byte of a buffer holds before a call.
 const PATTERN: u8 = 0xAA;
 
+// How long a buffer is that is lent.
+const ROOM: usize = 4096;
+
 // A buffer to lend, which holds the pattern.
-pub fn buffer() -> [u8; 4096] {
-    [PATTERN; 4096]
+pub fn buffer() -> [u8; ROOM] {
+    [PATTERN; ROOM]
 }
 
-// Puts an answer's number and value.
-pub fn put_numbers(number: usize, value: usize, line: &mut [u8], at: usize) -> usize {
-    let after_number = line::put_decimal(number, line, at);
-    let before_value = line::put(b' ', line, after_number);
-    line::put_decimal(value, line, before_value)
+// An answer's number, 0 where it is no refusal and no fault, and the value beside it.
+#[derive(Clone, Copy)]
+pub struct Numbers {
+    pub number: usize,
+    pub value: usize,
 }
 
-// Puts whether a byte of a buffer still holds the pattern.
-fn put_kept(out: &[u8], place: usize, line: &mut [u8], at: usize) -> usize {
-    if place < out.len() && out[place] == PATTERN {
-        return line::put_all(b" kept", line, at);
+impl fmt::Display for Numbers {
+    fn fmt<W: fmt::Write>(&self, f: &mut fmt::Formatter<W>) -> fmt::Result {
+        write!(f, "{} {}", self.number, self.value)
     }
-    line::put_all(b" touched", line, at)
 }
 
-// Puts the first bytes of a buffer, so many, and whether the byte after them stayed.
-pub fn put_written(out: &[u8], n: usize, line: &mut [u8], at: usize) -> usize {
-    if out.len() < n {
-        return line::put_all(b" more than the buffer holds", line, at);
+// Whether the byte at a place of a buffer still holds the pattern.
+#[derive(Clone, Copy)]
+struct Kept<'a>(&'a [u8], usize);
+
+impl<'a> fmt::Display for Kept<'a> {
+    fn fmt<W: fmt::Write>(&self, f: &mut fmt::Formatter<W>) -> fmt::Result {
+        match self.0.get(self.1) {
+            Some(&PATTERN) => write!(f, " kept"),
+            _ => write!(f, " touched"),
+        }
     }
-    let before = line::put(b' ', line, at);
-    let beyond = line::put_bytes(&out[..n], line, before);
-    put_kept(out, n, line, beyond)
 }
 
-// Puts a refusal's number and value, and whether the first byte of the buffer stayed.
-pub fn put_refusal(number: usize, value: usize, out: &[u8], line: &mut [u8], at: usize) -> usize {
-    let before = line::put_all(b" refused ", line, at);
-    let beyond = put_numbers(number, value, line, before);
-    put_kept(out, 0, line, beyond)
+// The first bytes of a buffer, so many, and whether the byte after them stayed.
+#[derive(Clone, Copy)]
+pub struct Written<'a>(pub &'a [u8], pub usize);
+
+impl<'a> fmt::Display for Written<'a> {
+    fn fmt<W: fmt::Write>(&self, f: &mut fmt::Formatter<W>) -> fmt::Result {
+        match self.0.get(..self.1) {
+            Some(written) => write!(f, " {}{}", Bytes(written), Kept(self.0, self.1)),
+            None => write!(f, " more than the buffer holds"),
+        }
+    }
+}
+
+// A refusal, and whether the first byte of the buffer stayed.
+#[derive(Clone, Copy)]
+pub struct Refused<'a>(pub Numbers, pub &'a [u8]);
+
+impl<'a> fmt::Display for Refused<'a> {
+    fn fmt<W: fmt::Write>(&self, f: &mut fmt::Formatter<W>) -> fmt::Result {
+        write!(f, " refused {}{}", self.0, Kept(self.1, 0))
+    }
+}
+
+// Puts what `call` answers where it is lent a buffer of one byte less than what it writes takes, if a buffer can be that short, and that long.
+pub fn put_short<W: fmt::Write, F: FnOnce(&mut [u8]) -> Result<Numbers, Numbers>>(
+    needed: usize,
+    line: &mut W,
+    call: F,
+) -> fmt::Result
+    requires { F.IsAlwaysCallable call }
+{
+    if needed == 0 || ROOM < needed {
+        return Ok(());
+    }
+    let mut out = buffer();
+    match call(&mut out[..needed - 1]) {
+        Ok(numbers) | Err(numbers) => write!(line, " short {numbers}"),
+    }
 }

@@ -1,5 +1,5 @@
-// Standard input, read whole into a lent buffer, and its lines.
-ghost use Rattle.std.specs.Prelude.{◌≤◌, ◌≡◌, length, take};
+// Standard input, read whole, and its lines.
+ghost use Rattle.std.specs.Prelude.{◌≤◌, ◌<◌, ◌^◌, ◌≡◌, length, take};
 
 use std::io::{Input, Print, Read};
 
@@ -10,20 +10,15 @@ pub fn read_full<R: Read>(reader: &mut R, input: &mut [u8]) -> usize
     let mut done = 0;
     while done < input.len() {
         match reader.read(&mut input[done..]) {
-            Ok(n) => {
-                if n == 0 {
-                    return done;
-                }
-                done += n;
-            }
-            Err(_) => return done,
+            Ok(0) | Err(_) => return done,
+            Ok(n) => done += n,
         }
     }
     done
 }
 
 // Reads all of standard input and returns its length. An input that fills the buffer may have more, and is told.
-pub fn read_input(rt: &(impl Input + Print), input: &mut [u8]) -> usize
+fn read_input(rt: &(impl Input + Print), input: &mut [u8]) -> usize
     ensures { (result ≤ length input.new) × (result ≡ length (take result input.new)) }
 {
     let mut reader = rt.reader();
@@ -34,15 +29,24 @@ pub fn read_input(rt: &(impl Input + Print), input: &mut [u8]) -> usize
     n
 }
 
-// The place of the first line end at or after a place, the length if there is none.
-pub fn line_end(input: &[u8], from: usize) -> usize
-    requires { from ≤ length input.now }
-    ensures lower_bound { from ≤ result }
-    ensures upper_bound { result ≤ length input.now }
+// Hands on each line of standard input, which has to be shorter than N bytes.
+pub fn each_line<const N: usize, F: FnMut(&[u8])>(rt: &(impl Input + Print), mut visit: F)
+    requires callable { F.IsAlwaysCallable visit }
+    requires room { N < 2 ^ 63 }
 {
-    let mut at = from;
-    while at < input.len() && input[at] != b'\n' {
-        at += 1;
+    let mut input = [0u8; N];
+    let n = read_input(rt, &mut input);
+    let mut left = &input[..n];
+    while !left.is_empty() {
+        match left.iter().position(|byte| *byte == b'\n') {
+            Some(end) => {
+                visit(&left[..end]);
+                left = &left[end + 1..];
+            }
+            None => {
+                visit(left);
+                return;
+            }
+        }
     }
-    at
 }

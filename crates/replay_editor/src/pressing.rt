@@ -1,67 +1,35 @@
 // One stream of keys from the fresh state: what each key shows, in hexadecimal with commas between, then the entries of history after a semicolon.
-use editor::{Editor, Pressed};
+use buffer::part;
+use editor::{Editor, KeyRefusal, Pressed};
 use history::History;
 use keys::Profile;
-use replay::line;
+use replay::line::{Digits, Line};
+use std::fmt::Write;
 use std::io::Print;
 
 // How many bytes a key has shown; a refusal or a dropped byte shows none.
-fn shown(answer: Pressed) -> usize {
+fn shown(answer: Result<Pressed, KeyRefusal>) -> usize {
     match answer {
-        Pressed::Shown(n) => n,
-        Pressed::Entered(_) => 1,
-        Pressed::Dropped => 0,
-        Pressed::BadState => 0,
-        Pressed::BadPrompt(_) => 0,
-        Pressed::NoRoom(_) => 0,
-    }
-}
-
-// Puts a comma before a part that is not the first.
-fn put_comma(number: usize, out: &mut [u8], at: usize) -> usize {
-    if number == 0 {
-        return at;
-    }
-    line::put(b',', out, at)
-}
-
-// Puts bytes in hexadecimal; none are no digits.
-fn put_digits(bytes: &[u8], out: &mut [u8], at: usize) -> usize {
-    if bytes.len() == 0 {
-        return at;
-    }
-    line::put_bytes(bytes, out, at)
-}
-
-// Writes the first bytes of a buffer.
-fn write_first(rt: &impl Print, out: &[u8], n: usize) {
-    if n <= out.len() {
-        let _ = rt.write_all(&out[..n]);
+        Ok(Pressed::Shown(n)) => n,
+        Ok(Pressed::Entered(_)) => 1,
+        _ => 0,
     }
 }
 
 // Writes bytes in hexadecimal, after a comma if they are not the first.
 fn write_part(rt: &impl Print, bytes: &[u8], number: usize) {
-    let mut out = [0u8; 1024];
-    let first = put_comma(number, &mut out, 0);
-    let end = put_digits(bytes, &mut out, first);
-    write_first(rt, &out, end);
-}
-
-// Writes what stands in the first bytes of the screen's buffer.
-fn write_screen(rt: &impl Print, screen: &[u8], n: usize, number: usize) {
-    if n <= screen.len() {
-        write_part(rt, &screen[..n], number);
+    if number > 0 {
+        let _ = rt.write_all(b",");
     }
+    let mut part = Line::<1024>::new();
+    let _ = write!(part, "{}", Digits(bytes));
+    part.print_part(rt);
 }
 
 // Writes the entries of a history, oldest first.
 fn write_entries(rt: &impl Print, history: History, slots: &[u8]) {
-    let count = history.count;
-    let mut i = 0;
-    while i < count {
+    for i in 0..history.count {
         write_part(rt, history.recall(slots, i), i);
-        i += 1;
     }
 }
 
@@ -82,13 +50,14 @@ fn press(
     line: &mut [u8],
     screen: &mut [u8],
 ) -> Held {
-    let before = held.editor;
-    let key = before.key(held.history, slots, b"axvisor:$ ", byte, line, screen);
-    let answer = key.answer;
-    write_screen(rt, screen, shown(answer), number);
-    let editor = key.editor;
-    let history = key.history;
-    Held { editor, history }
+    let key = held
+        .editor
+        .key(held.history, slots, b"axvisor:$ ", byte, line, screen);
+    write_part(rt, part(screen, 0, shown(key.answer)), number);
+    Held {
+        editor: key.editor,
+        history: key.history,
+    }
 }
 
 // Presses keys one after the other, in the buffers that are lent, and writes the history that they leave.
@@ -104,10 +73,8 @@ fn press_with(
         editor: Editor::fresh(profile),
         history: History::fresh(),
     };
-    let mut i = 0;
-    while i < keys.len() {
-        held = press(rt, held, slots, keys[i], i, line, screen);
-        i += 1;
+    for (number, byte) in keys.iter().enumerate() {
+        held = press(rt, held, slots, *byte, number, line, screen);
     }
     let _ = rt.write_all(b";");
     write_entries(rt, held.history, slots);

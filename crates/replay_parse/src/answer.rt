@@ -1,70 +1,32 @@
 // What the crate parse answers for one line: frames or a refusal, what stays of the buffer, a short buffer's refusal.
-use parse::{Parsed, parse};
-use replay::{answer, line};
+use parse::{ParseRefusal, parse};
+use replay::answer::{Numbers, Refused, Written, buffer, put_short};
+use std::fmt;
 
-// A refusal's number, 0 for a report.
-fn number(parsed: Parsed) -> usize {
+// What is told by frames, a report or a fault of the line, or a refusal.
+fn told(parsed: Result<usize, ParseRefusal>) -> Result<Numbers, Numbers> {
     match parsed {
-        Parsed::Report(_) => 0,
-        Parsed::BadTree(_) => 1,
-        Parsed::LineTooLong(_) => 2,
-        Parsed::IllFormed(_) => 3,
-        Parsed::UnknownCommand(_) => 4,
-        Parsed::UnknownOption(_) => 5,
-        Parsed::MissingValue(_) => 6,
-        Parsed::MissingRequired(_) => 7,
-        Parsed::NoRoom(_) => 9,
+        Ok(value) => Ok(Numbers { number: 0, value }),
+        Err(ParseRefusal::BadTree(value)) => Err(Numbers { number: 1, value }),
+        Err(ParseRefusal::LineTooLong(value)) => Err(Numbers { number: 2, value }),
+        Err(ParseRefusal::IllFormed(value)) => Err(Numbers { number: 3, value }),
+        Err(ParseRefusal::UnknownCommand(value)) => Ok(Numbers { number: 4, value }),
+        Err(ParseRefusal::UnknownOption(value)) => Ok(Numbers { number: 5, value }),
+        Err(ParseRefusal::MissingValue(value)) => Ok(Numbers { number: 6, value }),
+        Err(ParseRefusal::MissingRequired(value)) => Ok(Numbers { number: 7, value }),
+        Err(ParseRefusal::NoRoom(value)) => Err(Numbers { number: 9, value }),
     }
-}
-
-// The value that goes with an answer.
-fn value(parsed: Parsed) -> usize {
-    match parsed {
-        Parsed::Report(n) => n,
-        Parsed::BadTree(n) => n,
-        Parsed::LineTooLong(n) => n,
-        Parsed::IllFormed(n) => n,
-        Parsed::UnknownCommand(n) => n,
-        Parsed::UnknownOption(n) => n,
-        Parsed::MissingValue(n) => n,
-        Parsed::MissingRequired(n) => n,
-        Parsed::NoRoom(n) => n,
-    }
-}
-
-// Whether an answer of this number is told by frames: a report, or a fault of the line.
-fn is_told(number: usize) -> bool {
-    match number {
-        0 => true,
-        4..=7 => true,
-        _ => false,
-    }
-}
-
-// Puts what is answered where the buffer has one byte less than the frames take.
-fn put_short(image: &[u8], text: &[u8], needed: usize, line: &mut [u8], at: usize) -> usize {
-    if needed == 0 {
-        return at;
-    }
-    if 4096 < needed {
-        return at;
-    }
-    let mut out = answer::buffer();
-    let room = needed - 1;
-    let parsed = parse(image, text, &mut out[..room]);
-    let before = line::put_all(b" short ", line, at);
-    answer::put_numbers(number(parsed), value(parsed), line, before)
 }
 
 // Puts what is answered for a line under a tree.
-pub fn put_answer(image: &[u8], text: &[u8], line: &mut [u8], at: usize) -> usize {
-    let mut out = answer::buffer();
-    let parsed = parse(image, text, &mut out);
-    if !is_told(number(parsed)) {
-        return answer::put_refusal(number(parsed), value(parsed), &out, line, at);
+pub fn put_answer<W: fmt::Write>(image: &[u8], text: &[u8], line: &mut W) -> fmt::Result {
+    let mut out = buffer();
+    match told(parse(image, text, &mut out)) {
+        Ok(frames) => {
+            let written = Written(&out, frames.value);
+            write!(line, " told {}{written}", frames.number)?;
+            put_short(frames.value, line, |short| told(parse(image, text, short)))
+        }
+        Err(refusal) => write!(line, "{}", Refused(refusal, &out)),
     }
-    let before = line::put_all(b" told ", line, at);
-    let after_number = line::put_decimal(number(parsed), line, before);
-    let beyond = answer::put_written(&out, value(parsed), line, after_number);
-    put_short(image, text, value(parsed), line, beyond)
 }

@@ -19,14 +19,7 @@ pub struct Taken {
 
 // Whether nothing is left to do with a piece of so many bytes.
 fn is_done(told: Taken, length: usize) -> bool {
-    let stream = told.stream;
-    if stream.over {
-        return true;
-    }
-    if stream.is_busy() {
-        return false;
-    }
-    told.took == length
+    told.stream.over || !told.stream.is_busy() && told.took == length
 }
 
 // A step over what is left of a piece.
@@ -42,17 +35,15 @@ fn turn(
     requires { Sound told.stream line.old image.old slots.old × (told.took ≤ length piece.now) }
     ensures { Sound result.stream line.new image.new slots.new × (result.took ≤ length piece.now) }
 {
-    let before = told.stream;
-    let next = step(before, rest(piece, told.took), line, image, slots, out);
-    let stream = next.stream;
+    let next = step(told.stream, rest(piece, told.took), line, image, slots, out);
     Taken {
-        stream,
+        stream: next.stream,
         took: told.took + next.took,
         printed: put_all(part(out, 0, next.printed), answer, told.printed),
     }
 }
 
-// Takes a whole piece. A proved loop has to end, so its turns are counted down from a number that no piece uses up.
+// Takes a whole piece. A proved loop has to end, so its turns are counted up to a number that no piece uses up.
 fn take_piece(
     told: Taken,
     piece: &[u8],
@@ -66,13 +57,11 @@ fn take_piece(
     ensures { Sound result.stream line.new image.new slots.new }
 {
     let mut here = told;
-    let mut turns = u64::MAX;
-    while turns > 0 {
+    for _ in 0..u64::MAX {
         if is_done(here, piece.len()) {
             return here;
         }
         here = turn(here, piece, line, image, slots, out, answer);
-        turns -= 1;
     }
     here
 }
@@ -86,17 +75,6 @@ fn end(stream: Stream, out: &mut [u8], answer: &mut [u8], printed: usize) -> usi
     }
     let n = finish(stream, out);
     put_all(part(out, 0, n), answer, printed)
-}
-
-// The place a piece of so many bytes on, or the end.
-fn beyond(at: usize, size: usize, end: usize) -> usize
-    requires { (at < end) × (0 < size) }
-    ensures { (at < result) × (result ≤ end) }
-{
-    if end - at <= size {
-        return end;
-    }
-    at + size
 }
 
 // All pieces of a session, of so many bytes each, with keys read as the profile has them: puts what is printed into the answer, and returns how many bytes
@@ -118,25 +96,9 @@ pub fn take_all(
         took: 0,
         printed: 0,
     };
-    let mut at = 0;
-    while at < session.len() {
-        let stream = told.stream;
-        let next = Taken {
-            stream,
-            took: 0,
-            printed: told.printed,
-        };
-        told = take_piece(
-            next,
-            part(session, at, size),
-            line,
-            image,
-            slots,
-            out,
-            answer,
-        );
-        at = beyond(at, size, session.len());
+    for piece in session.chunks(size) {
+        let next = Taken { took: 0, ..told };
+        told = take_piece(next, piece, line, image, slots, out, answer);
     }
-    let stream = told.stream;
-    end(stream, out, answer, told.printed)
+    end(told.stream, out, answer, told.printed)
 }

@@ -1,4 +1,5 @@
 -- Worked examples: the reports of M9 and M14, the fault of M10, byte for byte.
+use Rattle.std.specs.Prelude.{Ok, Err}
 use Prim.Native.Nat.{ℕ}
 use mathlib.Core.Path.{◌≡◌, refl}
 use mathlib.Core.List.{List, [], ◌∷◌}
@@ -8,7 +9,6 @@ use Rattle.frame.specs.Framed.{frame_of}
 use Rattle.frame.specs.Series.{runs}
 use Rattle.report.specs.Report.{option_frame, flag_frame, report_of, fault_of}
 use Rattle.report.specs.Inner.{dashed, report_answer}
-use Rattle.report.specs.declared.answer.Reported.TheVariants.{Report, NoRoom}
 
 -- the words `set`, `config`, `long` and `x`
 set : List ℕ
@@ -46,10 +46,10 @@ m10 : fault_of (dashed 1 (0x63 ∷ [])) ≡ 0x1E ∷ 0x00 ∷ 0x02 ∷ 0x2D ∷ 
 unfolding fault_of dashed frame_of text_of number_bytes
 m10 = refl
 
-fits : report_answer (fault_of (dashed 1 (0x63 ∷ []))) 5 ≡ Report 5
+fits : report_answer (fault_of (dashed 1 (0x63 ∷ []))) 5 ≡ Ok 5
 unfolding report_answer fault_of dashed frame_of text_of number_bytes
 fits = refl
 
-short : report_answer (fault_of (dashed 1 (0x63 ∷ []))) 4 ≡ NoRoom 5
+short : report_answer (fault_of (dashed 1 (0x63 ∷ []))) 4 ≡ Err (record { needed = 5 })
 unfolding report_answer fault_of dashed frame_of text_of number_bytes
 short = refl

@@ -1,9 +1,9 @@
 -- The frame of a fault, in the pieces that are written.
-use Prim.Native.Nat.{ℕ, suc, ◌+◌, ◌-◌, ◌/◌, ◌%◌, ◌≤◌, ◌<◌}
+use Prim.Native.Nat.{ℕ, ◌+◌, ◌-◌, ◌/◌, ◌%◌, ◌≤◌}
 use mathlib.Core.Path.{◌≡◌, refl, sym, ap, ◌∙◌}
 use mathlib.Core.List.{List, [], ◌∷◌, ◌++◌, append-nil}
 use native.Mathlib.Omega.{arith}
-use lib.ListN.{length, take, drop, replicate, length-append, length-replicate}
+use lib.ListN.{length, take, drop, replicate, length-append, length-take, length-replicate}
 use borrow.Rule.Slice.PartMut.{put_mid}
 use Rattle.frame.specs.Text.{text_of}
 use Rattle.frame.specs.Framed.{frame_of}
@@ -13,7 +13,7 @@ use Rattle.buffer.specs.Write.{over, Written, Pushed}
 use Rattle.buffer.proofs.Writing.{pushed_front}
 use Rattle.report.specs.Report.{fault_of}
 use Rattle.report.specs.Inner.{dashed}
-use Rattle.report.proofs.Ahead.{Ahead, ahead_start, ahead_first, ahead_push, ahead_turn, ahead_end}
+use Rattle.report.proofs.Ahead.{ahead_first, ahead_push, ahead_turn, ahead_end}
 
 length_dashed : (dashes : ℕ) (text : List ℕ) → length (dashed dashes text) ≡ dashes + length text
 unfolding dashed
@@ -31,31 +31,14 @@ unfolding fault_of frame_of text_of dashed
 fault_pieces dashes n text e =
     rw (number_two (length (replicate dashes 0x2D ++ text)), sym (e ∙ sym (length_dashed dashes text)))
 
--- a writing of dashes in progress
-abbrev pub AheadDashes : ℕ → List ℕ → ℕ → List ℕ → Type 0
-AheadDashes dashes out₀ i out = Ahead (replicate dashes 0x2D) out₀ (replicate (dashes - i) 0x2D) i out
-
-dashes_of_lem : (n m : ℕ) → n ≡ m → replicate {A = ℕ} n 0x2D ≡ replicate m 0x2D
-dashes_of_lem n m e = ap (λ (k : ℕ). replicate {A = ℕ} k 0x2D) e
-
-pub dashes_start : (dashes : ℕ) (out : List ℕ) → AheadDashes dashes out 0 out
-dashes_start dashes out = ahead_start (replicate dashes 0x2D) (replicate (dashes - 0) 0x2D) out (dashes_of_lem (dashes - 0) dashes (omega arith))
-
-module _ (dashes : ℕ) (out₀ : List ℕ) (i : ℕ) (out : List ℕ) (a : AheadDashes dashes out₀ i out) where
-  pub dashes_end : dashes ≤ i → Written (replicate dashes 0x2D) out₀ i out
-  dashes_end h = ahead_end (replicate dashes 0x2D) out₀ (replicate (dashes - i) 0x2D) i out a (dashes_of_lem (dashes - i) 0 (omega arith))
-
-  module _ (h : i < dashes) (room : dashes ≤ length out₀) where
-    fits : length (replicate {A = ℕ} dashes 0x2D) ≤ length out₀
-    fits = rw (length-replicate {A = ℕ} dashes 0x2D) room
-
-    pub dash_room : i < length out
-    dash_room = let s = a.same in omega arith
-
-    pub dash_written : (r : ℕ) (left : List ℕ) → Pushed (0x2D ∷ []) out i r left → AheadDashes dashes out₀ r left
-    dash_written r left p =
-        let e : dashes - i ≡ suc (dashes - r) = omega (arith, p.place) in
-        ahead_push (replicate dashes 0x2D) out₀ (replicate (dashes - i) 0x2D) (0x2D ∷ []) (replicate (dashes - r) 0x2D) i out a (dashes_of_lem (dashes - i) (suc (dashes - r)) e) fits r left p
+-- dashes in front of what stood after them
+pub dashes_written : (dashes : ℕ) (out left : List ℕ) → dashes ≤ length out → left ≡ replicate (length (take dashes out)) 0x2D
+    → Written (replicate dashes 0x2D) out dashes (left ++ drop dashes out)
+unfolding over
+dashes_written dashes out left h e =
+    let l = length-replicate {A = ℕ} dashes 0x2D in
+    let n : length (take dashes out) ≡ dashes = rw length-take (omega arith) in
+    record { count = sym l; bytes = rw (e, n, l) refl }
 
 -- the pieces written one after the other are the frame
 pub fault_written : (dashes n : ℕ) (text out : List ℕ) → n ≡ dashes + length text → 3 + n ≤ length out

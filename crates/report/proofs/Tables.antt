@@ -1,29 +1,21 @@
 -- The options and the flags of a table, one by one: what a turn of each loop takes and leaves, and how much they can come to.
 use Prim.Native.Nat.{ℕ, ◌+◌, ◌-◌, ◌*◌, ◌^◌, ◌≤◌, ◌<◌}
 use mathlib.Core.Path.{◌≡◌, refl}
-use mathlib.Core.Bool.{Bool, true, false}
 use mathlib.Core.List.{List, [], ◌∷◌, ◌++◌, map}
 use native.Mathlib.Omega.{arith}
 use lib.ListN.{length, take, drop, get_or, length-append, length-take}
+use lib.Seq.{get_or-take}
 use borrow.Rule.Slice.PartMut.{put_mid}
 use Rattle.buffer.specs.Write.{Written, Pushed}
 use Rattle.buffer.proofs.Writing.{pushed_front}
 use Rattle.frame.specs.Text.{text_of}
-use Rattle.frame.specs.Framed.{frame_of}
 use Rattle.frame.specs.Series.{runs}
-use Rattle.frame.proofs.Texts.{length_text_of}
-use Rattle.frame.proofs.Frames.{length_frame_of}
 use Rattle.table.specs.Inner.{key_of, value_of, entries, map_of, size_of}
 use Rattle.table.specs.declared.sorted.Table.{Table}
 use Rattle.table.proofs.TableMaps.{at_place, at_end}
-use Rattle.report.specs.Report.{option_frame, flag_frame}
-use Rattle.report.specs.Inner.{pair_frame}
+use Rattle.report.specs.Report.{option_frame}
+use Rattle.report.specs.Pairs.{Short}
 use Rattle.report.proofs.Ahead.{Ahead, ahead_room, ahead_lent, ahead_turn, ahead_first, runs_more, runs_none, count_turn}
-
--- how long the frames of a pair are
-pub length_option : (k v : List ℕ) → length (option_frame (k, v)) ≡ 1 + length (text_of 2 k) + length (text_of 2 v)
-unfolding option_frame
-length_option k v = let s = length-append (text_of 2 k) (text_of 2 v) in omega arith
 
 -- the kind of an option's frame is written, and its texts are ahead
 pub option_kind : (k v out : List ℕ) (r : ℕ) (left : List ℕ) → length (option_frame (k, v)) ≤ length out → Pushed (0x12 ∷ []) out 0 r left
@@ -31,14 +23,6 @@ pub option_kind : (k v out : List ℕ) (r : ℕ) (left : List ℕ) → length (o
 unfolding option_frame
 option_kind k v out r left fits p =
     ahead_first (option_frame (k, v)) out fits (0x12 ∷ []) (text_of 2 k ++ text_of 2 v) r left refl (pushed_front (0x12 ∷ []) out left r p)
-
-length_flag : (k v : List ℕ) → length (flag_frame (k, v)) ≡ 3 + length k
-unfolding flag_frame
-length_flag k v = length_frame_of 0x13 k
-
--- a flag's frame has its key alone, and is as long for any kind
-pub flag_any : (k v out : List ℕ) → length (flag_frame (k, v)) ≤ length out → (kind : ℕ) → length (frame_of kind k) ≤ length out
-flag_any k v out h kind = let l = length_flag k v in let m = length_frame_of kind k in omega arith
 
 -- an entry has 16 bits for the length of its key and 13 for that of its value
 module _ (words image : List ℕ) (e : ℕ) where
@@ -53,16 +37,6 @@ module _ (words image : List ℕ) (e : ℕ) where
   pub pair_short : (k v : List ℕ) → k ≡ key_of words image e → v ≡ value_of words e → (length k < 256 ^ 2) × (length v < 256 ^ 2)
   pair_short k v p q = let s = value_short in (rw p key_short, rw q (omega arith))
 
-  option_most : length (option_frame (key_of words image e, value_of words e)) ≤ 0x20000
-  option_most =
-      let k = key_short in
-      let v = value_short in
-      let l = length_option (key_of words image e) (value_of words e) in
-      omega (arith, k, v, l, length_text_of 2 (key_of words image e), length_text_of 2 (value_of words e))
-
-  flag_most : length (flag_frame (key_of words image e, value_of words e)) ≤ 0x20000
-  flag_most = let k = key_short in let l = length_flag (key_of words image e) (value_of words e) in omega arith
-
 -- frames of at most 131,072 bytes each
 runs_most : {A : Type 0} (f : A → List ℕ) (g : ℕ → A) (l : List ℕ) → ((e : ℕ) → length (f (g e)) ≤ 0x20000) → length (runs f (map g l)) ≤ 0x20000 * length l
 unfolding runs
@@ -73,11 +47,11 @@ runs_most f g (e ∷ l) h =
     let more = runs_most f g l h in
     omega arith
 
-module _ (words image : List ℕ) (t : Table) where
-  pub pairs_most : (valued : Bool) → length (runs (pair_frame valued) (map_of words image t)) ≤ 0x20000 * size_of t
-  unfolding map_of size_of entries
-  pairs_most true = runs_most option_frame (λ e. (key_of words image e, value_of words e)) (take t.count t.at) (option_most words image)
-  pairs_most false = runs_most flag_frame (λ e. (key_of words image e, value_of words e)) (take t.count t.at) (flag_most words image)
+pub pairs_most : (f : List ℕ × List ℕ → List ℕ) → Short f → (words image : List ℕ) (t : Table) → length (runs f (map_of words image t)) ≤ 0x20000 * size_of t
+unfolding map_of size_of entries
+pairs_most f short words image t =
+    runs_most f (λ e. (key_of words image e, value_of words e)) (take t.count t.at)
+    (λ e. short (key_of words image e) (value_of words e) (key_short words image e) (value_short words image e))
 
 module _ (f : List ℕ × List ℕ → List ℕ) (words image : List ℕ) (t : Table) where
   -- the frames of the pairs from a place on
@@ -91,10 +65,16 @@ module _ (f : List ℕ × List ℕ → List ℕ) (words image : List ℕ) (t : T
   abbrev pub AheadPairs : List ℕ → ℕ → ℕ → List ℕ → Type 0
   AheadPairs out₀ i o out = Ahead (runs f (map_of words image t)) out₀ (pairs_at i) o out
 
-  -- a pair more, as the code finds its key and its value
-  module _ (i : ℕ) (h : i < size_of t) (k v : List ℕ) (p : k ≡ key_of words image (get_or t.at i 0)) (q : v ≡ value_of words (get_or t.at i 0)) where
+  -- a pair more, as the code finds its key and its value among the entries that count
+  module _ (n i : ℕ) (m : n ≡ size_of t) (h : i < length (take n t.at)) (k v : List ℕ) (p : k ≡ key_of words image (get_or (take n t.at) i 0))
+      (q : v ≡ value_of words (get_or (take n t.at) i 0)) where
+    within : i < n
+    within = let l = length-take {A = ℕ} n t.at in omega arith
+
     pair_next : pairs_at i ≡ f (k, v) ++ pairs_at (i + 1)
-    pair_next = rw (p, q) (runs_more f _ _ _ (at_place words image t i h))
+    pair_next =
+        let g : get_or (take n t.at) i 0 ≡ get_or t.at i 0 = get_or-take n t.at i 0 within in
+        rw (p, q, g) (runs_more f _ _ _ (at_place words image t i (omega (arith, m, within))))
 
     -- a turn of the count
     pub pair_counted : (size n whole : ℕ) → n ≡ length (f (k, v)) → size + length (pairs_at i) ≡ whole → size + n + length (pairs_at (i + 1)) ≡ whole

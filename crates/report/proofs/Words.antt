@@ -12,8 +12,7 @@ use Rattle.buffer.specs.Write.{Written}
 use Rattle.frame.specs.Text.{read_text}
 use Rattle.frame.specs.Framed.{frame_of, frame_first}
 use Rattle.frame.specs.Series.{texts_in, runs, AllFrames}
-use Rattle.frame.specs.declared.prefixed.Text.{Text}
-use Rattle.frame.specs.declared.prefixed.Text.TheVariants.{Sized, Broken as NoText}
+use Rattle.std.proofs.Common.{Option, Some, None}
 use Rattle.frame.specs.declared.framed.Framed.{Framed}
 use Rattle.frame.specs.declared.framed.Framed.TheVariants.{Frame}
 use Rattle.frame.specs.contracts.framed.Framed.{the_type}
@@ -64,15 +63,15 @@ module _ (words : List ℕ) (at k n : ℕ) (e : frame_first (drop at words) ≡ 
   pub word_short : ((i : ℕ) → get_or words i 0 < 256) → length (image_part words at n) < 256 ^ 2
   word_short h = rw word_length (by (read_text 2 (drop (at + 1) words)) refl word_within)
     where
-      by : (x : Text) → read_text 2 (drop (at + 1) words) ≡ x → at + 3 + n ≤ length words → n < 256 ^ 2
-      by (Sized m) q w =
-          let r = sym (first_at words at (Sized m) (omega arith) q) ∙ e in
+      by : (x : Option ℕ) → read_text 2 (drop (at + 1) words) ≡ x → at + 3 + n ≤ length words → n < 256 ^ 2
+      by (Some m) q w =
+          let r = sym (first_at words at (Some m) (omega arith) q) ∙ e in
           let s : m ≡ n = cc in
           let t = (read_told 2 (drop (at + 1) words) m q).0 in
           let v = value_two words (at + 1) (omega arith) in
           omega (arith, s, t, v, h (at + 1), h (at + 1 + 1))
-      by NoText q w =
-          let r = sym (first_at words at NoText (omega arith) q) ∙ e in
+      by None q w =
+          let r = sym (first_at words at None (omega arith) q) ∙ e in
           absurd (let z : ◌≡◌ {A = ℕ} 0 1 = cc in omega arith)
 
   module _ (kind : ℕ) where

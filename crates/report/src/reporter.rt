@@ -4,10 +4,15 @@ ghost use Rattle.buffer.specs.Write.{over};
 ghost use Rattle.frame.specs.Series.{AllFrames};
 ghost use Rattle.report.specs.Inner.{report_held, Reporting};
 
-use super::answer::Reported;
-use super::pairs::{flags_size, options_size, write_flags, write_options};
-use super::series::{words_size, write_path, write_positionals};
+use super::pairs::{FlagFrame, OptionFrame, pairs_size, write_pairs};
+use super::series::{words_size, write_words};
+use buffer::TooShort;
 use table::Table;
+
+// The kinds of the frames of words.
+const PATH: u8 = 0x11;
+
+const POSITIONAL: u8 = 0x14;
 
 // How many bytes the report takes. A table comes to at most 8 MiB, so with slices that are in memory together the sum is in range.
 fn report_size<'a>(
@@ -22,7 +27,9 @@ fn report_size<'a>(
     ensures { result ≡ length (report_held words.now image.now path.now options flags rest.now) }
 {
     let texts = words_size(path) + words_size(rest);
-    texts + options_size(words, image, options) + flags_size(words, image, flags)
+    texts
+        + pairs_size::<OptionFrame>(words, image, options)
+        + pairs_size::<FlagFrame>(words, image, flags)
 }
 
 // Writes the report at the front of out. The writer of each kind is lent the rest of it, from the cursor on, and returns its length.
@@ -38,10 +45,10 @@ fn write_frames<'a>(
     requires { (length (report_held words.now image.now path.now options flags rest.now) ≤ length out.old) × AllFrames path.now × AllFrames rest.now }
     ensures { out.new ≡ over (report_held words.now image.now path.now options flags rest.now) out.old }
 {
-    let mut at = write_path(path, out);
-    at += write_options(words, image, options, &mut out[at..]);
-    at += write_flags(words, image, flags, &mut out[at..]);
-    write_positionals(rest, &mut out[at..]);
+    let mut at = write_words(PATH, path, out);
+    at += write_pairs::<OptionFrame>(words, image, options, &mut out[at..]);
+    at += write_pairs::<FlagFrame>(words, image, flags, &mut out[at..]);
+    write_words(POSITIONAL, rest, &mut out[at..]);
 }
 
 // The report of the path words, the options, the flags and the positionals, at the front of out. The words of `path` and `rest` come as frames,
@@ -54,14 +61,14 @@ pub fn write_report<'a>(
     flags: Table,
     rest: &[u8],
     out: &mut [u8],
-) -> Reported
+) -> Result<usize, TooShort>
     requires { (length path.now + length rest.now < 0x8000000000000000) × AllFrames path.now × AllFrames rest.now }
     ensures { Reporting (report_held words.now image.now path.now options flags rest.now) out.old result out.new }
 {
     let needed = report_size(words, image, path, options, flags, rest);
     if out.len() < needed {
-        return Reported::NoRoom(needed);
+        return Err(TooShort { needed });
     }
     write_frames(words, image, path, options, flags, rest, out);
-    Reported::Report(needed)
+    Ok(needed)
 }

@@ -22,7 +22,7 @@ pub fn words_size(words: &[u8]) -> usize
 }
 
 // Writes the words as frames of that kind at the front of out and returns how many bytes that is. A word goes to the place that it is read from.
-fn write_words(kind: u8, words: &[u8], out: &mut [u8]) -> usize
+pub fn write_words(kind: u8, words: &[u8], out: &mut [u8]) -> usize
     requires { (length (runs (frame_of kind) (texts_in words.now)) ≤ length out.old) × AllFrames words.now }
     ensures { Written (runs (frame_of kind) (texts_in words.now)) out.old result out.new }
 {
@@ -36,20 +36,4 @@ fn write_words(kind: u8, words: &[u8], out: &mut [u8]) -> usize
         at += write_frame(kind, &words[start..end], &mut out[at..]);
     }
     at
-}
-
-// Writes the words of a path as frames 11 at the front of out and returns how many bytes that is.
-pub fn write_path(path: &[u8], out: &mut [u8]) -> usize
-    requires { (length (runs (frame_of 0x11) (texts_in path.now)) ≤ length out.old) × AllFrames path.now }
-    ensures { Written (runs (frame_of 0x11) (texts_in path.now)) out.old result out.new }
-{
-    write_words(0x11, path, out)
-}
-
-// Writes the positional words as frames 14 at the front of out and returns how many bytes that is.
-pub fn write_positionals(rest: &[u8], out: &mut [u8]) -> usize
-    requires { (length (runs (frame_of 0x14) (texts_in rest.now)) ≤ length out.old) × AllFrames rest.now }
-    ensures { Written (runs (frame_of 0x14) (texts_in rest.now)) out.old result out.new }
-{
-    write_words(0x14, rest, out)
 }

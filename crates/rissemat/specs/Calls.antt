@@ -1,6 +1,6 @@
 -- What each call gives back: the answer of the call that it wraps, by its number and its value, and what that leaves in each lent buffer.
 -- (STANDARD 10.21)
-use Rattle.std.specs.Prelude.{ℕ, ◌≡◌, cond, List, eqb, length}
+use Rattle.std.specs.Prelude.{ℕ, ◌≡◌, cond, List, eqb, length, Result}
 use Rattle.buffer.specs.Write.{over}
 use Rattle.words.specs.Answer.{answer_for, leaves_for, number, value}
 use Rattle.quote.specs.Answer.{quote_answer, quote_leaves, number as quote_number, value as quote_value}
@@ -8,6 +8,7 @@ use Rattle.history.specs.Journal.{no_entries, offered, slots_of as journal_slots
 use Rattle.history.specs.Answer.{slots_by, number as add_number, value as add_value}
 use Rattle.history.specs.Forgotten.{forgotten, slots_left, number as forget_number, value as forget_value}
 use Rattle.editor.specs.declared.drawing.Pressed.{Pressed}
+use Rattle.editor.specs.declared.drawing.KeyRefusal.{KeyRefusal}
 use Rattle.keys.specs.declared.standing.Profile.TheVariants.{Rust}
 use Rattle.keys.specs.Modes.{profile_number}
 use Rattle.editor.specs.Answer.{slots_of, refused, number as key_number, value as key_value, kind as key_kind, beside as key_beside}
@@ -19,6 +20,7 @@ use Rattle.parse.specs.Answer.{parse_answer, parse_leaves, number as parse_numbe
 use Rattle.help.specs.Answer.{answer_for as help_answer, leaves_for as help_leaves, number as help_number, value as help_value}
 use Rattle.shell.specs.Answer.{run_answer, run_leaves, number as run_number, value as run_value, kind as run_kind, beside}
 use Rattle.shell.specs.declared.answer.Ran.{Ran}
+use Rattle.shell.specs.declared.answer.RunRefusal.{RunRefusal}
 use Rattle.rissemat.specs.Packed.{answered, plain}
 
 pub record WordsCall (line out : List ℕ) (r : ℕ) (left : List ℕ) : Type 0 where
@@ -40,7 +42,7 @@ FreshCall = FreshWithCall (profile_number Rust)
 
 -- a key has three kinds of answer: 1 at Enter, with the length of the line that is submitted as second value; 2 when the byte was dropped; 0 otherwise
 -- (10.21)
-unfoldable pub key_told : Pressed → ℕ
+unfoldable pub key_told : Result Pressed KeyRefusal → ℕ
 key_told told = answered (key_number told) (key_value told) (key_kind told) (key_beside told)
 
 -- a refusal keeps the state and every byte
@@ -78,7 +80,7 @@ pub record HelpCall (image line out : List ℕ) (r : ℕ) (left : List ℕ) : Ty
 
 -- running a line has three kinds of answer beside nothing, 0: 1 a text, 2 the end, 3 a handler. The number beside a text stands where a refusal's
 -- does, and a handler is the second value (10.21)
-unfoldable pub run_told : Ran → ℕ
+unfoldable pub run_told : Result Ran RunRefusal → ℕ
 run_told told =
     answered (cond (eqb (run_kind told) 1) (beside told) (run_number told)) (run_value told) (run_kind told) (cond (eqb (run_kind told) 3) (beside told) 0)
 

@@ -1,4 +1,5 @@
-// The parts of each call's answer: the number, the value, the kind and the second value.
+// The parts of each call's answer: the number, the value, the kind and the second value. A function for each call, and no conversion of its refusal alone,
+// since the kinds of what is done and the numbers of what is refused are one list of the standard.
 ghost use Rattle.words.specs.Answer.{number as words_number, value as words_value};
 ghost use Rattle.quote.specs.Answer.{number as quote_number, value as quote_value};
 ghost use Rattle.state.specs.Calls.{number as begin_number, value as begin_value};
@@ -12,131 +13,134 @@ ghost use Rattle.shell.specs.Answer.{value as run_value, kind as run_kind};
 ghost use Rattle.rissemat.specs.Inner.{Tells, run_number, run_second};
 
 use crate::pack::Parts;
-use editor::Pressed;
-use help::Helped;
-use history::{Added, Forgot};
-use parse::Parsed;
-use quote::Quoted;
-use shell::Ran;
-use state::Begun;
-use tree::Checked;
-use words::Tokens;
+use editor::{KeyRefusal, Pressed};
+use help::HelpRefusal;
+use history::{AddRefusal, ForgetRefusal};
+use parse::ParseRefusal;
+use quote::QuoteRefusal;
+use shell::{Ran, RunRefusal};
+use state::BeginRefusal;
+use tree::BadFrame;
+use words::TokenizeRefusal;
 
-pub fn of_words(answer: Tokens) -> Parts
+pub fn of_words(answer: Result<usize, TokenizeRefusal>) -> Parts
     ensures { Tells result (words_number answer) (words_value answer) 0 0 }
 {
     match answer {
-        Tokens::Words(n) => Parts(0, n, 0, 0),
-        Tokens::LineTooLong(n) => Parts(2, n, 0, 0),
-        Tokens::IllFormed(n) => Parts(3, n, 0, 0),
-        Tokens::NoRoom(n) => Parts(9, n, 0, 0),
+        Ok(n) => Parts::done(n),
+        Err(TokenizeRefusal::LineTooLong(n)) => Parts::refused(2, n),
+        Err(TokenizeRefusal::IllFormed(n)) => Parts::refused(3, n),
+        Err(TokenizeRefusal::NoRoom(n)) => Parts::refused(9, n),
     }
 }
 
-pub fn of_quote(answer: Quoted) -> Parts
+pub fn of_quote(answer: Result<usize, QuoteRefusal>) -> Parts
     ensures { Tells result (quote_number answer) (quote_value answer) 0 0 }
 {
     match answer {
-        Quoted::Line(n) => Parts(0, n, 0, 0),
-        Quoted::BadWord(n) => Parts(10, n, 0, 0),
-        Quoted::LineTooLong(n) => Parts(2, n, 0, 0),
-        Quoted::NoRoom(n) => Parts(9, n, 0, 0),
+        Ok(n) => Parts::done(n),
+        Err(QuoteRefusal::BadWord(n)) => Parts::refused(10, n),
+        Err(QuoteRefusal::LineTooLong(n)) => Parts::refused(2, n),
+        Err(QuoteRefusal::NoRoom(n)) => Parts::refused(9, n),
     }
 }
 
-pub fn of_fresh(answer: Begun) -> Parts
+pub fn of_fresh(answer: Result<(), BeginRefusal>) -> Parts
     ensures { Tells result (begin_number answer) (begin_value answer) 0 0 }
 {
     match answer {
-        Begun::Ready => Parts(0, 0, 0, 0),
-        Begun::NoRoom(n) => Parts(9, n, 0, 0),
-        Begun::BadState => Parts(12, 0, 0, 0),
+        Ok(()) => Parts::done(0),
+        Err(BeginRefusal::NoRoom(n)) => Parts::refused(9, n),
+        Err(BeginRefusal::BadState) => Parts::refused(12, 0),
     }
 }
 
-pub fn of_key(answer: Pressed) -> Parts
+pub fn of_key(answer: Result<Pressed, KeyRefusal>) -> Parts
     ensures { Tells result (key_number answer) (key_value answer) (key_kind answer) (key_beside answer) }
 {
     match answer {
-        Pressed::Shown(n) => Parts(0, n, 0, 0),
-        Pressed::Entered(n) => Parts(0, 1, 1, n),
-        Pressed::Dropped => Parts(0, 0, 2, 0),
-        Pressed::BadState => Parts(12, 0, 0, 0),
-        Pressed::BadPrompt(n) => Parts(11, n, 0, 0),
-        Pressed::NoRoom(n) => Parts(9, n, 0, 0),
+        Ok(Pressed::Shown(n)) => Parts::done(n),
+        Ok(Pressed::Entered(n)) => Parts::of_kind(1, 1, n),
+        Ok(Pressed::Dropped) => Parts::of_kind(2, 0, 0),
+        Err(KeyRefusal::BadState) => Parts::refused(12, 0),
+        Err(KeyRefusal::BadPrompt(n)) => Parts::refused(11, n),
+        Err(KeyRefusal::NoRoom(n)) => Parts::refused(9, n),
     }
 }
 
-pub fn of_add(answer: Added) -> Parts
+pub fn of_add(answer: Result<(), AddRefusal>) -> Parts
     ensures { Tells result (add_number answer) (add_value answer) 0 0 }
 {
     match answer {
-        Added::Done => Parts(0, 0, 0, 0),
-        Added::BadState => Parts(12, 0, 0, 0),
-        Added::TooLong(n) => Parts(13, n, 0, 0),
-        Added::IllFormed(n) => Parts(3, n, 0, 0),
+        Ok(()) => Parts::done(0),
+        Err(AddRefusal::BadState) => Parts::refused(12, 0),
+        Err(AddRefusal::TooLong(n)) => Parts::refused(13, n),
+        Err(AddRefusal::IllFormed(n)) => Parts::refused(3, n),
     }
 }
 
-pub fn of_forget(answer: Forgot) -> Parts
+pub fn of_forget(answer: Result<usize, ForgetRefusal>) -> Parts
     ensures { Tells result (forget_number answer) (forget_value answer) 0 0 }
 {
     match answer {
-        Forgot::Gone(n) => Parts(0, n, 0, 0),
-        Forgot::BadState => Parts(12, 0, 0, 0),
-        Forgot::NoEntry(k) => Parts(18, k, 0, 0),
+        Ok(n) => Parts::done(n),
+        Err(ForgetRefusal::BadState) => Parts::refused(12, 0),
+        Err(ForgetRefusal::NoEntry(k)) => Parts::refused(18, k),
     }
 }
 
-pub fn of_tree(answer: Checked) -> Parts
+pub fn of_tree(answer: Result<(), BadFrame>) -> Parts
     ensures { Tells result (tree_number answer) (tree_value answer) 0 0 }
 {
     match answer {
-        Checked::Good => Parts(0, 0, 0, 0),
-        Checked::BadFrame(n) => Parts(1, n, 0, 0),
+        Ok(()) => Parts::done(0),
+        Err(BadFrame { number }) => Parts::refused(1, number),
     }
 }
 
-pub fn of_parse(answer: Parsed) -> Parts
+pub fn of_parse(answer: Result<usize, ParseRefusal>) -> Parts
     ensures { Tells result (parse_number answer) (parse_value answer) 0 0 }
 {
     match answer {
-        Parsed::Report(n) => Parts(0, n, 0, 0),
-        Parsed::BadTree(n) => Parts(1, n, 0, 0),
-        Parsed::LineTooLong(n) => Parts(2, n, 0, 0),
-        Parsed::IllFormed(n) => Parts(3, n, 0, 0),
-        Parsed::UnknownCommand(n) => Parts(4, n, 0, 0),
-        Parsed::UnknownOption(n) => Parts(5, n, 0, 0),
-        Parsed::MissingValue(n) => Parts(6, n, 0, 0),
-        Parsed::MissingRequired(n) => Parts(7, n, 0, 0),
-        Parsed::NoRoom(n) => Parts(9, n, 0, 0),
+        Ok(n) => Parts::done(n),
+        Err(ParseRefusal::BadTree(n)) => Parts::refused(1, n),
+        Err(ParseRefusal::LineTooLong(n)) => Parts::refused(2, n),
+        Err(ParseRefusal::IllFormed(n)) => Parts::refused(3, n),
+        Err(ParseRefusal::UnknownCommand(n)) => Parts::refused(4, n),
+        Err(ParseRefusal::UnknownOption(n)) => Parts::refused(5, n),
+        Err(ParseRefusal::MissingValue(n)) => Parts::refused(6, n),
+        Err(ParseRefusal::MissingRequired(n)) => Parts::refused(7, n),
+        Err(ParseRefusal::NoRoom(n)) => Parts::refused(9, n),
     }
 }
 
-pub fn of_help(answer: Helped) -> Parts
+pub fn of_help(answer: Result<usize, HelpRefusal>) -> Parts
     ensures { Tells result (help_number answer) (help_value answer) 0 0 }
 {
     match answer {
-        Helped::Text(n) => Parts(0, n, 0, 0),
-        Helped::BadTree(n) => Parts(1, n, 0, 0),
-        Helped::LineTooLong(n) => Parts(2, n, 0, 0),
-        Helped::IllFormed(n) => Parts(3, n, 0, 0),
-        Helped::NoWords => Parts(14, 0, 0, 0),
-        Helped::UnknownCommand(n) => Parts(4, n, 0, 0),
-        Helped::NoRoom(n) => Parts(9, n, 0, 0),
+        Ok(n) => Parts::done(n),
+        Err(HelpRefusal::BadTree(n)) => Parts::refused(1, n),
+        Err(HelpRefusal::LineTooLong(n)) => Parts::refused(2, n),
+        Err(HelpRefusal::IllFormed(n)) => Parts::refused(3, n),
+        Err(HelpRefusal::NoWords) => Parts::refused(14, 0),
+        Err(HelpRefusal::UnknownCommand(n)) => Parts::refused(4, n),
+        Err(HelpRefusal::NoRoom(n)) => Parts::refused(9, n),
     }
 }
 
-pub fn of_run(answer: Ran) -> Parts
+pub fn of_run(answer: Result<Ran, RunRefusal>) -> Parts
     ensures { Tells result (run_number answer) (run_value answer) (run_kind answer) (run_second answer) }
 {
     match answer {
-        Ran::Nothing => Parts(0, 0, 0, 0),
-        Ran::Text { number, length } => Parts(number, length, 1, 0),
-        Ran::Exit(n) => Parts(0, n, 2, 0),
-        Ran::Handler { handler, length } => Parts(0, length, 3, handler as usize),
-        Ran::BadTree(n) => Parts(1, n, 0, 0),
-        Ran::LineTooLong(n) => Parts(2, n, 0, 0),
-        Ran::NoRoom(n) => Parts(9, n, 0, 0),
+        Ok(Ran::Nothing) => Parts::done(0),
+        Ok(Ran::Text { number, length }) => Parts {
+            number,
+            ..Parts::of_kind(1, length, 0)
+        },
+        Ok(Ran::Exit(n)) => Parts::of_kind(2, n, 0),
+        Ok(Ran::Handler { handler, length }) => Parts::of_kind(3, length, usize::from(handler)),
+        Err(RunRefusal::BadTree(n)) => Parts::refused(1, n),
+        Err(RunRefusal::LineTooLong(n)) => Parts::refused(2, n),
+        Err(RunRefusal::NoRoom(n)) => Parts::refused(9, n),
     }
 }

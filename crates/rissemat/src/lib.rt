@@ -14,7 +14,7 @@ use answers::{
     of_add, of_forget, of_fresh, of_help, of_key, of_parse, of_quote, of_run, of_tree, of_words,
 };
 use help::help;
-use keys::{Profile, profile_number};
+use keys::Profile;
 use pack::packed;
 use parse::parse;
 use quote::quote;
@@ -41,7 +41,7 @@ pub fn rissemat_quote(words: &[u8], out: &mut [u8]) -> u64
 pub fn rissemat_fresh(state: &mut [u8], slots: &mut [u8]) -> u64
     ensures { FreshCall state.old slots.old result state.new slots.new }
 {
-    rissemat_fresh_with(profile_number(Profile::Rust), state, slots)
+    rissemat_fresh_with(u8::from(Profile::Rust), state, slots)
 }
 
 // The same with keys read by a profile: 0 as the original reads them, 1 as ECMA-48 has them.

@@ -21,6 +21,7 @@ use Rattle.buffer.specs.Ascii.{ascii}
 use Rattle.buffer.specs.Inks.{Inked, InkedFrom, Countable}
 use Rattle.buffer.proofs.Inking.{inked_nothing, inked_both, inked_as, cond_most}
 use Rattle.rows.specs.Rows.{blanks, padded, short_then, shown_as, required_mark, entry, option_row, flag_row, node_row, row_of, ends_list, rows, titled}
+use Rattle.std.specs.Prelude.{Some, None}
 use Rattle.rows.specs.Inner.{row_by, size_by}
 use Rattle.rows.specs.declared.row.Listing.{Listing}
 use Rattle.rows.specs.declared.row.Listing.TheVariants.{Options, Flags, Subcommands, Commands}
@@ -126,18 +127,21 @@ row_most Commands (node d h n ds u) =
 row_most Commands (option r c n x ds) = omega arith
 row_most Commands (flag c n x ds) = omega arith
 
+none_some : (n : ℕ) → None ≡ Some n → ⊥
+none_some n e = let z : ◌≡◌ {A = ℕ} 0 1 = cc in omega arith
+
 module _ (listing : Listing) (s : List ℕ) where
   -- the list ends here
-  pub rows_stop : size_by listing (read_first s) ≡ 0 → rows listing (frames_of s) ≡ []
+  pub rows_stop : size_by listing (read_first s) ≡ None → rows listing (frames_of s) ≡ []
   unfolding rows
   rows_stop z = by (read_first s) refl z
     where
-      choose : (t : Bool) (n : ℕ) (l : List ℕ) → 0 < n → cond t 0 n ≡ 0 → cond t [] l ≡ []
-      choose true n l h e = refl
-      choose false n l h e = absurd (omega arith)
+      choose : (t : Bool) (n : ℕ) (l : List ℕ) → cond t None (Some n) ≡ None → cond t [] l ≡ []
+      choose true n l e = refl
+      choose false n l e = cc
 
-      by : (x : Read) → read_first s ≡ x → size_by listing x ≡ 0 → rows listing (frames_of s) ≡ []
-      by (read f n) q e = rw (frames_read s f n q) (choose (ends_list listing f) n _ (read_within s f n q).0 e)
+      by : (x : Read) → read_first s ≡ x → size_by listing x ≡ None → rows listing (frames_of s) ≡ []
+      by (read f n) q e = rw (frames_read s f n q) (choose (ends_list listing f) n _ e)
       by broken q e = rw (frames_broken s q)
       by ended q e = rw (frames_ended s q)
 
@@ -148,15 +152,15 @@ module _ (listing : Listing) (s : List ℕ) where
     pub short : length (row_by listing (read_first s)) ≤ 64 * size
     pub goes_on_lem : rows listing (frames_of s) ≡ row_by listing (read_first s) ++ rows listing (frames_of (drop size s))
 
-  pub row_at : (size : ℕ) → Bytes s → size_by listing (read_first s) ≡ size → (size ≡ 0 → ⊥) → RowAt size
+  pub row_at : (size : ℕ) → Bytes s → size_by listing (read_first s) ≡ Some size → RowAt size
   unfolding rows
-  row_at size b e n = by (read_first s) refl e
+  row_at size b e = by (read_first s) refl e
     where
-      choose : (t : Bool) (m : ℕ) (l : List ℕ) → cond t 0 m ≡ size → (m ≡ size) × (cond t [] l ≡ l)
-      choose true m l k = absurd (n (sym k))
-      choose false m l k = (k, refl)
+      choose : (t : Bool) (m : ℕ) (l : List ℕ) → cond t None (Some m) ≡ Some size → (m ≡ size) × (cond t [] l ≡ l)
+      choose true m l k = (cc, cc)
+      choose false m l k = (cc, refl)
 
-      by : (x : Read) → read_first s ≡ x → size_by listing x ≡ size → RowAt size
+      by : (x : Read) → read_first s ≡ x → size_by listing x ≡ Some size → RowAt size
       by (read f m) q k =
           let w = read_within s f m q in
           let c = choose (ends_list listing f) m (row_of listing f ++ rows listing (frames_of (drop m s))) k in
@@ -169,8 +173,8 @@ module _ (listing : Listing) (s : List ℕ) where
             short = rw q (omega arith);
             goes_on_lem = rw (frames_read s f m q, q) (c.1 ∙ rw is);
           }
-      by broken q k = absurd (n (sym k))
-      by ended q k = absurd (n (sym k))
+      by broken q k = absurd (none_some size k)
+      by ended q k = absurd (none_some size k)
 
 -- a list on its way: whoever writes the rows of the frames that are left has written them all
 pub record OnWay (listing : Listing) (frames out₀ : List ℕ) (at : ℕ) (out : List ℕ) (place end : ℕ) : Type 0 where
@@ -194,13 +198,13 @@ module _ (listing : Listing) (frames out₀ : List ℕ) (at : ℕ) where
     unfolding rows
     arrives h = ends (rw (drop_end frames place h, frames_none))
 
-    module _ (s : List ℕ) (size : ℕ) (lent : s ≡ drop place frames) (e : size ≡ size_by listing (read_first s)) where
-      pub stops : size ≡ 0 → InkedFrom frames (rows listing (frames_of frames)) out₀ at end out
-      stops z = ends (rw lent at (rows_stop listing s (sym e ∙ z)))
+    module _ (s : List ℕ) (lent : s ≡ drop place frames) where
+      pub stops : None ≡ size_by listing (read_first s) → InkedFrom frames (rows listing (frames_of frames)) out₀ at end out
+      stops e = ends (rw lent at (rows_stop listing s (sym e)))
 
-      module _ (b : Bytes frames) (n : size ≡ 0 → ⊥) where
+      module _ (size : ℕ) (e : Some size ≡ size_by listing (read_first s)) (b : Bytes frames) where
         at_place : RowAt listing (drop place frames) size
-        at_place = row_at listing (drop place frames) size (bytes_drop place frames b) (sym (rw lent at e)) n
+        at_place = row_at listing (drop place frames) size (bytes_drop place frames b) (sym (rw lent at e))
 
         pub row_counts : at + 64 * length frames < 4294967296 → Countable (row_by listing (read_first s)) end
         row_counts h =

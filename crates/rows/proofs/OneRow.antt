@@ -19,6 +19,8 @@ use Rattle.image.proofs.HeadBytes.{view, definition_small}
 use Rattle.buffer.specs.Ascii.{ascii}
 use Rattle.buffer.specs.Inks.{Inked, Countable}
 use Rattle.rows.specs.Rows.{blanks, padded, short_then, shown_as, entry, required_mark, option_row, node_row, row_of, ends_list}
+use Rattle.std.specs.Prelude.{Some, None}
+use mathlib.Core.Logic.{◌⊎◌, inl, inr}
 use Rattle.rows.specs.Inner.{label_in, ReadLengths, row_by, size_by}
 use Rattle.rows.specs.declared.row.Listing.{Listing}
 use Rattle.rows.specs.declared.row.Listing.TheVariants.{Options, Flags, Subcommands, Commands}
@@ -54,18 +56,18 @@ short_some short tail n = rw (ne_eqb short 0 n)
 
 -- a label: with a long, with neither, with a short alone
 module _ (s : List ℕ) (p short : ℕ) (texts : Lengths) where
-  pub label_long : (long : List ℕ) → (texts.other ≡ 0xff → ⊥) → long ≡ take texts.other (drop (p + 2 + texts.name) s)
+  pub label_long : (long : List ℕ) (n : ℕ) → texts.other ≡ Some n → long ≡ take n (drop (p + 2 + texts.name) s)
       → label_in s p short texts ≡ short_then short (ascii ", ") ++ ascii "--" ++ long
   unfolding label_in shown_as perhaps_in
-  label_long long n e = rw (ne_eqb texts.other 0xff n, e)
+  label_long long n o e = rw (o, e)
 
-  pub label_name : (name : List ℕ) → texts.other ≡ 0xff → short ≡ 0 → name ≡ take texts.name (drop (p + 1) s) → label_in s p short texts ≡ name
+  pub label_name : (name : List ℕ) → texts.other ≡ None → short ≡ 0 → name ≡ take texts.name (drop (p + 1) s) → label_in s p short texts ≡ name
   unfolding label_in shown_as perhaps_in
-  label_name name o z e = rw (eq-eqb texts.other 0xff o, eq-eqb short 0 z, e)
+  label_name name o z e = rw (o, eq-eqb short 0 z, e)
 
-  pub label_short : (tail : List ℕ) → texts.other ≡ 0xff → (short ≡ 0 → ⊥) → tail ≡ [] → label_in s p short texts ≡ short_then short tail
+  pub label_short : texts.other ≡ None → (short ≡ 0 → ⊥) → label_in s p short texts ≡ short_then short []
   unfolding label_in shown_as perhaps_in
-  label_short tail o n e = rw (eq-eqb texts.other 0xff o, ne_eqb short 0 n, e)
+  label_short o n = rw (o, ne_eqb short 0 n)
 
 -- an entry as it is written: indent and label, then what stands after the label
 pub entry_is : (indent label description : List ℕ) (width : ℕ) → entry indent width label description ≡ (indent ++ label) ++ (blanks width (length label) ++ ascii " " ++ description)
@@ -200,17 +202,14 @@ module _ (listing : Listing) where
     row_none Bad e k = rw (← e)
     row_none End e k = rw (← e)
 
-    pub size_read_lem : (head : Head) (f : Frame) (n : ℕ) (ends : Bool) → head ≡ head_first s → read_by s head ≡ read f n → ends ≡ ends_list listing f → cond ends 0 n ≡ size_by listing (read_first s)
+    pub size_read_lem : (head : Head) (f : Frame) (n : ℕ) (ends : Bool) → head ≡ head_first s → read_by s head ≡ read f n → ends ≡ ends_list listing f → cond ends None (Some n) ≡ size_by listing (read_first s)
     unfolding read_first
     size_read_lem head f n ends e k q = rw (← e, k, q)
 
-    pub size_none : (head : Head) → head ≡ head_first s → OneOf (3 ∷ 4 ∷ []) (tag_of head_type head) → 0 ≡ size_by listing (read_first s)
+    pub size_none : (head : Head) → head ≡ head_first s → (head ≡ Bad) ⊎ (head ≡ End) → None ≡ size_by listing (read_first s)
     unfolding read_first
-    size_none (NodeHead d h t) e k = absurd (miss (3 ∷ 4 ∷ []) 0 tt k)
-    size_none (OptionHead q c t) e k = absurd (miss (3 ∷ 4 ∷ []) 1 tt k)
-    size_none (FlagHead c t) e k = absurd (miss (3 ∷ 4 ∷ []) 2 tt k)
-    size_none Bad e k = rw (← e)
-    size_none End e k = rw (← e)
+    size_none head e (inl k) = rw (← e, k)
+    size_none head e (inr k) = rw (← e, k)
 
   pub definition_goes_on : (r c : ℕ) (n : List ℕ) (x : Perhaps) (ds : List ℕ) → (false ≡ ends_list listing (option r c n x ds)) × (false ≡ ends_list listing (flag c n x ds))
   definition_goes_on r c n x ds = by listing

@@ -16,10 +16,9 @@ pub fn put_rows(frames: &[u8], listing: Listing, out: &mut [u8], at: usize) -> u
     let mut end = at;
     while place < frames.len() {
         let s = rest(frames, place);
-        let size = listed_size(s, listing);
-        if size == 0 {
+        let Some(size) = listed_size(s, listing) else {
             return end;
-        }
+        };
         end = put_row(s, listing, out, end);
         place += size;
     }
@@ -31,8 +30,7 @@ fn rows_size(frames: &[u8], listing: Listing) -> usize
     requires { 64 * length frames.now < count_limit }
     ensures { result ≡ length (rows listing (frames_of frames.now)) }
 {
-    let mut none = [0; 1];
-    put_rows(frames, listing, &mut none[..0], 0)
+    put_rows(frames, listing, &mut [], 0)
 }
 
 // A list after its title; an empty one has none.

@@ -10,7 +10,7 @@ ghost use Rattle.rows.specs.Inner.{label_in, ReadLengths, row_by, size_by};
 use buffer::{part, put, put_byte};
 use image::{Head, Lengths, head_of};
 
-// What is listed.
+// What is listed. The definition `row_of` goes by it, so it is no closure.
 #[derive(Clone, Copy)]
 pub enum Listing {
     // The options of the last node.
@@ -65,15 +65,15 @@ fn put_label(s: &[u8], p: usize, short: usize, texts: Lengths, out: &mut [u8], a
     requires countable { Countable (label_in s.now p short texts) at }
     ensures { Inked (label_in s.now p short texts) out.old at result out.new }
 {
-    if texts.other != 255 {
+    if let Some(n) = texts.other {
         let comma = put_short(short, b", ", out, at);
         let long = put(b"--", out, comma);
-        return put(part(s, p + 2 + texts.name, texts.other), out, long);
+        return put(part(s, p + 2 + texts.name, n), out, long);
     }
     if short == 0 {
         return put(part(s, p + 1, texts.name), out, at);
     }
-    put_short(short, part(s, 0, 0), out, at)
+    put_short(short, b"", out, at)
 }
 
 // The row of an option or a flag, without its end.
@@ -175,11 +175,7 @@ pub fn put_row(s: &[u8], listing: Listing, out: &mut [u8], at: usize) -> usize
     ensures { Inked (row_by listing (read_first s.now)) out.old at result out.new }
 {
     match head_of(s) {
-        Head::Node {
-            depth,
-            handler: _,
-            texts,
-        } => node_row(s, depth, texts, listing, out, at),
+        Head::Node { depth, texts, .. } => node_row(s, depth, texts, listing, out, at),
         Head::Option {
             required,
             short,
@@ -204,33 +200,21 @@ pub fn put_row(s: &[u8], listing: Listing, out: &mut [u8], at: usize) -> usize
 fn node_ends(listing: Listing) -> bool
     ensures { (d h : ℕ) (n ds : List ℕ) (u : Perhaps) → result ≡ ends_list listing (node d h n ds u) }
 {
-    match listing {
-        Listing::Options | Listing::Flags => true,
-        _ => false,
-    }
+    matches!(listing, Listing::Options | Listing::Flags)
 }
 
-// The size of the frame at the front of s; 0 where the list ends.
-pub fn listed_size(s: &[u8], listing: Listing) -> usize
+// The size of the frame at the front of s, unless the list ends there.
+pub fn listed_size(s: &[u8], listing: Listing) -> Option<usize>
     ensures { result ≡ size_by listing (read_first s.now) }
 {
     match head_of(s) {
-        Head::Node {
-            depth: _,
-            handler: _,
-            texts,
-        } => {
+        Head::Node { texts, .. } => {
             if node_ends(listing) {
-                return 0;
+                return None;
             }
-            texts.size
+            Some(texts.size)
         }
-        Head::Option {
-            required: _,
-            short: _,
-            texts,
-        } => texts.size,
-        Head::Flag { short: _, texts } => texts.size,
-        _ => 0,
+        Head::Option { texts, .. } | Head::Flag { texts, .. } => Some(texts.size),
+        Head::Bad | Head::End => None,
     }
 }

@@ -1,4 +1,5 @@
 -- Our history is the Rust's `CommandHistory::new(100)`: its three functions on values and ours do the same to entries and place, and with the list shortened it is ours after an entry was forgotten.
+use Rattle.std.specs.Prelude.{Ok, Some, None}
 use Rattle.std.proofs.Common.{◌≡◌, ℕ, zero, suc, ◌+◌, ◌-◌, ◌<◌, ◌≤◌, Bool, true, false, cond, not, eqb, ltb, leb, List, [], ◌∷◌, ◌++◌, length, get_or, take, drop, sym, refl, ap, ◌∙◌, arith, ltb-false, ltb-true, le-ltb, lt-ltb, eqb-true, le-leb}
 use mathlib.Core.Bool.{beq}
 use mathlib.Core.Option.{Option, none, some}
@@ -15,10 +16,7 @@ use Rattle.history.specs.Answer.{Addition}
 use Rattle.history.specs.Forgotten.{without, repeats, remaining, forgotten, Forgets}
 use Rattle.history.specs.Steps.{placed_at, back, recalled_at, onward}
 use Rattle.history.specs.declared.stepping.History.{History}
-use Rattle.history.specs.declared.stepping.Recalled.TheVariants.{Entry, Nothing}
 use Rattle.history.specs.declared.stepping.Step.{Step}
-use Rattle.history.specs.declared.adding.Added.TheVariants.{Done}
-use Rattle.history.specs.declared.forgetting.Forgot.TheVariants.{Gone}
 use Rattle.history.proofs.Journals.{good_fair, count_held, place_held}
 use Rattle.history.proofs.Called.{add_after}
 use Rattle.history.proofs.Shortened.{forget_after}
@@ -146,12 +144,12 @@ module _ (j : Journal) (h : j.place ≤ count j) where
 
 -- THE CALLS
 -- the Rust's add_command on the history that record and slots hold
-pub add_as_rust : (h : History) (slots text : List ℕ) (r : History) (left : List ℕ) → Addition h slots text r Done left
+pub add_as_rust : (h : History) (slots text : List ℕ) (r : History) (left : List ℕ) → Addition h slots text r (Ok tt) left
     → add_command (original (journal_of h slots)) text ≡ original (journal_of r left)
 add_as_rust h slots text r left a = add_is (journal_of h slots) text ∙ ap original (sym (add_after h slots text r left a))
 
 -- and that history with the shortened list
-pub forget_as_rust : (h : History) (slots : List ℕ) (k : ℕ) (r : History) (n : ℕ) (left : List ℕ) → Forgets h slots k r (Gone n) left
+pub forget_as_rust : (h : History) (slots : List ℕ) (k : ℕ) (r : History) (n : ℕ) (left : List ℕ) → Forgets h slots k r (Ok n) left
     → shortened k (original (journal_of h slots)) ≡ original (journal_of r left)
 forget_as_rust h slots k r n left a = shortened_is k (journal_of h slots) ∙ ap original (sym (forget_after h slots k r n left a))
 
@@ -159,10 +157,10 @@ forget_as_rust h slots k r n left a = shortened_is k (journal_of h slots) ∙ ap
 module _ (h : History) (slots : List ℕ) (is : good h slots ≡ true) where
   -- a step back from a place, and a step on among so many entries
   back_from : ℕ → Step
-  back_from place = cond (eqb place 0) (record { history = h; recalled = Nothing }) (record { history = placed_at h (place - 1); recalled = Entry (place - 1) })
+  back_from place = cond (eqb place 0) (record { history = h; recalled = None }) (record { history = placed_at h (place - 1); recalled = Some (place - 1) })
 
   on_from : ℕ → ℕ → Step
-  on_from place n = cond (ltb place n) (record { history = placed_at h (place + 1); recalled = recalled_at n (place + 1) }) (record { history = h; recalled = Nothing })
+  on_from place n = cond (ltb place n) (record { history = placed_at h (place + 1); recalled = recalled_at n (place + 1) }) (record { history = h; recalled = None })
 
   pub previous_as_rust : previous (original (journal_of h slots)) ≡ step_in (journal_of h slots) (back h)
   unfolding back back_from
@@ -172,7 +170,7 @@ module _ (h : History) (slots : List ℕ) (is : good h slots ≡ true) where
     where
       by : (t : Bool) → let j : Journal = journal_of h slots in
           ◌≡◌ {A = Stepped} (cond t (record { after = original j; text = none }) (record { after = original (at_place j (j.place - 1)); text = some (entry_of j (j.place - 1)) }))
-          (step_in j (cond t (record { history = h; recalled = Nothing }) (record { history = placed_at h (j.place - 1); recalled = Entry (j.place - 1) })))
+          (step_in j (cond t (record { history = h; recalled = None }) (record { history = placed_at h (j.place - 1); recalled = Some (j.place - 1) })))
       by true = ap (λ (p : ℕ). record { after = original (at_place (journal_of h slots) p); text = none }) (place_held h slots)
       by false = refl
 
@@ -187,7 +185,7 @@ module _ (h : History) (slots : List ℕ) (is : good h slots ≡ true) where
     where
       by : (t u : Bool) → let j : Journal = journal_of h slots in
           ◌≡◌ {A = Stepped} (cond t (record { after = original (at_place j (j.place + 1)); text = cond u (some (entry_of j (j.place + 1))) none }) (record { after = original j; text = none }))
-          (step_in j (cond t (record { history = placed_at h (j.place + 1); recalled = cond u (Entry (j.place + 1)) Nothing }) (record { history = h; recalled = Nothing })))
+          (step_in j (cond t (record { history = placed_at h (j.place + 1); recalled = cond u (Some (j.place + 1)) None }) (record { history = h; recalled = None })))
       by true true = refl
       by true false = refl
       by false u = ap (λ (p : ℕ). record { after = original (at_place (journal_of h slots) p); text = none }) (place_held h slots)

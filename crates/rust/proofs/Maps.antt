@@ -1,8 +1,8 @@
 -- The Rust's maps of options and of flags are ours: the same insert, and a flag's `true` is our empty value.
 use Rattle.std.proofs.Common.{◌≡◌, ℕ, Bool, true, cond, List, [], ◌∷◌, refl, ap}
 use Rattle.buffer.specs.Compare.{order, same_bytes}
-use Rattle.buffer.specs.declared.order.Order.{Order}
-use Rattle.buffer.specs.declared.order.Order.TheVariants.{Less, Equal, Greater}
+use Rattle.std.specs.declared.cmp.Ordering.{Ordering}
+use Rattle.std.specs.declared.cmp.Ordering.TheVariants.{Less, Equal, Greater}
 use Rattle.table.specs.Map.{Map, on_order, put, has}
 use Rattle.rust.specs.Parser.{BTreeMap, insert, contains_key}
 use Rattle.rust.specs.Same.{flags_for}
@@ -22,7 +22,7 @@ unfolding insert put flags_for
 flag_is k [] = refl
 flag_is k (e ∷ m) = by (order k e.0) (flag_is k m)
   where
-    by : (o : Order) → insert k true (flags_for m) ≡ flags_for (put k [] m)
+    by : (o : Ordering) → insert k true (flags_for m) ≡ flags_for (put k [] m)
         → on_order o ((k, true) ∷ (e.0, true) ∷ flags_for m) ((k, true) ∷ flags_for m) ((e.0, true) ∷ insert k true (flags_for m))
         ≡ flags_for (on_order o ((k, []) ∷ e ∷ m) ((k, []) ∷ m) (e ∷ put k [] m))
     by Less more = refl

@@ -1,5 +1,6 @@
 -- A key of a session in the Rust's profile (STANDARD 2.22, 2.23) prints the frames of what one turn of the Rust's loop does: the bytes that it writes, what the line that it runs comes
 -- to, and the prompt, in the loop's order.
+use Rattle.std.specs.Prelude.{Ok, Result}
 use Rattle.std.proofs.Common.{◌≡◌, ℕ, ◌≤◌, Bool, true, false, cond, List, [], ◌∷◌, ◌++◌, length, sym, refl, ap, ◌∙◌, subst, append_assoc, append-nil}
 use Rattle.buffer.specs.Compare.{same_bytes}
 use Rattle.buffer.proofs.Choices.{then_is, else_is, true_is_not_false}
@@ -9,7 +10,6 @@ use Rattle.text.specs.Apart.{after_run, trim_end, trimmed, all_white, blank}
 use Rattle.image.specs.Frames.{Frame}
 use Rattle.tree.specs.Images.{frames_of}
 use Rattle.tree.specs.Forest.{Forest}
-use Rattle.tree.specs.declared.check.Checked.TheVariants.{Good}
 use Rattle.tree.proofs.Forests.{StandsFor, forest_good}
 use Rattle.buffer.specs.Ascii.{ascii}
 use Rattle.shell.specs.Lines.{Said, silence, text, farewell, handed as hands_over, builtin_of, begins_help, other_said, line_said, said_of}
@@ -24,6 +24,7 @@ use Rattle.session.specs.Lines.{Standing, in_state, Course, preceded, press_key,
 use Rattle.session.specs.Calls.{image_of, is_enter, tree_before, Laid, PressingKey}
 use Rattle.session.specs.Sizes.{key_room}
 use Rattle.session.specs.declared.running.Printing.{Printing}
+use Rattle.session.specs.declared.running.PrintRefusal.{PrintRefusal}
 use Rattle.session.specs.declared.standing.Session.{Session}
 use Rattle.session.specs.declared.pressing.Pressing.{Pressing}
 use Rattle.session.proofs.Screens.{Plain, screen_plain, enters_byte}
@@ -218,13 +219,13 @@ module _ (f : Forest) (printable : ℕ → Bool) where
       (subst (λ (sh : Shell). EachQuoted printable (commands_of f) (rust_keys prompt_without_fs sh keys).events) moved (quoted.1 (sym same.1 ∙ n)))))
 
 -- as it is called
-laid_as : {a b : List Printed} {e g : Bool} (out : List ℕ) (r : Printing) (out' : List ℕ) → a ≡ b → e ≡ g → Laid a e out r out' → Laid b g out r out'
+laid_as : {a b : List Printed} {e g : Bool} (out : List ℕ) (r : Result Printing PrintRefusal) (out' : List ℕ) → a ≡ b → e ≡ g → Laid a e out r out' → Laid b g out r out'
 laid_as out r out' p q l = rw (← p, ← q) l
 
 -- in the Rust's profile (2.22, 2.23)
 module _ (h : Session) (image slots : List ℕ) (byte : ℕ) (out : List ℕ) (r : Pressing) (slots' out' : List ℕ) (p : PressingKey h image slots byte out r slots' out')
     (room : key_room ≤ length out) (good : good_state h.editor h.history slots ≡ true) (own : h.editor.profile ≡ Rust) (f : Forest) (stands : is_enter byte ≡ true → StandsFor (image_of h image) f) where
-  tested : (b : Bool) → is_enter byte ≡ b → tree_before byte (image_of h image) ≡ Good
+  tested : (b : Bool) → is_enter byte ≡ b → tree_before byte (image_of h image) ≡ Ok tt
   unfolding tree_before
   tested true e = then_is _ _ _ e ∙ forest_good (image_of h image) f (stands e)
   tested false e = else_is _ _ _ e

@@ -2,8 +2,8 @@
 use Rattle.std.proofs.Common.{◌≡◌, ℕ, suc, Bool, true, false, cond, ltb, leb, List, [], ◌∷◌, ◌++◌, sym, refl, ap, ◌∙◌, append-nil}
 use mathlib.Core.Option.{Option, none, some}
 use Rattle.buffer.specs.Compare.{order, same_bytes}
-use Rattle.buffer.specs.declared.order.Order.{Order}
-use Rattle.buffer.specs.declared.order.Order.TheVariants.{Less, Equal, Greater}
+use Rattle.std.specs.declared.cmp.Ordering.{Ordering}
+use Rattle.std.specs.declared.cmp.Ordering.TheVariants.{Less, Equal, Greater}
 use Rattle.buffer.proofs.Choices.{true_is_not_false}
 use Rattle.image.specs.Frames.{Perhaps, Frame, node, option, flag}
 use Rattle.image.specs.Limits.{is_name, fair}
@@ -37,7 +37,7 @@ node_of t = command_node (some_of t.handler) (commands_of t.below) t.description
 abbrev pub Fine : ℕ → Tree → Type 0
 Fine d t = (before : List ℕ) × (orderly before d (alone t) ≡ true)
 
-less : (o : Order) → is_less o ≡ true → o ≡ Less
+less : (o : Ordering) → is_less o ≡ true → o ≡ Less
 less Less e = refl
 less Equal e = absurd (true_is_not_false (sym e))
 less Greater e = absurd (true_is_not_false (sym e))

@@ -1,10 +1,8 @@
 -- Our answers as the Rust would give them: what the laws of this crate equate (STANDARD 9.6).
-use Rattle.std.specs.Prelude.{◌≡◌, ℕ, Bool, true, cond, List, [], ◌∷◌, ◌++◌, drop, ◌==◌, nat_lt}
-use Rattle.std.proofs.Math.Option.{Option, none, some}
+use Rattle.std.specs.Prelude.{◌≡◌, ℕ, Bool, true, cond, List, [], ◌∷◌, ◌++◌, drop, ◌==◌, nat_lt, Some, None, Option}
+use Rattle.std.proofs.Math.Option.{Option as Maybe, none, some}
 use Rattle.text.specs.Decoding.{codes_in}
 use Rattle.history.specs.Journal.{Journal, entry_of, at_place}
-use Rattle.history.specs.declared.stepping.Recalled.{Recalled}
-use Rattle.history.specs.declared.stepping.Recalled.TheVariants.{Entry, Nothing}
 use Rattle.history.specs.declared.stepping.Step.{Step}
 use Rattle.keys.specs.declared.standing.Mode.{Mode}
 use Rattle.keys.specs.declared.standing.Mode.TheVariants.{Typing, Escape, Sequence, Control}
@@ -30,9 +28,9 @@ abbrev pub original : Journal → CommandHistory
 original j = record { history = j.entries; index = j.place; size = 100 }
 
 -- a step of ours in a history: the place that it leads to, and the entry of the number that it recalls
-abbrev pub recalled_in : Journal → Recalled → Option (List ℕ)
-recalled_in j (Entry n) = some (entry_of j n)
-recalled_in j Nothing = none
+abbrev pub recalled_in : Journal → Option ℕ → Maybe (List ℕ)
+recalled_in j (Some n) = some (entry_of j n)
+recalled_in j None = none
 
 abbrev pub step_in : Journal → Step → Stepped
 step_in j step = record { after = original (at_place j step.history.place); text = recalled_in j step.recalled }
@@ -74,7 +72,7 @@ result_for (parsed path found) = ok (record { path = path; options = found.optio
 result_for (fault number told) = err (error_for number told)
 
 -- what show_help does where help replies: it prints, or its error; with no words it panics
-abbrev pub reply_for : Reply → Option (Result (List ℕ))
+abbrev pub reply_for : Reply → Maybe (Result (List ℕ))
 reply_for (said bytes) = some (ok bytes)
 reply_for (unknown word) = some (err (UnknownCommand word))
 reply_for wordless = none
@@ -125,7 +123,7 @@ all_printed printable [] = true
 all_printed printable (c ∷ chars) = both (cond (nat_lt c 0x80) true (printable c)) (all_printed printable chars)
 
 -- the word that a line's `Debug` text quotes: the text of e where handle_builtin_commands(input) comes to println!("Error: {:?}", e), and nothing elsewhere
-abbrev pub word_in : Option (Result (List ℕ)) → List ℕ
+abbrev pub word_in : Maybe (Result (List ℕ)) → List ℕ
 word_in (some (ok bytes)) = []
 word_in (some (err e)) = text_in e
 word_in none = []

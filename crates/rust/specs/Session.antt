@@ -1,11 +1,12 @@
 -- What a session prints of the loop's events: bytes that are written are a frame 22; a line that is run is what it comes to, its output in a 22, its handler's call in a 21, the end in
 -- a 23 after its output, and nothing comes after that (STANDARD 2.9).
-use Rattle.std.specs.Prelude.{◌≡◌, ℕ, Bool, true, false, List, [], ◌∷◌, ◌++◌}
+use Rattle.std.specs.Prelude.{◌≡◌, ℕ, Bool, true, false, List, [], ◌∷◌, ◌++◌, Result}
 use Rattle.editor.specs.Turns.{State}
 use Rattle.session.specs.Prints.{Printed, handler, exit, shown}
 use Rattle.session.specs.Lines.{keys, line_form, Course}
 use Rattle.session.specs.Calls.{Laid}
 use Rattle.session.specs.declared.running.Printing.{Printing}
+use Rattle.session.specs.declared.running.PrintRefusal.{PrintRefusal}
 use Rattle.rust.specs.Tree.{Commands}
 use Rattle.rust.specs.Shell.{run_line}
 use Rattle.rust.specs.Loop.{Shell, Event, writes, runs, Loop, prompt_without_fs, rust_key, rust_keys}
@@ -67,6 +68,6 @@ pub data KeyLines : List (List ℕ) → List ℕ → Type 0 where
   more : (line : List ℕ) {bytes : List ℕ} {lines : List (List ℕ)} {others : List ℕ} → line_form line ≡ keys bytes → KeyLines lines others → KeyLines (line ∷ lines) (bytes ++ others)
 
 -- PRESS: one turn of the loop. The house lines in the out buffer are the frames of the loop's events, in its order, and the answer says whether they are the last.
-pub record PrintsAs (printable : ℕ → Bool) (tree : Commands) (turn : Loop) (out : List ℕ) (after : Shell) (r : Printing) (out' : List ℕ) : Type 0 where
+pub record PrintsAs (printable : ℕ → Bool) (tree : Commands) (turn : Loop) (out : List ℕ) (after : Shell) (r : Result Printing PrintRefusal) (out' : List ℕ) : Type 0 where
   pub state : after ≡ turn.after
   pub lines : Laid (printed_by printable tree turn.events) (ended_by printable tree turn.events) out r out'

@@ -1,4 +1,5 @@
 -- Laws of a redraw: its length, its parts written one after the other, each answer, and that there is no second one.
+use Rattle.std.specs.Prelude.{Ok, Err, Result}
 use Prim.Native.Nat.{ℕ, zero, suc, ◌+◌, ◌-◌, ◌^◌, ◌≤◌, ◌<◌, min}
 use mathlib.Core.Path.{◌≡◌, refl, sym, ap, ◌∙◌}
 use mathlib.Core.List.{List, [], ◌∷◌, ◌++◌, append_assoc}
@@ -11,8 +12,7 @@ use Rattle.buffer.proofs.Lending.{over_at_nothing}
 use Rattle.buffer.proofs.Writing.{pushed_both, pushed_front}
 use Rattle.screen.specs.Decimal.{decimal}
 use Rattle.screen.specs.Redraw.{clear_line, move_back, redraw, greatest_number, room_answer, Redraw}
-use Rattle.screen.specs.declared.line.Redrawn.{Redrawn}
-use Rattle.screen.specs.declared.line.Redrawn.TheVariants.{Shown, NoRoom}
+use Rattle.buffer.specs.declared.show.TooShort.{TooShort}
 use Rattle.screen.proofs.Numerals.{decimal_most}
 
 -- the move by no place, and by some
@@ -75,11 +75,11 @@ module _ (prompt content : List ℕ) (cursor : ℕ) where
 
   -- each answer, with what it leaves
   module _ (out : List ℕ) (n : ℕ) (e : n ≡ min (length (redraw prompt content cursor)) greatest_number) where
-    pub no_room : length out < n → Redraw prompt content cursor out (NoRoom n) out
+    pub no_room : length out < n → Redraw prompt content cursor out (Err (record { needed = n })) out
     unfolding room_answer over_if_fits
     no_room h =
         let l : length out < length (redraw prompt content cursor) = omega arith in
-        record { answer = sym (then_is _ _ _ (lt-ltb _ _ l) ∙ ap NoRoom (sym e)); bytes = sym (then_is _ _ _ (lt-ltb _ _ l)) }
+        record { answer = sym (then_is _ _ _ (lt-ltb _ _ l) ∙ ap (λ (n : ℕ). Err (record { needed = n })) (sym e)); bytes = sym (then_is _ _ _ (lt-ltb _ _ l)) }
 
     -- a buffer has fewer than 2^63 bytes, so a length that it has is not one past the range
     pub enough : length out < 2 ^ 63 → n ≤ length out → n ≡ length (redraw prompt content cursor)
@@ -88,18 +88,18 @@ module _ (prompt content : List ℕ) (cursor : ℕ) where
     pub room : length out < 2 ^ 63 → n ≤ length out → length prompt + length content + (length (move_back (length content - cursor)) + 5) ≤ length out
     room h k = let m = enough h k in let l = redraw_length in omega arith
 
-    pub shown : (left : List ℕ) → length out < 2 ^ 63 → n ≤ length out → left ≡ over (redraw prompt content cursor) out → Redraw prompt content cursor out (Shown n) left
+    pub shown : (left : List ℕ) → length out < 2 ^ 63 → n ≤ length out → left ≡ over (redraw prompt content cursor) out → Redraw prompt content cursor out (Ok n) left
     unfolding room_answer over_if_fits
     shown left h l w =
         let m = enough h l in
         let f : length (redraw prompt content cursor) ≤ length out = omega arith in
-        record { answer = sym (else_is _ _ _ (le-ltb _ _ f) ∙ ap Shown (sym m)); bytes = w ∙ sym (else_is _ _ _ (le-ltb _ _ f)) }
+        record { answer = sym (else_is _ _ _ (le-ltb _ _ f) ∙ ap Ok (sym m)); bytes = w ∙ sym (else_is _ _ _ (le-ltb _ _ f)) }
 
   -- the length needed is exact where the texts and a move fit 64 bits, as all that the editor holds do
   pub needed_exact : length prompt + length content ≤ 2 ^ 63 → min (length (redraw prompt content cursor)) greatest_number ≡ length (redraw prompt content cursor)
   needed_exact h = let m = move_few (length content - cursor) (omega arith) in let l = redraw_length in omega arith
 
 -- no second answer satisfies the contract
-pub one_answer : (prompt content : List ℕ) (cursor : ℕ) (out left other : List ℕ) (r q : Redrawn)
+pub one_answer : (prompt content : List ℕ) (cursor : ℕ) (out left other : List ℕ) (r q : Result ℕ TooShort)
     → Redraw prompt content cursor out r left → Redraw prompt content cursor out q other → (r ≡ q) × (left ≡ other)
 one_answer prompt content cursor out left other r q a b = (a.answer ∙ sym b.answer, a.bytes ∙ sym b.bytes)

@@ -1,10 +1,10 @@
 -- Worked examples: the standard's session, and a cursor in the line, byte for byte.
+use Rattle.std.specs.Prelude.{Ok, Err}
 use Prim.Native.Nat.{ℕ}
 use mathlib.Core.Path.{◌≡◌, refl}
 use mathlib.Core.List.{List, [], ◌∷◌}
 use Rattle.screen.specs.Decimal.{digits_in, decimal}
 use Rattle.screen.specs.Redraw.{move_back, redraw, room_answer}
-use Rattle.screen.specs.declared.line.Redrawn.TheVariants.{Shown, NoRoom}
 
 -- `axvisor:$ `
 prompt : List ℕ
@@ -46,10 +46,10 @@ unfolding decimal digits_in
 most = refl
 
 -- a buffer of the length needed, and one byte less
-enough : room_answer 18 18 ≡ Shown 18
+enough : room_answer 18 18 ≡ Ok 18
 unfolding room_answer
 enough = refl
 
-short : room_answer 18 17 ≡ NoRoom 18
+short : room_answer 18 17 ≡ Err (record { needed = 18 })
 unfolding room_answer
 short = refl

@@ -1,9 +1,8 @@
 -- What a redraw of the line writes (STANDARD 2), and what `clear_line_and_redraw` answers and leaves.
-use Rattle.std.specs.Prelude.{ℕ, zero, suc, ◌-◌, min, ◌≡◌, cond, List, [], ◌∷◌, ◌++◌, ltb, length}
+use Rattle.std.specs.Prelude.{ℕ, zero, suc, ◌-◌, min, ◌≡◌, cond, List, [], ◌∷◌, ◌++◌, ltb, length, Ok, Err, Result}
 use Rattle.buffer.specs.Write.{over_if_fits}
 use Rattle.screen.specs.Decimal.{decimal}
-use Rattle.screen.specs.declared.line.Redrawn.{Redrawn}
-use Rattle.screen.specs.declared.line.Redrawn.TheVariants.{Shown, NoRoom}
+use Rattle.buffer.specs.declared.show.TooShort.{TooShort}
 
 -- CR, then ESC `[2K`: the cursor goes to the left, and the line is cleared (2.19)
 abbrev pub clear_line : List ℕ
@@ -23,18 +22,18 @@ abbrev pub greatest_number : ℕ
 greatest_number = 0xFFFFFFFFFFFFFFFF
 
 -- the answer for n bytes and a buffer of `room` bytes (10.18)
-unfoldable pub room_answer : ℕ → ℕ → Redrawn
-room_answer n room = cond (ltb room n) (NoRoom (min n greatest_number)) (Shown n)
+unfoldable pub room_answer : ℕ → ℕ → Result ℕ TooShort
+room_answer n room = cond (ltb room n) (Err (record { needed = min n greatest_number })) (Ok n)
 
-pub record Redraw (prompt content : List ℕ) (cursor : ℕ) (out : List ℕ) (r : Redrawn) (left : List ℕ) : Type 0 where
+pub record Redraw (prompt content : List ℕ) (cursor : ℕ) (out : List ℕ) (r : Result ℕ TooShort) (left : List ℕ) : Type 0 where
   pub answer : r ≡ room_answer (length (redraw prompt content cursor)) (length out)
   pub bytes : left ≡ over_if_fits (redraw prompt content cursor) out
 
 -- the refusal's number (STANDARD 10.1; 0: none), and the value that goes with it
-abbrev pub number : Redrawn → ℕ
-number (Shown n) = 0
-number (NoRoom n) = 9
+abbrev pub number : Result ℕ TooShort → ℕ
+number (Ok n) = 0
+number (Err refusal) = 9
 
-abbrev pub value : Redrawn → ℕ
-value (Shown n) = n
-value (NoRoom n) = n
+abbrev pub value : Result ℕ TooShort → ℕ
+value (Ok n) = n
+value (Err refusal) = refusal.needed

@@ -15,7 +15,7 @@ pub fn decimal_size(n: usize) -> usize
     decimal_size(n / 10) + 1
 }
 
-// Writes the digits of n at the place `at` and returns the place after them.
+// Writes the digits of n at the place `at` and returns the place after them: its clause says which bytes lie there, so no `Display` writes them.
 pub fn push_decimal(n: usize, out: &mut [u8], at: usize) -> usize
     requires { at + length (decimal n) ≤ length out.old }
     ensures { Pushed (decimal n) out.old at result out.new }

@@ -4,4 +4,4 @@
 mod decimal;
 mod line;
 
-pub use line::{Redrawn, clear_line_and_redraw};
+pub use line::clear_line_and_redraw;

@@ -4,25 +4,13 @@ ghost use Rattle.buffer.specs.Write.{Pushed};
 ghost use Rattle.screen.specs.Redraw.{move_back, redraw, greatest_number, Redraw};
 
 use super::decimal::{decimal_size, push_decimal};
-use buffer::{push, push_byte};
-
-// What a redraw answers.
-#[derive(Clone, Copy)]
-pub enum Redrawn {
-    // It stands in the buffer, so many bytes.
-    Shown(usize),
-    // The buffer is too short: the length needed.
-    NoRoom(usize),
-}
+use buffer::{TooShort, push, push_byte};
 
 // How many places after the cursor the content ends.
 fn beyond(content: &[u8], cursor: usize) -> usize
     ensures { result ≡ length content.now - cursor }
 {
-    if cursor < content.len() {
-        return content.len() - cursor;
-    }
-    0
+    content.len().saturating_sub(cursor)
 }
 
 // How many bytes the move by n places back takes: with 64 bits for n, few.
@@ -41,10 +29,7 @@ fn redraw_size(prompt: &[u8], content: &[u8], cursor: usize) -> usize
 {
     let texts = prompt.len() + content.len();
     let rest = move_size(beyond(content, cursor)) + 5;
-    if 0xFFFFFFFFFFFFFFFF - rest < texts {
-        return 0xFFFFFFFFFFFFFFFF;
-    }
-    texts + rest
+    texts.saturating_add(rest)
 }
 
 // Writes the move by n places back at the place `at` and returns the place after it.
@@ -66,16 +51,16 @@ pub fn clear_line_and_redraw(
     content: &[u8],
     cursor: usize,
     out: &mut [u8],
-) -> Redrawn
+) -> Result<usize, TooShort>
     ensures { Redraw prompt.now content.now cursor out.old result out.new }
 {
     let needed = redraw_size(prompt, content, cursor);
     if out.len() < needed {
-        return Redrawn::NoRoom(needed);
+        return Err(TooShort { needed });
     }
     let start = push(b"\r\x1b[2K", out, 0);
     let text = push(prompt, out, start);
     let end = push(content, out, text);
     push_move(beyond(content, cursor), out, end);
-    Redrawn::Shown(needed)
+    Ok(needed)
 }

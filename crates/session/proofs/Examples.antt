@@ -5,7 +5,7 @@ use mathlib.Core.List.{List, [], ◌∷◌, ◌++◌}
 use Rattle.buffer.specs.Write.{over_if_fits}
 use Rattle.text.specs.Unicode.{encode, encode_all}
 use Rattle.text.specs.Decoding.{least_second, greatest_second, within, decode_two, decode_three, decode_four, table, decode_first, letter, letter_first, pieces_from, pieces_of, bytes_all, codes_of, codes_in, well_formed_length}
-use Rattle.text.specs.Inner.{letter_head, low_white, gap}
+use Rattle.text.specs.Inner.{letter_head}
 use Rattle.text.specs.Space.{white_space, among, is_white_space}
 use Rattle.text.specs.Apart.{run_of, after_run, trim_end, trimmed, all_white, blank, words_after, words_between, next_word}
 use Rattle.buffer.specs.Compare.{order, same_bytes}
@@ -64,7 +64,7 @@ output =
     ++ ascii "2261787669736f723a2420\n"))))
 
 in_full : lines_of (session (beginning Rust) input) ≡ output
-unfolding encode encode_all least_second greatest_second within decode_two decode_three decode_four table decode_first letter letter_head letter_first pieces_from pieces_of bytes_all codes_of codes_in well_formed_length white_space among is_white_space low_white gap run_of after_run trim_end trimmed all_white blank words_after words_between next_word order same_bytes Bytes number_bytes number_of text_of read_text frame_of frame_first texts_from texts_in runs house_line ends_in_lF digits_of read_digits read_house house_leaves write_house over_if_fits digit_of hex_of digit_value pair_of unhex first_bad text perhaps encode_frame span node_lengths definition_lengths node_first option_first flag_first head_first perhaps_in node_in option_in flag_in defined_in strict_first read_first all_shown is_name is_note is_short definable fair items_from items frames_in frames_of flat rises follows obeys after judge_items obey_all check_tree up_to on_from subtree tree_named role_of tokens_from tokens words_of word_frames put look has among_table put_within definitions_of definitions_at first_name meaning is_option before_equals long_form form_of with_option with_flag with_positional short_steps args option_frame flag_frame report_of fault_of dashed report_answer report_leaves descend is_missing missing_required concluded parse_in parse_words parse_line told_in outcome_answer outcome_leaves parse_answer parse_leaves ascii builtin_of begins_help help_words fault_message joined handler_of carried execute_in execute other_said line_said said_of digits_in decimal value_after digits_value move_back redraw room_answer most_entries newest_is is_new with_room added well_formed usable sound limit padded holding line_of good_line inserted erased content redrawn enter erase insert typed escaped sequenced up on_place down right left turn_of after_keys record_of slots_of journal_of wide frame_of_session lines_of shown prompt answered leaves key_prints key_ends form_of_session line_form one_frame takes take_form take_line press_key press_keys on_taking line_course session input output
+unfolding encode encode_all least_second greatest_second within decode_two decode_three decode_four table decode_first letter letter_head letter_first pieces_from pieces_of bytes_all codes_of codes_in well_formed_length white_space among is_white_space run_of after_run trim_end trimmed all_white blank words_after words_between next_word order same_bytes Bytes number_bytes number_of text_of read_text frame_of frame_first texts_from texts_in runs house_line ends_in_lF digits_of read_digits read_house house_leaves write_house over_if_fits digit_of hex_of digit_value pair_of unhex first_bad text perhaps encode_frame span node_lengths definition_lengths node_first option_first flag_first head_first perhaps_in node_in option_in flag_in defined_in strict_first read_first all_shown is_name is_note is_short definable fair items_from items frames_in frames_of flat rises follows obeys after judge_items obey_all check_tree up_to on_from subtree tree_named role_of tokens_from tokens words_of word_frames put look has among_table put_within definitions_of definitions_at first_name meaning is_option before_equals long_form form_of with_option with_flag with_positional short_steps args option_frame flag_frame report_of fault_of dashed report_answer report_leaves descend is_missing missing_required concluded parse_in parse_words parse_line told_in outcome_answer outcome_leaves parse_answer parse_leaves ascii builtin_of begins_help help_words fault_message joined handler_of carried execute_in execute other_said line_said said_of digits_in decimal value_after digits_value move_back redraw room_answer most_entries newest_is is_new with_room added well_formed usable sound limit padded holding line_of good_line inserted erased content redrawn enter erase insert typed escaped sequenced up on_place down right left turn_of after_keys record_of slots_of journal_of wide frame_of_session lines_of shown prompt answered leaves key_prints key_ends form_of_session line_form one_frame takes take_form take_line press_key press_keys on_taking line_course session input output
 in_full = refl
 
 -- keys read as ECMA-48 has them: `a`, `c`, Home, Delete, and a sequence with two parameters, which does nothing and is swallowed whole
@@ -79,5 +79,5 @@ shows_edited =
     ++ ascii "220d1b5b324b61787669736f723a2420631b5b3144\n"))
 
 in_ecma : lines_of (session (beginning Ecma48) edited) ≡ shows_edited
-unfolding encode encode_all least_second greatest_second within decode_two decode_three decode_four table decode_first letter letter_head letter_first pieces_from pieces_of bytes_all codes_of codes_in well_formed_length well_formed low_white gap Bytes number_bytes number_of house_line ends_in_lF digits_of read_digits read_house digit_of hex_of digit_value pair_of unhex first_bad ascii digits_in decimal move_back redraw limit inserted erased content redrawn insert go_to delete typed escaped sequenced controlled awaiting_more other longest between arrow_of letter_by tilde ended digit further turn_of lines_of frame_of_session shown prompt key_prints key_ends wide form_of_session line_form take_form take_line press_key press_keys on_taking line_course session edited shows_edited
+unfolding encode encode_all least_second greatest_second within decode_two decode_three decode_four table decode_first letter letter_head letter_first pieces_from pieces_of bytes_all codes_of codes_in well_formed_length well_formed Bytes number_bytes number_of house_line ends_in_lF digits_of read_digits read_house digit_of hex_of digit_value pair_of unhex first_bad ascii digits_in decimal move_back redraw limit inserted erased content redrawn insert go_to delete typed escaped sequenced controlled awaiting_more other longest between arrow_of letter_by tilde ended digit further turn_of lines_of frame_of_session shown prompt key_prints key_ends wide form_of_session line_form take_form take_line press_key press_keys on_taking line_course session edited shows_edited
 in_ecma = refl

@@ -1,4 +1,5 @@
 -- A line that is taken: what the calls hold after it is where the definitions say that the session stands. And no second answer satisfies a contract.
+use Rattle.std.specs.Prelude.{Ok, Err, Result, ⊤, Some}
 use Prim.Native.Nat.{ℕ, ◌+◌, ◌≤◌, ◌<◌}
 use mathlib.Core.Path.{◌≡◌, refl, sym, ap, ◌∙◌, subst}
 use mathlib.Core.Bool.{Bool, true, false, cond}
@@ -13,17 +14,14 @@ use Rattle.buffer.proofs.Choices.{then_is, else_is, true_is_not_false}
 use Rattle.buffer.specs.Numbers.{Bytes}
 use Rattle.frame.specs.Hex.{unhex}
 use Rattle.frame.specs.House.{digits_of, read_house, left_by, house_leaves}
-use Rattle.frame.specs.declared.house.House.{House}
-use Rattle.frame.specs.declared.house.House.TheVariants.{Frame, Unended, Empty, TooLong, Odd, NoDigit, Short}
+use Rattle.frame.specs.declared.house.HouseRefusal.{HouseRefusal}
+use Rattle.frame.specs.declared.house.HouseRefusal.TheVariants.{Unended, Empty, TooLong, Odd, NoDigit, Short}
 use Rattle.frame.proofs.Digits.{unhex_bytes}
 use Rattle.image.specs.Reading.{read_first}
 use Rattle.image.specs.Frames.{Frame as TreeFrame}
-use Rattle.tree.specs.declared.check.Checked.{Checked}
-use Rattle.tree.specs.declared.check.Checked.TheVariants.{Good, BadFrame}
-use Rattle.tree.specs.Steps.{step_if}
-use Rattle.tree.specs.declared.walk.Step.{Step}
+use Rattle.tree.specs.declared.check.BadFrame.{BadFrame}
 use Rattle.tree.specs.Growth.{takes, admits, passed_by}
-use Rattle.tree.proofs.Grown.{Growth, grows as grows_by, grows_whole}
+use Rattle.tree.proofs.Grown.{grows as grows_by, admits_whole}
 use Rattle.editor.specs.Turns.{State, Kind, shows, enters, drops, Turn, turn_of}
 use Rattle.editor.specs.Answer.{good_state}
 use Rattle.editor.proofs.Fine.{Fine}
@@ -31,8 +29,10 @@ use Rattle.session.specs.Prints.{prompt, turn_prints, key_prints, turn_ends, key
 use Rattle.session.specs.Lines.{Form, tree, keys, formless, form_of, form_by, line_form, Standing, with_image, with_keys as keyed_now, Taking, grown, pressing, refused, take_form, take_line}
 use Rattle.session.specs.Calls.{with_walk, with_keys, refusing, took_by, image_by, TakingLine, image_of, is_enter, tree_before, Kept, PressingKey, RefusingLine}
 use Rattle.session.specs.Sizes.{key_room}
+use Rattle.buffer.specs.declared.show.TooShort.{TooShort}
 use Rattle.session.specs.declared.running.Printing.{Printing}
-use Rattle.session.specs.declared.running.Printing.TheVariants.{BadTree, BadState, NoRoom}
+use Rattle.session.specs.declared.running.PrintRefusal.{PrintRefusal}
+use Rattle.session.specs.declared.running.PrintRefusal.TheVariants.{BadTree, BadState, NoRoom}
 use Rattle.session.specs.declared.pressing.Pressing.{Pressing}
 use Rattle.session.specs.declared.standing.Session.{Session}
 use Rattle.session.specs.declared.taking.Taken.TheVariants.{Tree, Keys, BadLine}
@@ -42,25 +42,25 @@ use Rattle.session.proofs.Screens.{enters_byte}
 use Rattle.session.specs.Held.{Holds}
 
 -- what a line is by its house line: the frame of a tree line, and the keys after a 20
-tree_told : (x : House) (bytes frame : List ℕ) → form_by x bytes ≡ tree frame → frame ≡ bytes
+tree_told : (x : Result ℕ HouseRefusal) (bytes frame : List ℕ) → form_by x bytes ≡ tree frame → frame ≡ bytes
 unfolding form_of
-tree_told (Frame n) [] frame e = absurd (let z : ◌≡◌ {A = ℕ} 0 1 = cc in omega arith)
-tree_told (Frame n) (a ∷ l) frame e = by (eqb a 0x20) e
+tree_told (Ok n) [] frame e = absurd (let z : ◌≡◌ {A = ℕ} 0 1 = cc in omega arith)
+tree_told (Ok n) (a ∷ l) frame e = by (eqb a 0x20) e
   where
     by : (b : Bool) → cond b (keys l) (tree (a ∷ l)) ≡ tree frame → frame ≡ a ∷ l
     by true q = absurd (let z : ◌≡◌ {A = ℕ} 0 1 = cc in omega arith)
     by false q = cc
-tree_told Unended bytes frame e = absurd (let z : ◌≡◌ {A = ℕ} 0 1 = cc in omega arith)
-tree_told Empty bytes frame e = absurd (let z : ◌≡◌ {A = ℕ} 0 1 = cc in omega arith)
-tree_told TooLong bytes frame e = absurd (let z : ◌≡◌ {A = ℕ} 0 1 = cc in omega arith)
-tree_told Odd bytes frame e = absurd (let z : ◌≡◌ {A = ℕ} 0 1 = cc in omega arith)
-tree_told (NoDigit place) bytes frame e = absurd (let z : ◌≡◌ {A = ℕ} 0 1 = cc in omega arith)
-tree_told (Short needed) bytes frame e = absurd (let z : ◌≡◌ {A = ℕ} 0 1 = cc in omega arith)
+tree_told (Err Unended) bytes frame e = absurd (let z : ◌≡◌ {A = ℕ} 0 1 = cc in omega arith)
+tree_told (Err Empty) bytes frame e = absurd (let z : ◌≡◌ {A = ℕ} 0 1 = cc in omega arith)
+tree_told (Err TooLong) bytes frame e = absurd (let z : ◌≡◌ {A = ℕ} 0 1 = cc in omega arith)
+tree_told (Err Odd) bytes frame e = absurd (let z : ◌≡◌ {A = ℕ} 0 1 = cc in omega arith)
+tree_told (Err (NoDigit place)) bytes frame e = absurd (let z : ◌≡◌ {A = ℕ} 0 1 = cc in omega arith)
+tree_told (Err (Short needed)) bytes frame e = absurd (let z : ◌≡◌ {A = ℕ} 0 1 = cc in omega arith)
 
-keys_told : (x : House) (bytes pressed out : List ℕ) → form_by x bytes ≡ keys pressed → take (1 + length pressed) (left_by x bytes out) ≡ 0x20 ∷ pressed
+keys_told : (x : Result ℕ HouseRefusal) (bytes pressed out : List ℕ) → form_by x bytes ≡ keys pressed → take (1 + length pressed) (left_by x bytes out) ≡ 0x20 ∷ pressed
 unfolding form_of over
-keys_told (Frame n) [] pressed out e = absurd (let z : ◌≡◌ {A = ℕ} 0 1 = cc in omega arith)
-keys_told (Frame n) (a ∷ l) pressed out e = by (eqb a 0x20) refl e
+keys_told (Ok n) [] pressed out e = absurd (let z : ◌≡◌ {A = ℕ} 0 1 = cc in omega arith)
+keys_told (Ok n) (a ∷ l) pressed out e = by (eqb a 0x20) refl e
   where
     by : (b : Bool) → eqb a 0x20 ≡ b → cond b (keys l) (tree (a ∷ l)) ≡ keys pressed → take (1 + length pressed) ((a ∷ l) ++ drop (length (a ∷ l)) out) ≡ 0x20 ∷ pressed
     by true p q =
@@ -69,12 +69,12 @@ keys_told (Frame n) (a ∷ l) pressed out e = by (eqb a 0x20) refl e
         let size : 1 + length pressed ≡ length (a ∷ l) = let k = ap length same in omega arith in
         ap (λ (n : ℕ). take n ((a ∷ l) ++ drop (length (a ∷ l)) out)) size ∙ take-append_seam (a ∷ l) (drop (length (a ∷ l)) out) ∙ ap (λ (x : ℕ). x ∷ l) first ∙ ap (λ (x : List ℕ). 0x20 ∷ x) same
     by false p q = absurd (let z : ◌≡◌ {A = ℕ} 0 1 = cc in omega arith)
-keys_told Unended bytes pressed out e = absurd (let z : ◌≡◌ {A = ℕ} 0 1 = cc in omega arith)
-keys_told Empty bytes pressed out e = absurd (let z : ◌≡◌ {A = ℕ} 0 1 = cc in omega arith)
-keys_told TooLong bytes pressed out e = absurd (let z : ◌≡◌ {A = ℕ} 0 1 = cc in omega arith)
-keys_told Odd bytes pressed out e = absurd (let z : ◌≡◌ {A = ℕ} 0 1 = cc in omega arith)
-keys_told (NoDigit place) bytes pressed out e = absurd (let z : ◌≡◌ {A = ℕ} 0 1 = cc in omega arith)
-keys_told (Short needed) bytes pressed out e = absurd (let z : ◌≡◌ {A = ℕ} 0 1 = cc in omega arith)
+keys_told (Err Unended) bytes pressed out e = absurd (let z : ◌≡◌ {A = ℕ} 0 1 = cc in omega arith)
+keys_told (Err Empty) bytes pressed out e = absurd (let z : ◌≡◌ {A = ℕ} 0 1 = cc in omega arith)
+keys_told (Err TooLong) bytes pressed out e = absurd (let z : ◌≡◌ {A = ℕ} 0 1 = cc in omega arith)
+keys_told (Err Odd) bytes pressed out e = absurd (let z : ◌≡◌ {A = ℕ} 0 1 = cc in omega arith)
+keys_told (Err (NoDigit place)) bytes pressed out e = absurd (let z : ◌≡◌ {A = ℕ} 0 1 = cc in omega arith)
+keys_told (Err (Short needed)) bytes pressed out e = absurd (let z : ◌≡◌ {A = ℕ} 0 1 = cc in omega arith)
 
 -- what a line brings, as the code tells it: a longer image, keys in the buffer for a frame, or the number of a bad line
 abbrev pub Brings : Taking → List ℕ → List ℕ → Took → List ℕ → List ℕ → Type 0
@@ -86,27 +86,20 @@ Brings (refused number) image slots r image' frame' = (r.answer ≡ BadLine numb
 module _ (s : Standing) (h : Session) (image slots : List ℕ) (k : Holds s h image slots) (room : 32768 ≤ length image) where
   -- a frame of the tree is taken exactly if the image takes it, and the image has it then
   module _ (frame : List ℕ) (b : Bytes frame) where
-    abbrev step : Step
-    step = step_if (admits h.walk frame image) h.walk (passed_by h.walk (read_first frame))
-
-    growth : Growth h.walk frame image step (cond (admits h.walk frame image) (over_at frame image h.walk.at) image)
-    growth = grows_by h.walk frame image k.stands b step _ (record { answer = refl; bytes = refl })
-
     admits_held : admits h.walk frame image ≡ takes s.image frame
-    admits_held = grows_whole h.walk frame image step _ k.stands room growth ∙ ap (λ (x : List ℕ). takes x frame) k.tree
+    admits_held = admits_whole h.walk frame image k.stands b room ∙ ap (λ (x : List ℕ). takes x frame) k.tree
 
     grown_held : takes s.image frame ≡ true → Holds (with_image s (s.image ++ frame)) (with_walk h (passed_by h.walk (read_first frame))) (over_at frame image h.walk.at) slots
     grown_held e =
         let a : admits h.walk frame image ≡ true = admits_held ∙ e in
-        let g : Growth h.walk frame image (step_if true h.walk (passed_by h.walk (read_first frame))) (over_at frame image h.walk.at) =
-        subst (λ (x : Bool). Growth h.walk frame image (step_if x h.walk (passed_by h.walk (read_first frame))) (cond x (over_at frame image h.walk.at) image)) a growth in
+        let g = grows_by h.walk frame image k.stands b (Some (passed_by h.walk (read_first frame))) (over_at frame image h.walk.at) (record { answer = rw a; bytes = rw a }) in
         record {
           editor = k.editor;
           history = k.history;
           held = k.held;
           fine = k.fine;
-          stands = g.stands;
-          tree = g.image ∙ ap (λ (x : List ℕ). x ++ frame) k.tree;
+          stands = g.2;
+          tree = g.1 ∙ ap (λ (x : List ℕ). x ++ frame) k.tree;
           keyed = k.keyed;
           lines = ap (λ (n : ℕ). n + 1) k.lines;
         }
@@ -135,7 +128,7 @@ module _ (s : Standing) (h : Session) (image slots : List ℕ) (k : Holds s h im
       let goes : h.lines < 65535 = let n = k.lines in omega arith in
       by (line_form line) refl
       (p.answer ∙ both_wide h line image frame goes wide room _ _ _) (p.built ∙ both_wide h line image frame goes wide room _ _ _)
-      (p.read ∙ both_wide h line image frame goes wide room _ _ _ ∙ ap (λ (x : House). left_by x (unhex (digits_of line)) frame) (house_room line (length frame) wide))
+      (p.read ∙ both_wide h line image frame goes wide room _ _ _ ∙ ap (λ (x : Result ℕ HouseRefusal). left_by x (unhex (digits_of line)) frame) (house_room line (length frame) wide))
     where
       by : (f : Form) → line_form line ≡ f → r ≡ took_by h image f → image' ≡ image_by h image f → frame' ≡ left_by (read_house line 512) (unhex (digits_of line)) frame
           → Brings (take_form s f) image slots r image' frame'
@@ -184,33 +177,33 @@ pub one_line : (h : Session) (line image frame : List ℕ) (r q : Took) (i f i' 
     → (r ≡ q) × (i ≡ i') × (f ≡ f')
 one_line h line image frame r q i f i' f' a b = (a.answer ∙ sym b.answer, a.built ∙ sym b.built, a.read ∙ sym b.read)
 
-pub one_refusal : (number : ℕ) (out : List ℕ) (r q : Printing) (o o' : List ℕ) → RefusingLine number out r o → RefusingLine number out q o' → (r ≡ q) × (o ≡ o')
+pub one_refusal : (number : ℕ) (out : List ℕ) (r q : Result ℕ TooShort) (o o' : List ℕ) → RefusingLine number out r o → RefusingLine number out q o' → (r ≡ q) × (o ≡ o')
 one_refusal number out r q o o' a b = by (ltb (length out) 7) refl
   where
     by : (t : Bool) → ltb (length out) 7 ≡ t → (r ≡ q) × (o ≡ o')
     by true e = let x = a.short (ltb-true _ _ e) in let y = b.short (ltb-true _ _ e) in (x.0 ∙ sym y.0, x.1 ∙ sym y.1)
-    by false e = let x = a.told (ltb-false _ _ e) in let y = b.told (ltb-false _ _ e) in (x.answer ∙ sym y.answer, x.bytes ∙ sym y.bytes)
+    by false e = let x = a.told (ltb-false _ _ e) in let y = b.told (ltb-false _ _ e) in (x.0 ∙ sym y.0, x.1 ∙ sym y.1)
 
 module _ (h : Session) (image slots : List ℕ) (byte : ℕ) (out : List ℕ) (r q : Pressing) (l o l' o' : List ℕ)
     (a : PressingKey h image slots byte out r l o) (b : PressingKey h image slots byte out q l' o') where
-  kept : (x : Printing) → (r.answer ≡ x) × Kept h slots out r l o → (q.answer ≡ x) × Kept h slots out q l' o' → (r.answer ≡ q.answer) × (r.session ≡ q.session) × (l ≡ l') × (o ≡ o')
+  kept : (x : Result Printing PrintRefusal) → (r.answer ≡ x) × Kept h slots out r l o → (q.answer ≡ x) × Kept h slots out q l' o' → (r.answer ≡ q.answer) × (r.session ≡ q.session) × (l ≡ l') × (o ≡ o')
   kept x m n = (m.0 ∙ sym n.0, m.1.session ∙ sym n.1.session, m.1.held ∙ sym n.1.held, m.1.bytes ∙ sym n.1.bytes)
 
   pub one_press : (r.answer ≡ q.answer) × (r.session ≡ q.session) × (l ≡ l') × (o ≡ o')
   one_press = roomy (ltb (length out) key_room) refl
     where
-      state : key_room ≤ length out → tree_before byte (image_of h image) ≡ Good → (t : Bool) → good_state h.editor h.history slots ≡ t
+      state : key_room ≤ length out → tree_before byte (image_of h image) ≡ Ok tt → (t : Bool) → good_state h.editor h.history slots ≡ t
           → (r.answer ≡ q.answer) × (r.session ≡ q.session) × (l ≡ l') × (o ≡ o')
       state m g true e =
           let x = a.pressed m g e in
           let y = b.pressed m g e in
           (x.lines.answer ∙ sym y.lines.answer, x.session ∙ sym y.session, x.held ∙ sym y.held, x.lines.bytes ∙ sym y.lines.bytes)
-      state m g false e = kept BadState (a.bad_state m g e) (b.bad_state m g e)
+      state m g false e = kept (Err BadState) (a.bad_state m g e) (b.bad_state m g e)
 
-      tested : key_room ≤ length out → (x : Checked) → tree_before byte (image_of h image) ≡ x → (r.answer ≡ q.answer) × (r.session ≡ q.session) × (l ≡ l') × (o ≡ o')
-      tested m Good e = state m e (good_state h.editor h.history slots) refl
-      tested m (BadFrame n) e = kept (BadTree n) (a.bad_tree m n e) (b.bad_tree m n e)
+      tested : key_room ≤ length out → (x : Result ⊤ BadFrame) → tree_before byte (image_of h image) ≡ x → (r.answer ≡ q.answer) × (r.session ≡ q.session) × (l ≡ l') × (o ≡ o')
+      tested m (Ok u) e = state m e (good_state h.editor h.history slots) refl
+      tested m (Err refusal) e = kept (Err (BadTree refusal.number)) (a.bad_tree m refusal.number e) (b.bad_tree m refusal.number e)
 
       roomy : (t : Bool) → ltb (length out) key_room ≡ t → (r.answer ≡ q.answer) × (r.session ≡ q.session) × (l ≡ l') × (o ≡ o')
-      roomy true e = kept (NoRoom key_room) (a.short (ltb-true _ _ e)) (b.short (ltb-true _ _ e))
+      roomy true e = kept (Err (NoRoom key_room)) (a.short (ltb-true _ _ e)) (b.short (ltb-true _ _ e))
       roomy false e = tested (ltb-false _ _ e) (tree_before byte (image_of h image)) refl

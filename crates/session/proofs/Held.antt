@@ -1,4 +1,5 @@
 -- A session from its first line on: what the calls hold is where the definitions say that the session stands, key after key.
+use Rattle.std.specs.Prelude.{Ok}
 use Prim.Native.Nat.{ℕ, ◌≤◌}
 use mathlib.Core.Path.{◌≡◌, refl, sym, ap, ◌∙◌, subst}
 use mathlib.Core.Bool.{Bool, true, false, cond}
@@ -6,7 +7,6 @@ use mathlib.Core.List.{List}
 use lib.ListN.{length}
 use Rattle.tree.specs.Images.{frames_of}
 use Rattle.tree.specs.Rules.{check_tree}
-use Rattle.tree.specs.declared.check.Checked.TheVariants.{Good}
 use Rattle.tree.proofs.Grown.{Stands, start_stands, stands_good}
 use Rattle.history.specs.Journal.{no_entries, slots_of as journal_slots}
 use Rattle.history.specs.declared.stepping.History.{History}
@@ -42,14 +42,14 @@ module _ (s : Standing) (h : Session) (image slots : List ℕ) (k : Holds s h im
   pub holds_good : good_state h.editor h.history slots ≡ true
   holds_good = (same_state k.editor k.history k.held).1 ∙ fine_good s.state k.fine
 
-  pub holds_tree : check_tree (image_of h image) ≡ Good
+  pub holds_tree : check_tree (image_of h image) ≡ Ok tt
   holds_tree = stands_good image h.walk k.stands
 
-  holds_tested : (byte : ℕ) → tree_before byte (image_of h image) ≡ Good
+  holds_tested : (byte : ℕ) → tree_before byte (image_of h image) ≡ Ok tt
   unfolding tree_before
   holds_tested byte = by (is_enter byte)
     where
-      by : (t : Bool) → cond t (check_tree (image_of h image)) Good ≡ Good
+      by : (t : Bool) → cond t (check_tree (image_of h image)) (Ok tt) ≡ Ok tt
       by true = holds_tree
       by false = refl
 

@@ -1,4 +1,5 @@
 -- Laws of frames printed as house lines, one after the other.
+use Rattle.std.specs.Prelude.{Ok, Err, Result}
 use Prim.Native.Nat.{ℕ, ◌+◌, ◌-◌, ◌*◌, ◌≤◌, ◌<◌}
 use mathlib.Core.Path.{◌≡◌, refl, sym, ap, ◌∙◌}
 use mathlib.Core.List.{List, [], ◌∷◌, ◌++◌, append_assoc, append-nil}
@@ -11,14 +12,13 @@ use Rattle.buffer.proofs.Choices.{else_is}
 use Rattle.buffer.proofs.Lending.{over_at_nothing, rest_lent}
 use Rattle.buffer.proofs.Writing.{rest_pushed}
 use Rattle.frame.specs.House.{house_line, write_house, HouseWritten}
-use Rattle.frame.specs.declared.house.Lined.{Lined}
-use Rattle.frame.specs.declared.house.Lined.TheVariants.{Written as Done, Short}
+use Rattle.buffer.specs.declared.show.TooShort.{TooShort}
 use Rattle.frame.proofs.Lines.{length_house_line}
 use Rattle.session.specs.Prints.{Printed, frame_of, lines_of, shown}
 
 -- where there is room, the line is written
-pub house_room : (frame out left : List ℕ) (r : Lined) → 2 * length frame + 1 ≤ length out → HouseWritten frame out r left
-    → (r ≡ Done (length (house_line frame))) × (left ≡ over (house_line frame) out)
+pub house_room : (frame out left : List ℕ) (r : Result ℕ TooShort) → 2 * length frame + 1 ≤ length out → HouseWritten frame out r left
+    → (r ≡ Ok (length (house_line frame))) × (left ≡ over (house_line frame) out)
 unfolding write_house over_if_fits
 house_room frame out left r h w =
     let l = length_house_line frame in
@@ -29,9 +29,9 @@ rest_size : (d : List ℕ) (o : ℕ) → length (take (length d - o) (drop o d))
 rest_size d o = ap length (rest_lent d o) ∙ length-drop o d
 
 -- a frame that is printed into a rest that was lent is printed at its place
-pub printed_at : (frame out e : List ℕ) (at : ℕ) (r : Lined) → at + (2 * length frame + 1) ≤ length out
+pub printed_at : (frame out e : List ℕ) (at : ℕ) (r : Result ℕ TooShort) → at + (2 * length frame + 1) ≤ length out
     → HouseWritten frame (take (length out - at) (drop at out)) r e
-    → (r ≡ Done (length (house_line frame))) × Pushed (house_line frame) out at (at + length (house_line frame)) (put_mid at (length out - at) out e)
+    → (r ≡ Ok (length (house_line frame))) × Pushed (house_line frame) out at (at + length (house_line frame)) (put_mid at (length out - at) out e)
 printed_at frame out e at r h w =
     let l = rest_size out at in
     let p = house_room frame (take (length out - at) (drop at out)) e r (omega arith) w in
@@ -73,17 +73,17 @@ kind_first [] k h e = absurd (omega arith)
 kind_first (a ∷ s) k h e = ap (λ (x : ℕ). x ∷ s) e
 
 -- what the answer to a printed frame tells
-module _ (frame out e : List ℕ) (at n : ℕ) (r : Lined) (h : at + (2 * length frame + 1) ≤ length out) (w : HouseWritten frame (take (length out - at) (drop at out)) r e) where
-  pub print_never : r ≡ Short n → ⊥
+module _ (frame out e : List ℕ) (at n : ℕ) (r : Result ℕ TooShort) (h : at + (2 * length frame + 1) ≤ length out) (w : HouseWritten frame (take (length out - at) (drop at out)) r e) where
+  pub print_never : r ≡ Err (record { needed = n }) → ⊥
   print_never s = absurd (let z : ◌≡◌ {A = ℕ} 0 1 = let p = (printed_at frame out e at r h w).0 in cc in omega arith)
 
-  counted : r ≡ Done n → n ≡ length (house_line frame)
+  counted : r ≡ Ok n → n ≡ length (house_line frame)
   counted s = let p = (printed_at frame out e at r h w).0 in cc
 
-  pub print_count : r ≡ Done n → n ≡ 2 * length frame + 1
+  pub print_count : r ≡ Ok n → n ≡ 2 * length frame + 1
   print_count s = let a = counted s in let l = length_house_line frame in omega arith
 
-  pub print_told : r ≡ Done n → Pushed (house_line frame) out at (at + n) (put_mid at (length out - at) out e)
+  pub print_told : r ≡ Ok n → Pushed (house_line frame) out at (at + n) (put_mid at (length out - at) out e)
   print_told s = rw (counted s) (printed_at frame out e at r h w).1
 
 -- screen bytes after their kind

@@ -1,4 +1,5 @@
 -- What a key shows is short: the session's own buffer always has room for it. And which keys run a line.
+use Rattle.std.specs.Prelude.{Ok, Result, ⊤}
 use Prim.Native.Nat.{ℕ, zero, suc, ◌+◌, ◌-◌, ◌/◌, ◌%◌, ◌≤◌}
 use mathlib.Core.Path.{◌≡◌, refl, sym, ap, ◌∙◌}
 use mathlib.Core.Bool.{Bool, true, false, cond}
@@ -10,8 +11,7 @@ use lib.Dec.{eqb, ltb, leb}
 use lib.ListN.{length, length-append}
 use Rattle.buffer.proofs.Choices.{then_is, else_is, true_is_not_false}
 use Rattle.tree.specs.Rules.{check_tree}
-use Rattle.tree.specs.declared.check.Checked.{Checked}
-use Rattle.tree.specs.declared.check.Checked.TheVariants.{Good}
+use Rattle.tree.specs.declared.check.BadFrame.{BadFrame}
 use Rattle.text.specs.Decoding.{well_formed}
 use Rattle.history.specs.Journal.{count}
 use Rattle.screen.specs.Decimal.{digits_in, decimal}
@@ -80,12 +80,12 @@ module _ (byte : ℕ) where
       by true = refl
       by false = e
 
-  pub tested_before : (image : List ℕ) (told : Checked) → (byte ≡ 0x0A) ⊎ (byte ≡ 0x0D) → told ≡ check_tree image → told ≡ tree_before byte image
+  pub tested_before : (image : List ℕ) (told : Result ⊤ BadFrame) → (byte ≡ 0x0A) ⊎ (byte ≡ 0x0D) → told ≡ check_tree image → told ≡ tree_before byte image
   unfolding tree_before
   tested_before image told (inl e) k = k ∙ sym (then_is _ _ _ (lf_enters (eq-eqb byte 0x0A e)))
   tested_before image told (inr e) k = k ∙ sym (then_is _ _ _ (cr_enters (eq-eqb byte 0x0D e)))
 
-  pub untested : (image : List ℕ) → ((byte ≡ 0x0A) ⊎ (byte ≡ 0x0D) → ⊥) → Good ≡ tree_before byte image
+  pub untested : (image : List ℕ) → ((byte ≡ 0x0A) ⊎ (byte ≡ 0x0D) → ⊥) → Ok tt ≡ tree_before byte image
   unfolding tree_before is_enter
   untested image n = sym (else_is _ _ _ (else_is _ _ _ (ne_eqb byte 0x0D (λ e. n (inr e))) ∙ ne_eqb byte 0x0A (λ e. n (inl e))))
 

@@ -1,48 +1,50 @@
 -- Laws of a key that is pressed: what the editor answered, and what is printed of it.
+use Rattle.std.specs.Prelude.{Ok, Err, Result, ⊤}
 use Prim.Native.Nat.{ℕ, suc, ◌+◌, ◌-◌, ◌*◌, ◌≤◌, ◌<◌}
 use mathlib.Core.Path.{◌≡◌, refl, sym, ap, ◌∙◌, subst}
 use mathlib.Core.Bool.{Bool, true, false, cond}
 use mathlib.Core.List.{List, [], ◌∷◌, ◌++◌}
 use native.Mathlib.Omega.{arith}
-use borrow.Author.Tests.{le-ltb}
+use borrow.Author.Tests.{lt-ltb, le-ltb}
 use borrow.Rule.Slice.PartMut.{put_mid}
-use types.Run.{OneOf, miss}
-use denote.Enum.Declared.{tag_of}
 use lib.Dec.{ltb}
 use lib.ListN.{length, take, drop, get_or, set, length-take}
 use lib.Seq.{take-append_seam}
-use Rattle.buffer.specs.Write.{over, Pushed}
+use Rattle.buffer.specs.Write.{over, Pushed, over_if_fits}
 use Rattle.buffer.proofs.Choices.{then_is, else_is}
 use Rattle.buffer.proofs.Lending.{length_over, length_over_at}
 use Rattle.buffer.proofs.Writing.{pushed_both, pushed_front}
 use Rattle.text.specs.Unicode.{encode, encode_all}
 use Rattle.text.specs.Decoding.{table, decode_first, pieces_from, pieces_of, codes_of, codes_in, well_formed_length}
-use Rattle.frame.specs.House.{house_line}
+use Rattle.frame.specs.House.{house_line, write_house, HouseWritten}
+use Rattle.buffer.specs.declared.show.TooShort.{TooShort}
 use Rattle.buffer.specs.Ascii.{ascii}
 use Rattle.text.specs.Decoding.{well_formed}
 use Rattle.frame.proofs.Lines.{length_house_line}
 use Rattle.image.specs.Frames.{Frame}
 use Rattle.tree.specs.Images.{frames_of}
 use Rattle.tree.specs.Rules.{check_tree}
-use Rattle.tree.specs.declared.check.Checked.{Checked}
-use Rattle.tree.specs.declared.check.Checked.TheVariants.{Good, BadFrame}
+use Rattle.tree.specs.declared.check.BadFrame.{BadFrame}
 use Rattle.history.specs.declared.stepping.History.{History}
 use Rattle.editor.specs.declared.line.Editor.{Editor}
 use Rattle.editor.specs.declared.drawing.KeyAnswer.{KeyAnswer}
 use Rattle.editor.specs.declared.drawing.Pressed.{Pressed}
-use Rattle.editor.specs.declared.drawing.Pressed.TheVariants.{Shown, Entered, Dropped, BadState as BadKey, BadPrompt, NoRoom as NoScreen}
+use Rattle.editor.specs.declared.drawing.KeyRefusal.{KeyRefusal}
+use Rattle.editor.specs.declared.drawing.Pressed.TheVariants.{Shown, Entered, Dropped}
+use Rattle.editor.specs.declared.drawing.KeyRefusal.TheVariants.{BadState as BadKey}
 use Rattle.editor.specs.Line.{limit}
 use Rattle.editor.specs.Turns.{Kind, shows, enters, drops, Turn, line_feed}
 use Rattle.editor.specs.Answer.{state_of, editor_of, history_of, slots_of, good_state, good_prompt, taken, turn_answer, key_answer, refused, Pressing as KeyPressing}
 use Rattle.editor.proofs.Fine.{fine_of}
-use Rattle.editor.specs.contracts.drawing.Pressed.{the_type}
 use Rattle.shell.specs.Lines.{Said, said_of}
-use Rattle.session.specs.Prints.{bad_line, frame_of, lines_of, shown, prompt, answered, leaves, turn_prints, key_prints, turn_ends, key_ends}
+use Rattle.session.specs.Prints.{wide, bad_line, frame_of, lines_of, shown, prompt, answered, leaves, turn_prints, key_prints, turn_ends, key_ends}
 use Rattle.session.specs.Inner.{Answers, Enters, Within, Tells}
-use Rattle.session.specs.Calls.{with_state, with_key, image_of, turn_in, tree_before, printing, Laid, PressingKey}
+use Rattle.session.specs.Calls.{with_state, with_key, image_of, turn_in, tree_before, printing, Laid, PressingKey, RefusingLine}
 use Rattle.session.specs.Sizes.{key_room}
 use Rattle.session.specs.declared.running.Printing.{Printing}
-use Rattle.session.specs.declared.running.Printing.TheVariants.{Goes, Ends, BadTree, BadState, NoRoom}
+use Rattle.session.specs.declared.running.PrintRefusal.{PrintRefusal}
+use Rattle.session.specs.declared.running.Printing.TheVariants.{Goes}
+use Rattle.session.specs.declared.running.PrintRefusal.TheVariants.{BadTree, BadState, NoRoom}
 use Rattle.session.specs.declared.standing.Session.{Session}
 use Rattle.session.proofs.Printings.{line_alone, lines_both, shown_some}
 use Rattle.session.proofs.Marks.{lent_size, returned_size, returned_kind, returned_after}
@@ -83,7 +85,7 @@ module _ (out mid : List ℕ) (p : ℕ) (h : key_room ≤ length out) (w : Pushe
       let b = w.place in
       omega arith
 
-  pub entered : (frames : List Frame) (line left : List ℕ) (r : Printing) → Answers (said_of frames line) mid p r left → Enters frames line out r left
+  pub entered : (frames : List Frame) (line left : List ℕ) (r : Result Printing PrintRefusal) → Answers (said_of frames line) mid p r left → Enters frames line out r left
   entered frames line left r a =
       let said : Said = said_of frames line in
       let both = pushed_front _ _ _ _ (pushed_both (house_line (0x22 ∷ 0x0A ∷ [])) (lines_of (answered said)) out mid left 0 p (p + length (lines_of (answered said))) fed w (record { place = refl; bytes = a.bytes })) in
@@ -95,38 +97,33 @@ module _ (out mid : List ℕ) (p : ℕ) (h : key_room ≤ length out) (w : Pushe
       }
 
 -- what each answer of the editor prints
-module _ (answer : Pressed) (image line screen out left : List ℕ) where
-  pub within_shown : (n : ℕ) → Within image answer → answer ≡ Shown n → n ≤ 1023
+module _ (answer : Result Pressed KeyRefusal) (image line screen out left : List ℕ) where
+  pub within_shown : (n : ℕ) → Within image answer → answer ≡ Ok (Shown n) → n ≤ 1023
   within_shown n w e = subst (Within image) e w
 
-  pub within_entered : (n : ℕ) (part : List ℕ) → Within image answer → answer ≡ Entered n → part ≡ take n line → (check_tree image ≡ Good) × (length part ≤ 255)
+  pub within_entered : (n : ℕ) (part : List ℕ) → Within image answer → answer ≡ Ok (Entered n) → part ≡ take n line → (check_tree image ≡ Ok tt) × (length part ≤ 255)
   within_entered n part w e k =
-      let both : (check_tree image ≡ Good) × (n ≤ 255) = subst (Within image) e w in
+      let both : (check_tree image ≡ Ok tt) × (n ≤ 255) = subst (Within image) e w in
       let short = both.1 in
       let size = ap length k ∙ length-take n line in
       (both.0, omega arith)
 
-  pub tells_shown : (n r : ℕ) → answer ≡ Shown n → Pushed (lines_of (shown (take n (drop 1 screen)))) out 0 r left → Tells answer image line screen out (Goes r) left
+  pub tells_shown : (n r : ℕ) → answer ≡ Ok (Shown n) → Pushed (lines_of (shown (take n (drop 1 screen)))) out 0 r left → Tells answer image line screen out (Ok (Goes r)) left
   tells_shown n r e p =
       let w = pushed_front _ _ _ _ p in
-      subst (λ (x : Pressed). Tells x image line screen out (Goes r) left) (sym e) (record { answer = ap Goes w.count; bytes = w.bytes })
+      subst (λ (x : Result Pressed KeyRefusal). Tells x image line screen out (Ok (Goes r)) left) (sym e) (record { answer = ap (λ (n : ℕ). Ok (Goes n)) w.count; bytes = w.bytes })
 
-  pub tells_entered : (n : ℕ) (part : List ℕ) (r : Printing) → answer ≡ Entered n → part ≡ take n line
+  pub tells_entered : (n : ℕ) (part : List ℕ) (r : Result Printing PrintRefusal) → answer ≡ Ok (Entered n) → part ≡ take n line
       → Enters (frames_of image) part out r left → Tells answer image line screen out r left
   tells_entered n part r e k f =
-      subst (λ (x : Pressed). Tells x image line screen out r left) (sym e) (subst (λ (x : List ℕ). Enters (frames_of image) x out r left) k f)
+      subst (λ (x : Result Pressed KeyRefusal). Tells x image line screen out r left) (sym e) (subst (λ (x : List ℕ). Enters (frames_of image) x out r left) k f)
 
-  pub tells_dropped : answer ≡ Dropped → left ≡ out → Tells answer image line screen out (Goes 0) left
+  pub tells_dropped : answer ≡ Ok Dropped → left ≡ out → Tells answer image line screen out (Ok (Goes 0)) left
   unfolding lines_of over
-  tells_dropped e k = subst (λ (x : Pressed). Tells x image line screen out (Goes 0) left) (sym e) (record { answer = refl; bytes = k })
+  tells_dropped e k = subst (λ (x : Result Pressed KeyRefusal). Tells x image line screen out (Ok (Goes 0)) left) (sym e) (record { answer = refl; bytes = k })
 
-pub tells_refused : (answer : Pressed) (image line screen out : List ℕ) → OneOf (3 ∷ 4 ∷ 5 ∷ []) (tag_of the_type answer) → Tells answer image line screen out BadState out
-tells_refused (Shown n) image line screen out k = absurd (miss (3 ∷ 4 ∷ 5 ∷ []) 0 tt k)
-tells_refused (Entered n) image line screen out k = absurd (miss (3 ∷ 4 ∷ 5 ∷ []) 1 tt k)
-tells_refused Dropped image line screen out k = absurd (miss (3 ∷ 4 ∷ 5 ∷ []) 2 tt k)
-tells_refused BadKey image line screen out k = (refl, refl)
-tells_refused (BadPrompt n) image line screen out k = (refl, refl)
-tells_refused (NoScreen n) image line screen out k = (refl, refl)
+  pub tells_refused : (refusal : KeyRefusal) → answer ≡ Err refusal → left ≡ out → Tells answer image line screen out (Err BadState) left
+  tells_refused refusal e k = subst (λ (x : Result Pressed KeyRefusal). Tells x image line screen out (Err BadState) left) (sym e) (refl, k)
 
 -- the prompt is good
 prompt_good : good_prompt prompt ≡ true
@@ -159,7 +156,7 @@ module _ (h : Session) (slots line lent : List ℕ) (byte : ℕ) (k : KeyAnswer)
       let short = screen_fits g in
       p.answer ∙ then_is _ _ _ g ∙ then_is _ _ _ prompt_good ∙ else_is _ _ _ in_limit ∙ else_is _ _ _ (le-ltb (length lent) (length t.screen) (omega arith))
 
-  pub key_bad : is ≡ false → k.answer ≡ BadKey
+  pub key_bad : is ≡ false → k.answer ≡ Err BadKey
   unfolding key_answer
   key_bad g = p.answer ∙ else_is _ _ _ g
 
@@ -169,7 +166,7 @@ module _ (h : Session) (slots line lent : List ℕ) (byte : ℕ) (k : KeyAnswer)
   not_refused drops = refl
 
   -- what holds of each answer holds of this one
-  told_by : (P : Pressed → Type 0) → P BadKey → (is ≡ true → (q : Kind) → t.kind ≡ q → P (taken t q)) → P k.answer
+  told_by : (P : Result Pressed KeyRefusal → Type 0) → P (Err BadKey) → (is ≡ true → (q : Kind) → t.kind ≡ q → P (taken t q)) → P k.answer
   told_by P bad kinds = by is refl
     where
       by : (b : Bool) → is ≡ b → P k.answer
@@ -177,7 +174,7 @@ module _ (h : Session) (slots line lent : List ℕ) (byte : ℕ) (k : KeyAnswer)
       by false g = subst P (sym (key_bad g)) bad
 
   -- what is shown fits the screen's buffer, which comes back as long as it was; a line is submitted only under a tree that was tested
-  pub key_within : (image : List ℕ) → tree_before byte image ≡ Good → Within image k.answer
+  pub key_within : (image : List ℕ) → tree_before byte image ≡ Ok tt → Within image k.answer
   key_within image good = told_by (Within image) tt kinds
     where
       kinds : is ≡ true → (q : Kind) → t.kind ≡ q → Within image (taken t q)
@@ -229,7 +226,7 @@ module _ (h : Session) (slots line lent : List ℕ) (byte : ℕ) (k : KeyAnswer)
       parts x y = record { editor = x; history = y; walk = h.walk; keyed = h.keyed; lines = h.lines }
 
   -- the call's contract
-  module _ (image out left screen : List ℕ) (r : Printing) (beyond : drop 1 screen ≡ e) (good : tree_before byte (image_of h image) ≡ Good) (room : key_room ≤ length out)
+  module _ (image out left screen : List ℕ) (r : Result Printing PrintRefusal) (beyond : drop 1 screen ≡ e) (good : tree_before byte (image_of h image) ≡ Ok tt) (room : key_room ≤ length out)
       (told : Tells k.answer (image_of h image) line' screen out r left) where
     pub press_told : PressingKey h image slots byte out (record { session = with_key h k; answer = r }) slots' left
     unfolding key_prints key_ends
@@ -238,12 +235,12 @@ module _ (h : Session) (slots line lent : List ℕ) (byte : ℕ) (k : KeyAnswer)
           short = λ l. absurd (omega arith);
           bad_tree = λ m n f. absurd (let z : ◌≡◌ {A = ℕ} 0 1 = cc in omega arith);
           bad_state = λ m f g.
-              let b = subst (λ (x : Pressed). Tells x (image_of h image) line' screen out r left) (key_bad g) told in
+              let b = subst (λ (x : Result Pressed KeyRefusal). Tells x (image_of h image) line' screen out r left) (key_bad g) told in
               (b.0, record { session = (key_kept g).0; held = (key_kept g).1; bytes = b.1 });
           pressed = λ m f g. record {
             session = key_session g;
             held = key_slots g;
-            lines = by g t.kind (subst (λ (x : Pressed). Tells x (image_of h image) line' screen out r left) (key_good g) told);
+            lines = by g t.kind (subst (λ (x : Result Pressed KeyRefusal). Tells x (image_of h image) line' screen out r left) (key_good g) told);
           };
         }
       where
@@ -262,12 +259,12 @@ module _ (h : Session) (slots line s : List ℕ) (byte : ℕ) (k : KeyAnswer) (s
   pub press_back : length (put_mid 1 (length (set s 0 0x22) - 1) (set s 0 0x22) e) ≡ 1024
   press_back = returned_size s e 0 1024 wide (omega arith) (key_size h slots line _ byte k slots' line' e p full lent)
 
-  pub press_ready : (image tree : List ℕ) → tree_before byte (image_of h image) ≡ Good → tree ≡ image_of h image
+  pub press_ready : (image tree : List ℕ) → tree_before byte (image_of h image) ≡ Ok tt → tree ≡ image_of h image
       → Within tree k.answer × (get_or (put_mid 1 (length (set s 0 0x22) - 1) (set s 0 0x22) e) 0 0 ≡ 0x22)
   press_ready image tree good same =
       (key_within h slots line _ byte k slots' line' e p full lent tree (ap (tree_before byte) same ∙ good), returned_kind s e 0 1024 wide (omega arith))
 
-  pub press_done : (image tree out left : List ℕ) (next : Session) (r : Printing) → tree_before byte (image_of h image) ≡ Good → key_room ≤ length out → tree ≡ image_of h image
+  pub press_done : (image tree out left : List ℕ) (next : Session) (r : Result Printing PrintRefusal) → tree_before byte (image_of h image) ≡ Ok tt → key_room ≤ length out → tree ≡ image_of h image
       → next ≡ with_key h k → Tells k.answer tree line' (put_mid 1 (length (set s 0 0x22) - 1) (set s 0 0x22) e) out r left
       → PressingKey h image slots byte out (record { session = next; answer = r }) slots' left
   press_done image tree out left next r good room same after told =
@@ -277,7 +274,7 @@ module _ (h : Session) (slots line s : List ℕ) (byte : ℕ) (k : KeyAnswer) (s
 
 -- the refusals before a key is pressed: no room, and a bad tree
 module _ (h : Session) (image slots : List ℕ) (byte : ℕ) (out : List ℕ) where
-  pub press_short : length out < key_room → PressingKey h image slots byte out (record { session = h; answer = NoRoom key_room }) slots out
+  pub press_short : length out < key_room → PressingKey h image slots byte out (record { session = h; answer = Err (NoRoom key_room) }) slots out
   press_short l =
       record {
         short = λ m. (refl, record { session = refl; held = refl; bytes = refl });
@@ -286,20 +283,32 @@ module _ (h : Session) (image slots : List ℕ) (byte : ℕ) (out : List ℕ) wh
         pressed = λ m. absurd (omega arith);
       }
 
-  pub press_refused : (tree : List ℕ) → tree ≡ image_of h image → (n : ℕ) (told : Checked) → told ≡ tree_before byte tree → told ≡ BadFrame n → key_room ≤ length out
-      → PressingKey h image slots byte out (record { session = h; answer = BadTree n }) slots out
+  pub press_refused : (tree : List ℕ) → tree ≡ image_of h image → (n : ℕ) (told : Result ⊤ BadFrame) → told ≡ tree_before byte tree → told ≡ Err (record { number = n }) → key_room ≤ length out
+      → PressingKey h image slots byte out (record { session = h; answer = Err (BadTree n) }) slots out
   press_refused tree same n told e k room =
-      let is : tree_before byte (image_of h image) ≡ BadFrame n = ap (tree_before byte) (sym same) ∙ sym e ∙ k in
+      let is : tree_before byte (image_of h image) ≡ Err (record { number = n }) = ap (tree_before byte) (sym same) ∙ sym e ∙ k in
       record {
         short = λ m. absurd (omega arith);
-        bad_tree = λ m i f. (let both : BadFrame n ≡ BadFrame i = sym is ∙ f in cc, record { session = refl; held = refl; bytes = refl });
+        bad_tree = λ m i f. (let both : ◌≡◌ {A = Result ⊤ BadFrame} (Err (record { number = n })) (Err (record { number = i })) = sym is ∙ f in let one : ◌≡◌ {A = BadFrame} (record { number = n }) (record { number = i }) = cc in ap (λ (b : BadFrame). Err (BadTree b.number)) one, record { session = refl; held = refl; bytes = refl });
         bad_state = λ m f. absurd (let z : ◌≡◌ {A = ℕ} 0 1 = cc in omega arith);
         pressed = λ m f. absurd (let z : ◌≡◌ {A = ℕ} 0 1 = cc in omega arith);
       }
 
 -- the 2F of a line
-pub refusal_laid : (number : ℕ) (out left : List ℕ) (r : ℕ) → Pushed (house_line (frame_of (bad_line number))) out 0 r left → Laid (bad_line number ∷ []) true out (Ends r) left
-refusal_laid number out left r p =
-    let w = pushed_front _ _ _ _ p in
-    let e = line_alone (bad_line number) in
-    record { answer = ap Ends (w.count ∙ sym (ap length e)); bytes = w.bytes ∙ ap (λ (x : List ℕ). over x out) (sym e) }
+bad_size : (number : ℕ) → length (house_line (frame_of (bad_line number))) ≡ 7
+unfolding frame_of wide
+bad_size number = let l = length_house_line (frame_of (bad_line number)) in omega arith
+
+pub refusal_told : (number : ℕ) (out left : List ℕ) (r : Result ℕ TooShort) → HouseWritten (frame_of (bad_line number)) out r left → RefusingLine number out r left
+unfolding write_house over_if_fits
+refusal_told number out left r w =
+    let size : length (house_line (frame_of (bad_line number))) ≡ 7 = bad_size number in
+    let alone = line_alone (bad_line number) in
+    record {
+      short = λ l.
+          let lacks : ltb (length out) (length (house_line (frame_of (bad_line number)))) ≡ true = lt-ltb _ _ (omega arith) in
+          (w.answer ∙ then_is _ _ _ lacks ∙ ap (λ (n : ℕ). Err (record { needed = n })) size, w.bytes ∙ then_is _ _ _ lacks);
+      told = λ m.
+          let fits : ltb (length out) (length (house_line (frame_of (bad_line number)))) ≡ false = le-ltb _ _ (omega arith) in
+          (w.answer ∙ else_is _ _ _ fits ∙ ap (λ (x : List ℕ). Ok (length x)) (sym alone), w.bytes ∙ else_is _ _ _ fits ∙ ap (λ (x : List ℕ). over x out) (sym alone));
+    }

@@ -1,14 +1,14 @@
 -- What the calls of a session answer and leave, by the parts in which the code holds one (STANDARD 2.3, 10.19, 11.12).
-use Rattle.std.specs.Prelude.{ℕ, ◌+◌, ◌≤◌, ◌<◌, ◌≡◌, Bool, true, false, cond, List, [], ◌∷◌, eqb, ltb, length, take}
+use Rattle.std.specs.Prelude.{ℕ, ◌+◌, ◌≤◌, ◌<◌, ◌≡◌, Bool, true, false, cond, List, [], ◌∷◌, eqb, ltb, length, take, Ok, Err, Result, ⊤}
 use Rattle.buffer.specs.Write.{over, over_at}
+use Rattle.buffer.specs.declared.show.TooShort.{TooShort}
 use Rattle.frame.specs.House.{house_leaves}
 use Rattle.image.specs.Frames.{Frame}
 use Rattle.image.specs.Reading.{read_first}
 use Rattle.tree.specs.Images.{frames_of}
 use Rattle.tree.specs.Rules.{image_limit, check_tree}
 use Rattle.tree.specs.Steps.{start_walk}
-use Rattle.tree.specs.declared.check.Checked.{Checked}
-use Rattle.tree.specs.declared.check.Checked.TheVariants.{Good, BadFrame}
+use Rattle.tree.specs.declared.check.BadFrame.{BadFrame}
 use Rattle.tree.specs.declared.walk.Walk.{Walk}
 use Rattle.tree.specs.Growth.{admits, passed_by}
 use Rattle.history.specs.Journal.{no_entries, record_of}
@@ -21,7 +21,9 @@ use Rattle.session.specs.Prints.{Printed, lines_of, bad_line, prompt, key_prints
 use Rattle.session.specs.Lines.{Form, tree, keys, formless, line_form}
 use Rattle.session.specs.Sizes.{last_line, frame_room, key_room}
 use Rattle.session.specs.declared.running.Printing.{Printing}
-use Rattle.session.specs.declared.running.Printing.TheVariants.{Goes, Ends, BadTree, BadState, NoRoom}
+use Rattle.session.specs.declared.running.PrintRefusal.{PrintRefusal}
+use Rattle.session.specs.declared.running.Printing.TheVariants.{Goes, Ends}
+use Rattle.session.specs.declared.running.PrintRefusal.TheVariants.{BadTree, BadState, NoRoom}
 use Rattle.session.specs.declared.standing.Session.{Session}
 use Rattle.session.specs.declared.pressing.Pressing.{Pressing}
 use Rattle.session.specs.declared.taking.Taken.TheVariants.{Tree, Keys, BadLine, Over, NoRoom as NoBuffer}
@@ -90,15 +92,15 @@ unfoldable pub is_enter : ℕ → Bool
 is_enter byte = cond (eqb byte 0x0D) true (eqb byte 0x0A)
 
 -- (10.19)
-unfoldable pub tree_before : ℕ → List ℕ → Checked
-tree_before byte image = cond (is_enter byte) (check_tree image) Good
+unfoldable pub tree_before : ℕ → List ℕ → Result ⊤ BadFrame
+tree_before byte image = cond (is_enter byte) (check_tree image) (Ok tt)
 
 -- what was printed from the front on, and whether it is the last
-abbrev pub printing : Bool → ℕ → Printing
-printing true n = Ends n
-printing false n = Goes n
+abbrev pub printing : Bool → ℕ → Result Printing PrintRefusal
+printing true n = Ok (Ends n)
+printing false n = Ok (Goes n)
 
-pub record Laid (prints : List Printed) (ends : Bool) (out : List ℕ) (r : Printing) (left : List ℕ) : Type 0 where
+pub record Laid (prints : List Printed) (ends : Bool) (out : List ℕ) (r : Result Printing PrintRefusal) (left : List ℕ) : Type 0 where
   pub answer : r ≡ printing ends (length (lines_of prints))
   pub bytes : left ≡ over (lines_of prints) out
 
@@ -116,14 +118,14 @@ pub record Prints (h : Session) (frames : List Frame) (t : Turn) (out : List ℕ
 
 -- 9, then 1, then 12, or the key is taken (10.19)
 pub record PressingKey (h : Session) (image slots : List ℕ) (byte : ℕ) (out : List ℕ) (r : Pressing) (slots' out' : List ℕ) : Type 0 where
-  pub short : length out < key_room → (r.answer ≡ NoRoom key_room) × Kept h slots out r slots' out'
-  pub bad_tree : key_room ≤ length out → (n : ℕ) → tree_before byte (image_of h image) ≡ BadFrame n → (r.answer ≡ BadTree n) × Kept h slots out r slots' out'
-  pub bad_state : key_room ≤ length out → tree_before byte (image_of h image) ≡ Good → good_state h.editor h.history slots ≡ false
-      → (r.answer ≡ BadState) × Kept h slots out r slots' out'
-  pub pressed : key_room ≤ length out → tree_before byte (image_of h image) ≡ Good → good_state h.editor h.history slots ≡ true
+  pub short : length out < key_room → (r.answer ≡ Err (NoRoom key_room)) × Kept h slots out r slots' out'
+  pub bad_tree : key_room ≤ length out → (n : ℕ) → tree_before byte (image_of h image) ≡ Err (record { number = n }) → (r.answer ≡ Err (BadTree n)) × Kept h slots out r slots' out'
+  pub bad_state : key_room ≤ length out → tree_before byte (image_of h image) ≡ Ok tt → good_state h.editor h.history slots ≡ false
+      → (r.answer ≡ Err BadState) × Kept h slots out r slots' out'
+  pub pressed : key_room ≤ length out → tree_before byte (image_of h image) ≡ Ok tt → good_state h.editor h.history slots ≡ true
       → Prints h (frames_of (image_of h image)) (turn_in h slots byte) out r slots' out'
 
 -- the 2F of a line, which is the last that is printed (10.19)
-pub record RefusingLine (number : ℕ) (out : List ℕ) (r : Printing) (out' : List ℕ) : Type 0 where
-  pub short : length out < 7 → (r ≡ NoRoom 7) × (out' ≡ out)
-  pub told : 7 ≤ length out → Laid (bad_line number ∷ []) true out r out'
+pub record RefusingLine (number : ℕ) (out : List ℕ) (r : Result ℕ TooShort) (out' : List ℕ) : Type 0 where
+  pub short : length out < 7 → (r ≡ Err (record { needed = 7 })) × (out' ≡ out)
+  pub told : 7 ≤ length out → (r ≡ Ok (length (lines_of (bad_line number ∷ [])))) × (out' ≡ over (lines_of (bad_line number ∷ [])) out)

@@ -1,9 +1,9 @@
 -- Where a session stands, what a line makes of it and prints, and a whole session (STANDARD 11).
-use Rattle.std.specs.Prelude.{ℕ, ◌+◌, Bool, true, false, cond, List, [], ◌∷◌, ◌++◌, eqb, ltb}
+use Rattle.std.specs.Prelude.{ℕ, ◌+◌, Bool, true, false, cond, List, [], ◌∷◌, ◌++◌, eqb, ltb, Ok, Err, Result}
 use Rattle.frame.specs.House.{read_house, digits_of}
 use Rattle.frame.specs.Hex.{unhex}
-use Rattle.frame.specs.declared.house.House.{House}
-use Rattle.frame.specs.declared.house.House.TheVariants.{Frame, Unended, Empty, TooLong, Odd, NoDigit, Short}
+use Rattle.frame.specs.declared.house.HouseRefusal.{HouseRefusal}
+use Rattle.frame.specs.declared.house.HouseRefusal.TheVariants.{Unended, Empty, TooLong, Odd, NoDigit, Short}
 use Rattle.tree.specs.Images.{frames_of}
 use Rattle.tree.specs.Growth.{takes}
 use Rattle.keys.specs.declared.standing.Profile.{Profile}
@@ -23,14 +23,14 @@ form_of [] = formless
 form_of (kind ∷ bytes) = cond (eqb kind 0x20) (keys bytes) (tree (kind ∷ bytes))
 
 -- every fault of a house line makes it one of no such form; a frame has at most 512 bytes (11.9)
-abbrev pub form_by : House → List ℕ → Form
-form_by (Frame n) bytes = form_of bytes
-form_by Unended bytes = formless
-form_by Empty bytes = formless
-form_by TooLong bytes = formless
-form_by Odd bytes = formless
-form_by (NoDigit place) bytes = formless
-form_by (Short needed) bytes = formless
+abbrev pub form_by : Result ℕ HouseRefusal → List ℕ → Form
+form_by (Ok n) bytes = form_of bytes
+form_by (Err Unended) bytes = formless
+form_by (Err Empty) bytes = formless
+form_by (Err TooLong) bytes = formless
+form_by (Err Odd) bytes = formless
+form_by (Err (NoDigit place)) bytes = formless
+form_by (Err (Short needed)) bytes = formless
 
 -- (11.1)
 unfoldable pub line_form : List ℕ → Form

@@ -8,6 +8,6 @@ mod standing;
 mod taking;
 
 pub use pressing::{KEY_ROOM, Pressing, press, refuse};
-pub use running::Printing;
+pub use running::{PrintRefusal, Printing};
 pub use standing::Session;
 pub use taking::{Taken, Took, take_line};

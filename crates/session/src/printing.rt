@@ -2,16 +2,16 @@
 ghost use Rattle.std.specs.Prelude.{◌≡◌, ◌∷◌, ◌+◌, ◌*◌, ◌≤◌, length, drop};
 ghost use Rattle.buffer.specs.Write.{Pushed};
 ghost use Rattle.frame.specs.House.{house_line};
-ghost use Rattle.session.specs.Prints.{bad_line, frame_of, lines_of, shown, prompt};
+ghost use Rattle.session.specs.Prints.{wide, lines_of, shown, prompt};
 
-use frame::{Lined, write_line};
+use frame::write_line;
 
 // Prints a frame at a place of out and returns the place after it.
 pub fn print(frame: &[u8], out: &mut [u8], at: usize) -> usize
     requires { at + (2 * length frame.now + 1) ≤ length out.old }
     ensures { Pushed (house_line frame.now) out.old at result out.new }
 {
-    let Lined::Written(n) = write_line(frame, &mut out[at..]) else {
+    let Ok(n) = write_line(frame, &mut out[at..]) else {
         return at;
     };
     at + n
@@ -36,11 +36,10 @@ pub fn print_prompt(out: &mut [u8], at: usize) -> usize
     print_screen(b"\"axvisor:$ ", out, at)
 }
 
-// Prints the 2F of a line by its number.
-pub fn print_bad_line(number: usize, out: &mut [u8]) -> usize
-    requires { 7 ≤ length out.old }
-    ensures { Pushed (house_line (frame_of (bad_line number))) out.old 0 result out.new }
+// A kind and a number in two bytes, with which a frame begins.
+pub fn head(kind: u8, number: usize) -> [u8; 3]
+    ensures { result ≡ kind ∷ wide number }
 {
-    let frame = [0x2F, (number / 256 % 256) as u8, (number % 256) as u8];
-    print(&frame, out, 0)
+    let [high, low] = ((number % 65536) as u16).to_be_bytes();
+    [kind, high, low]
 }

@@ -1,34 +1,38 @@
 // A line run, and what that prints.
-ghost use Rattle.std.specs.Prelude.{◌≡◌, ◌∷◌, ◌+◌, ◌*◌, ◌≤◌, length, take, drop, get_or};
+ghost use Rattle.std.specs.Prelude.{◌≡◌, ◌∷◌, ◌+◌, ◌*◌, ◌≤◌, length, take, drop, get_or, Ok};
 ghost use Rattle.buffer.specs.Write.{over, Pushed};
 ghost use Rattle.frame.specs.House.{house_line};
 ghost use Rattle.tree.specs.Images.{frames_of};
 ghost use Rattle.tree.specs.Rules.{check_tree};
-ghost use Rattle.tree.specs.declared.check.Checked.TheVariants.{Good};
 ghost use Rattle.shell.specs.Lines.{Said, said_of};
 ghost use Rattle.session.specs.Sizes.{frame_size, text_size, frame_line, answer_room};
 ghost use Rattle.session.specs.Prints.{wide, frame_of, lines_of, shown, handler as handed};
 ghost use Rattle.session.specs.Inner.{Fits, Says, Answers};
 
-use super::printing::{print, print_prompt, print_screen};
+use super::printing::{head, print, print_prompt, print_screen};
 use buffer::copy;
 use shell::{Ran, run};
 
 // The bytes of a frame that is printed, with its kind.
 const FRAME_SIZE: usize = 65536;
 
-// What a key prints.
+// What is printed, as house lines, and what becomes of the session.
 #[derive(Clone, Copy)]
 pub enum Printing {
-    // House lines of so many bytes, and the session goes on.
+    // So many bytes are printed, 0 for no line, and the session goes on.
     Goes(usize),
-    // House lines of so many bytes, and the session is at its end.
+    // So many bytes are printed, and the session is at its end.
     Ends(usize),
-    // The tree is bad: the number of the frame that breaks a rule.
+}
+
+// Why nothing is printed: then the session and every buffer stay as they were.
+#[derive(Clone, Copy)]
+pub enum PrintRefusal {
+    // The tree under which Enter would run a line is bad: the number of its first frame that breaks a rule.
     BadTree(usize),
-    // The state is bad.
+    // The state of the editor or of its history is bad.
     BadState,
-    // The buffer is too short: the length needed.
+    // The buffer for what is printed is too short: the length needed.
     NoRoom(usize),
 }
 
@@ -46,8 +50,7 @@ fn put_head(handler: usize, text: &mut [u8])
     requires { 3 ≤ length text.old }
     ensures { text.new ≡ over (0x21 ∷ wide handler) text.old }
 {
-    let head = [0x21, (handler / 256 % 256) as u8, (handler % 256) as u8];
-    copy(&head, text);
+    copy(&head(0x21, handler), text);
 }
 
 // Prints the frame that is the first bytes of a text.
@@ -67,12 +70,13 @@ fn print_handler(handler: usize, text: &mut [u8], size: usize, out: &mut [u8], a
     print_first(text, 3 + size, out, at)
 }
 
-// Prints what a line said, and the prompt unless that is the end. The line was not refused: what is left at last is that it said nothing.
+// Prints what a line said, and the prompt unless that is the end.
 fn print_ran(ran: Ran, text: &mut [u8], out: &mut [u8], at: usize) -> Printing
     requires { Fits ran text_size × (length text.old ≡ frame_size) × (get_or text.old 2 0 ≡ 0x22) × (at + answer_room ≤ length out.old) }
-    ensures { (said : Said) → Says said ran text.old → Answers said out.old at result out.new }
+    ensures { (said : Said) → Says said (Ok ran) text.old → Answers said out.old at (Ok result) out.new }
 {
     match ran {
+        Ran::Nothing => Printing::Goes(print_prompt(out, at)),
         Ran::Text { number: _, length } => {
             let after = print_text(text, length, out, at);
             Printing::Goes(print_prompt(out, after))
@@ -85,24 +89,24 @@ fn print_ran(ran: Ran, text: &mut [u8], out: &mut [u8], at: usize) -> Printing
             let after = print_handler(handler as usize, text, length, out, at);
             Printing::Goes(print_prompt(out, after))
         }
-        _ => Printing::Goes(print_prompt(out, at)),
     }
 }
 
-// Runs a line under a tree, with a buffer for what it says, and prints that at a place of out.
+// Runs a line under a tree, with a buffer for what it says, and prints that at a place of out. No such line is refused: the tree is good, and the buffer
+// holds all that a line says.
 fn run_in(image: &[u8], line: &[u8], text: &mut [u8], out: &mut [u8], at: usize) -> Printing
-    requires { (check_tree image.now ≡ Good) × (length line.now ≤ 255) × (length text.old ≡ frame_size) × (at + answer_room ≤ length out.old) }
-    ensures { Answers (said_of (frames_of image.now) line.now) out.old at result out.new }
+    requires { (check_tree image.now ≡ Ok tt) × (length line.now ≤ 255) × (length text.old ≡ frame_size) × (at + answer_room ≤ length out.old) }
+    ensures { Answers (said_of (frames_of image.now) line.now) out.old at (Ok result) out.new }
 {
     text[2] = 0x22;
-    let ran = run(image, line, &mut text[3..]);
+    let ran = run(image, line, &mut text[3..]).unwrap();
     print_ran(ran, text, out, at)
 }
 
 // Runs a line under a tree and prints what it says at a place of out.
 pub fn run_line(image: &[u8], line: &[u8], out: &mut [u8], at: usize) -> Printing
-    requires { (check_tree image.now ≡ Good) × (length line.now ≤ 255) × (at + answer_room ≤ length out.old) }
-    ensures { Answers (said_of (frames_of image.now) line.now) out.old at result out.new }
+    requires { (check_tree image.now ≡ Ok tt) × (length line.now ≤ 255) × (at + answer_room ≤ length out.old) }
+    ensures { Answers (said_of (frames_of image.now) line.now) out.old at (Ok result) out.new }
 {
     let mut text = [0u8; FRAME_SIZE];
     run_in(image, line, &mut text, out, at)

@@ -42,14 +42,10 @@ impl Session {
         requires { self.lines < last_line }
         ensures { result ≡ with_walk self walk }
     {
-        let editor = self.editor;
-        let history = self.history;
         Session {
-            editor,
-            history,
             walk,
-            keyed: self.keyed,
             lines: self.lines + 1,
+            ..self
         }
     }
 
@@ -58,15 +54,10 @@ impl Session {
         requires { self.lines < last_line }
         ensures { result ≡ with_keys self }
     {
-        let editor = self.editor;
-        let history = self.history;
-        let walk = self.walk;
         Session {
-            editor,
-            history,
-            walk,
             keyed: true,
             lines: self.lines + 1,
+            ..self
         }
     }
 }

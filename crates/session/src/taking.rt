@@ -6,7 +6,7 @@ ghost use Rattle.session.specs.Calls.{refusing, took_by, image_by, TakingLine};
 
 use super::standing::Session;
 use buffer::part;
-use frame::{House, read_line};
+use frame::{HouseRefusal, read_line};
 use tree::{IMAGE_LIMIT, add_frame};
 
 #[derive(Clone, Copy)]
@@ -54,13 +54,11 @@ fn take_frame(session: Session, bytes: &[u8], image: &mut [u8]) -> Took
     if session.keyed {
         return refused(session);
     }
-    let walk = session.walk;
-    let step = add_frame(walk, bytes, image);
-    if !step.ok {
+    let Some(walk) = add_frame(session.walk, bytes, image) else {
         return refused(session);
-    }
+    };
     Took {
-        session: session.with_walk(step.walk),
+        session: session.with_walk(walk),
         answer: Taken::Tree,
     }
 }
@@ -87,7 +85,7 @@ pub fn take_line(session: Session, line: &[u8], image: &mut [u8], frame: &mut [u
             answer: Taken::NoRoom(IMAGE_LIMIT),
         };
     }
-    let House::Frame(n) = read_line(line, frame) else {
+    let Ok(n) = read_line(line, frame) else {
         return refused(session);
     };
     take_frame(session, part(frame, 0, n), image)

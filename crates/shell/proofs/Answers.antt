@@ -1,4 +1,5 @@
 -- The laws of the call: no second answer; no other command matters; and the report of a handler is parse's report of the trimmed line.
+use Rattle.std.specs.Prelude.{Ok, Result, ⊤, Err}
 use Prim.Native.Nat.{ℕ}
 use mathlib.Core.Path.{◌≡◌, refl, sym, ap, ◌∙◌}
 use mathlib.Core.Bool.{Bool, true, false, cond}
@@ -10,8 +11,7 @@ use Rattle.text.specs.Apart.{trimmed, blank}
 use Rattle.image.specs.Frames.{Frame}
 use Rattle.tree.specs.Images.{frames_of}
 use Rattle.tree.specs.Rules.{check_tree}
-use Rattle.tree.specs.declared.check.Checked.{Checked}
-use Rattle.tree.specs.declared.check.Checked.TheVariants.{Good}
+use Rattle.tree.specs.declared.check.BadFrame.{BadFrame}
 use Rattle.words.specs.Tokens.{words_of}
 use Rattle.parse.specs.Commands.{Outcome, parsed, fault, parse_words, parse_line}
 use Rattle.parse.specs.Answer.{told_in, on_checked}
@@ -23,12 +23,13 @@ use Rattle.help.specs.Answer.{Reply, said, unknown, wordless, help_in, help_of}
 use Rattle.shell.specs.Lines.{Said, silence, text, farewell, handed, builtin_of, on_builtin, begins_help, help_words, help_said, joined, carried, execute_in, execute, other_said, line_said, said_of}
 use Rattle.shell.specs.Answer.{said_answer, said_leaves, run_answer, run_leaves, Running}
 use Rattle.shell.specs.declared.answer.Ran.{Ran}
-use Rattle.shell.specs.declared.answer.Ran.TheVariants.{BadTree}
+use Rattle.shell.specs.declared.answer.RunRefusal.{RunRefusal}
+use Rattle.shell.specs.declared.answer.RunRefusal.TheVariants.{BadTree}
 use Rattle.shell.specs.declared.builtin.Builtin.{Builtin}
 use Rattle.shell.specs.declared.builtin.Builtin.TheVariants.{Help, Exit, Clear, None}
 
 -- NO SECOND ANSWER
-pub one_answer : (image line out left other : List ℕ) (r q : Ran) → Running image line out r left → Running image line out q other → (r ≡ q) × (left ≡ other)
+pub one_answer : (image line out left other : List ℕ) (r q : Result Ran RunRefusal) → Running image line out r left → Running image line out q other → (r ≡ q) × (left ≡ other)
 one_answer image line out left other r q a b = (a.answer ∙ sym b.answer, a.bytes ∙ sym b.bytes)
 
 -- the words whose first names the command: after an untrimmed `help `, else of the trimmed line
@@ -72,15 +73,15 @@ module _ (frames others : List Frame) where
       (λ w. builtin_alike (builtin_of (trimmed line)) (e l w).0 _ _ (choice_alike (begins_help line) (blank line) (help_words line) (words_of (trimmed line)) (e l w).1))
 
 -- as the call has it, under two well-formed trees
-module _ (image other line : List ℕ) (g : check_tree image ≡ Good) (h : check_tree other ≡ Good) (out left right : List ℕ) (r q : Ran) (a : Running image line out r left) (b : Running other line out q right) where
+module _ (image other line : List ℕ) (g : check_tree image ≡ Ok tt) (h : check_tree other ≡ Ok tt) (out left right : List ℕ) (r q : Result Ran RunRefusal) (a : Running image line out r left) (b : Running other line out q right) where
   both_good : {A : Type 0} (bad : ℕ → A) (x y : A) → x ≡ y → on_checked (check_tree image) bad x ≡ on_checked (check_tree other) bad y
-  both_good bad x y e = ap (λ (z : Checked). on_checked z bad x) g ∙ e ∙ sym (ap (λ (z : Checked). on_checked z bad y) h)
+  both_good bad x y e = ap (λ (z : Result ⊤ BadFrame). on_checked z bad x) g ∙ e ∙ sym (ap (λ (z : Result ⊤ BadFrame). on_checked z bad y) h)
 
   pub other_commands : Agreeing (frames_of image) (frames_of other) line → (r ≡ q) × (left ≡ right)
   unfolding run_answer run_leaves
   other_commands e =
       let same = said_alike (frames_of image) (frames_of other) line e in (
-        a.answer ∙ both_good (λ n. BadTree n) _ _ (else_alike (ltb 1024 (length line)) _ _ _ (λ l. ap (λ (s : Said). said_answer s (length out)) (same l))) ∙ sym b.answer,
+        a.answer ∙ both_good (λ n. Err (BadTree n)) _ _ (else_alike (ltb 1024 (length line)) _ _ _ (λ l. ap (λ (s : Said). said_answer s (length out)) (same l))) ∙ sym b.answer,
         a.bytes ∙ both_good (λ n. out) _ _ (else_alike (ltb 1024 (length line)) _ _ _ (λ l. ap (λ (s : Said). said_leaves s out) (same l))) ∙ sym b.bytes,
       )
 

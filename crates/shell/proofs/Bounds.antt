@@ -1,4 +1,5 @@
 -- A buffer of 65,533 bytes has room for whatever a line of at most 255 bytes is answered under a well-formed tree.
+use Rattle.std.specs.Prelude.{Ok, Err, Result}
 use Prim.Native.Nat.{ℕ, ◌+◌, ◌*◌, ◌≤◌}
 use mathlib.Core.Path.{◌≡◌, refl, sym, ◌∙◌}
 use mathlib.Core.Bool.{Bool, true, false, cond}
@@ -18,7 +19,6 @@ use Rattle.words.proofs.Standing.{written_most}
 use Rattle.image.specs.Frames.{Frame}
 use Rattle.tree.specs.Images.{frames_of}
 use Rattle.tree.specs.Rules.{start, check_tree}
-use Rattle.tree.specs.declared.check.Checked.TheVariants.{Good}
 use Rattle.tree.proofs.WellFormedImages.{good_well_formed}
 use Rattle.tree.specs.Subtrees.{subtree}
 use Rattle.tree.specs.Commands.{descend}
@@ -36,7 +36,8 @@ use Rattle.parse.proofs.Bounds.{words_more, measure, path_within, parse_most}
 use Rattle.shell.specs.Lines.{Said, silence, text, farewell, handed, builtin_of, on_builtin, begins_help, help_words, help_said, fault_message, joined, handler_of, carried, execute_in, execute, other_said, line_said, said_of}
 use Rattle.shell.specs.Answer.{bytes_of, named, said_answer, said_leaves, run_answer, run_leaves, Running}
 use Rattle.shell.specs.declared.answer.Ran.{Ran}
-use Rattle.shell.specs.declared.answer.Ran.TheVariants.{NoRoom}
+use Rattle.shell.specs.declared.answer.RunRefusal.{RunRefusal}
+use Rattle.shell.specs.declared.answer.RunRefusal.TheVariants.{NoRoom}
 use Rattle.shell.specs.declared.builtin.Builtin.{Builtin}
 use Rattle.shell.specs.declared.builtin.Builtin.TheVariants.{Help, Exit, Clear, None}
 use Rattle.shell.proofs.Lines.{trimmed_whole, trimmed_short}
@@ -115,12 +116,12 @@ module _ (frames : List Frame) (k : Few 256 32 32 frames) where
       by false q = line_most line h (omega (arith, prefix_fits line, ltb-false (well_formed_length line) (length line) q))
 
 -- THE BOUND
-pub said_fits : (image line : List ℕ) → Bytes image → check_tree image ≡ Good → length line ≤ 255 → length (bytes_of (said_of (frames_of image) line)) ≤ 65533
+pub said_fits : (image line : List ℕ) → Bytes image → check_tree image ≡ Ok tt → length line ≤ 255 → length (bytes_of (said_of (frames_of image) line)) ≤ 65533
 said_fits image line b good h =
     said_most (frames_of image) (obey_few (frames_of image) start 256 32 32 refl refl refl (good_well_formed image b good).obey) line h
 
 -- so such a line is answered in full, and never with 9
-module _ (image line out left : List ℕ) (r : Ran) (b : Bytes image) (good : check_tree image ≡ Good) (h : length line ≤ 255) (room : 65533 ≤ length out) (run : Running image line out r left) where
+module _ (image line out left : List ℕ) (r : Result Ran RunRefusal) (b : Bytes image) (good : check_tree image ≡ Ok tt) (h : length line ≤ 255) (room : 65533 ≤ length out) (run : Running image line out r left) where
   fits : ltb (length out) (length (bytes_of (said_of (frames_of image) line))) ≡ false
   fits = let most = said_fits image line b good h in le-ltb (length out) (length (bytes_of (said_of (frames_of image) line))) (omega arith)
 
@@ -132,10 +133,10 @@ module _ (image line out left : List ℕ) (r : Ran) (b : Bytes image) (good : ch
   unfolding run_leaves said_leaves
   run_written = run.bytes ∙ rw (good, le-ltb 1024 (length line) (omega arith), fits)
 
-  pub run_has_room : (n : ℕ) → r ≡ NoRoom n → ⊥
+  pub run_has_room : (n : ℕ) → r ≡ Err (NoRoom n) → ⊥
   run_has_room n e = by (said_of (frames_of image) line) (sym run_answered ∙ e)
     where
-      by : (s : Said) → named s (length (bytes_of s)) ≡ NoRoom n → ⊥
+      by : (s : Said) → named s (length (bytes_of s)) ≡ Err (NoRoom n) → ⊥
       by silence q = let z : ◌≡◌ {A = ℕ} 0 1 = cc in omega arith
       by (text number bytes) q = let z : ◌≡◌ {A = ℕ} 0 1 = cc in omega arith
       by farewell q = let z : ◌≡◌ {A = ℕ} 0 1 = cc in omega arith

@@ -1,52 +1,37 @@
 -- Laws of the messages: a text after its dashes, and the words of a path joined by spaces.
 use Prim.Native.Nat.{ℕ, ◌+◌, ◌-◌, ◌≤◌}
 use mathlib.Core.Path.{◌≡◌, refl, sym, ap, ◌∙◌}
-use mathlib.Core.List.{List, [], ◌∷◌, ◌++◌}
+use mathlib.Core.List.{List, [], ◌∷◌, ◌++◌, append_assoc}
 use native.Mathlib.Omega.{arith}
-use borrow.Author.Tests.{ne_eqb, le-ltb}
 use lib.ListN.{length, take, drop, replicate, length-append, length-take, length-drop, length-replicate}
-use lib.Seq.{take-append_seam}
-use Rattle.buffer.specs.Write.{over}
-use Rattle.buffer.proofs.Choices.{else_is}
+use lib.Seq.{take-append_seam, take_at}
+use Rattle.buffer.specs.Write.{over, over_at, Pushed}
 use Rattle.buffer.proofs.Lending.{over_at_front}
-use Rattle.frame.specs.Framed.{frame_of, frame_first}
+use Rattle.frame.specs.Framed.{frame_first}
 use Rattle.frame.specs.Series.{texts_in, AllFrames}
 use Rattle.frame.specs.declared.framed.Framed.TheVariants.{Frame}
-use Rattle.frame.proofs.Frames.{length_frame_of, frame_found}
 use Rattle.frame.proofs.Series.{texts_end, word_within, word_length, words_more, all_next}
 use Rattle.table.specs.Inner.{part_of}
-use Rattle.report.specs.Report.{fault_of}
-use Rattle.report.specs.Inner.{dashed, report_answer, report_leaves, Reporting}
-use Rattle.report.specs.declared.answer.Reported.{Reported}
+use Rattle.report.specs.Inner.{dashed}
 use Rattle.buffer.specs.Ascii.{ascii}
 use Rattle.buffer.specs.Inks.{Inked, Countable}
 use Rattle.buffer.proofs.Inking.{inked_nothing, inked_both, inked_as}
-use Rattle.message.specs.declared.error.ParseError.TheVariants.{MissingRequired}
 use Rattle.help.specs.Texts.{spaced}
-use Rattle.shell.specs.Lines.{fault_message, joined}
+use Rattle.shell.specs.Lines.{joined}
 
--- the last of the fault numbers
-pub last_message : (number : ℕ) → (number ≡ 4 → ⊥) → (number ≡ 5 → ⊥) → (number ≡ 6 → ⊥) → MissingRequired ≡ fault_message number
-unfolding fault_message
-last_message number a b c = sym (else_is _ _ _ (ne_eqb number 4 a) ∙ else_is _ _ _ (ne_eqb number 5 b) ∙ else_is _ _ _ (ne_eqb number 6 c))
-
--- A TEXT AFTER ITS DASHES, lent from the frame of a fault
-module _ (dashes : ℕ) (text : List ℕ) where
-  length_dashed : length (dashed dashes text) ≡ dashes + length text
-  unfolding dashed
-  length_dashed = length-append (replicate dashes 0x2D) text ∙ ap (λ (n : ℕ). n + length text) (length-replicate {A = ℕ} dashes 0x2D)
-
-  pub dashed_lent : (frame left : List ℕ) (q : Reported) → Reporting (fault_of (dashed dashes text)) frame q left → 3 + dashes + length text ≤ length frame
-      → take (3 + dashes + length text - 3) (drop 3 left) ≡ dashed dashes text
-  unfolding fault_of report_answer report_leaves over
-  dashed_lent frame left q w h =
-      let d : List ℕ = dashed dashes text in
-      let l = length_frame_of 0x1E d in
-      let m = length_dashed in
-      let fits : length (frame_of 0x1E d) ≤ length frame = omega arith in
-      let n : 3 + dashes + length text - 3 ≡ length d = omega arith in
-      let b : left ≡ frame_of 0x1E d ++ drop (length (frame_of 0x1E d)) frame = w.bytes ∙ rw (le-ltb (length frame) (length (frame_of 0x1E d)) fits) in
-      rw (n, b) (frame_found 0x1E d (drop (length (frame_of 0x1E d)) frame))
+-- A TEXT AFTER ITS DASHES: the dashes fill the front of a buffer, and the text is put after them
+pub dashed_put : (dashes r : ℕ) (text out front left : List ℕ) → dashes ≤ length out → front ≡ replicate (length (take dashes out)) 0x2D
+    → Pushed text (front ++ drop dashes out) dashes r left → take r left ≡ dashed dashes text
+unfolding over over_at dashed
+dashed_put dashes r text out front left h e p =
+    let n : length (take dashes out) ≡ dashes = rw length-take (omega arith) in
+    let f : front ≡ replicate dashes 0x2D = e ∙ ap (λ (m : ℕ). replicate {A = ℕ} m 0x2D) n in
+    let size : length front ≡ dashes = ap length f ∙ length-replicate {A = ℕ} dashes 0x2D in
+    let rest : List ℕ = drop (length text) (drop dashes (front ++ drop dashes out)) in
+    let l : left ≡ (front ++ text) ++ rest =
+    p.bytes ∙ ap (λ (x : List ℕ). x ++ (text ++ rest)) (take_at front (drop dashes out) dashes size) ∙ sym (append_assoc front text rest) in
+    let whole : length (front ++ text) ≡ r = length-append front text ∙ ap (λ (m : ℕ). m + length text) size ∙ sym p.place in
+    rw l (take_at (front ++ text) rest r whole) ∙ ap (λ (x : List ℕ). x ++ text) f
 
 -- A PATH ON ITS WAY: whoever writes the words that are left has written them all
 pub record OnPath (path out₀ out : List ℕ) (at end : ℕ) : Type 0 where

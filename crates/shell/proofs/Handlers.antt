@@ -20,7 +20,7 @@ use Rattle.parse.specs.Commands.{fault, parse_in, parse_words}
 use Rattle.parse.proofs.Definitions.{frames_none}
 use Rattle.shell.specs.Lines.{handler_of, carried, execute_in, execute}
 use Rattle.shell.specs.Inner.{handler_by}
-use Rattle.shell.specs.declared.handler.Handler.TheVariants.{Number, None}
+use Rattle.std.specs.Prelude.{Some, None}
 
 -- THE HANDLER of the node that bytes begin with
 module _ (s : List ℕ) where
@@ -37,7 +37,7 @@ module _ (s : List ℕ) where
   no_node End e k = sym (ap handler_of (frames_none s End e (hit (3 ∷ 4 ∷ []) 4 tt)))
 
   -- by its number, which 0 is not
-  pub handler_there : (d h : ℕ) (t : Lengths) → head_first s ≡ Node d h t → (h ≡ 0 → ⊥) → Number h ≡ handler_by (handler_of (frames_of s))
+  pub handler_there : (d h : ℕ) (t : Lengths) → head_first s ≡ Node d h t → (h ≡ 0 → ⊥) → Some h ≡ handler_by (handler_of (frames_of s))
   handler_there d h t e k = sym (else_is _ _ _ (ne_eqb h 0 k)) ∙ ap handler_by (handler_is d h t e)
 
   pub handler_lacking : (d h : ℕ) (t : Lengths) → head_first s ≡ Node d h t → h ≡ 0 → None ≡ handler_by (handler_of (frames_of s))

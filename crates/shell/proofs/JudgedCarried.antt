@@ -1,5 +1,5 @@
 -- What is carried out of what was judged: a fault by its parts, and a command with its handler or without.
-use Prim.Native.Nat.{ℕ, ◌<◌, ◌≤◌}
+use Prim.Native.Nat.{ℕ, ◌≤◌}
 use mathlib.Core.Path.{◌≡◌, refl, sym, ap, ◌∙◌}
 use mathlib.Core.Bool.{Bool, true, false, cond}
 use mathlib.Core.List.{List}
@@ -20,27 +20,26 @@ use Rattle.arguments.specs.Inner.{found_of}
 use Rattle.parse.specs.Commands.{parsed, parse_words}
 use Rattle.parse.specs.Answer.{told_in}
 use Rattle.parse.specs.Inner.{outcome_in, number_of, dashes_of, text_of}
-use Rattle.parse.specs.declared.judging.Verdict.{Verdict}
-use Rattle.parse.specs.declared.judging.Verdict.TheVariants.{Fine, NoWords, UnknownCommand, UnknownOption, MissingValue, MissingRequired}
+use Rattle.parse.specs.declared.judging.Fault.{Fault}
+use Rattle.parse.specs.declared.judging.Fault.TheVariants.{NoWords, UnknownCommand, UnknownOption, MissingValue, MissingRequired}
 use Rattle.parse.specs.declared.judging.Judged.{Judged}
-use Rattle.parse.proofs.OutcomesTold.{fault_told, report_told}
+use Rattle.parse.proofs.OutcomesTold.{fault_in, report_in}
 use Rattle.shell.specs.Lines.{text, handed, fault_message, joined, handler_of, carried, execute}
-use Rattle.shell.specs.Inner.{handler_by}
-use Rattle.shell.specs.declared.handler.Handler.TheVariants.{Number, None}
+use Rattle.shell.specs.Inner.{handler_by, error_of}
+use Rattle.std.specs.Prelude.{Some, None, Ok, Err}
 use Rattle.shell.proofs.Handlers.{execute_top}
 
--- a fault's number is a byte
-pub number_small : (v : Verdict) → number_of v < 256
-number_small Fine = omega arith
-number_small NoWords = omega arith
-number_small (UnknownCommand word) = omega arith
-number_small (UnknownOption told) = omega arith
-number_small (MissingValue told) = omega arith
-number_small (MissingRequired name) = omega arith
+-- the message of a fault is that of its number
+error_told : (f : Fault) → error_of f ≡ fault_message (number_of f)
+unfolding fault_message
+error_told NoWords = refl
+error_told (UnknownCommand word) = refl
+error_told (UnknownOption told) = refl
+error_told (MissingValue told) = refl
+error_told (MissingRequired name) = refl
 
 -- after dashes stands a part of the words
-pub dashed_short : (words part : List ℕ) (v : Verdict) → (dashes_of v ≡ 0 → ⊥) → length (text_of words part v) ≤ length words
-dashed_short words part Fine k = absurd (k refl)
+pub dashed_short : (words part : List ℕ) (f : Fault) → (dashes_of f ≡ 0 → ⊥) → length (text_of words part f) ≤ length words
 dashed_short words part NoWords k = absurd (k refl)
 dashed_short words part (UnknownCommand word) k = absurd (k refl)
 dashed_short words part (UnknownOption told) k = rw (length-take, length-drop) (omega arith)
@@ -58,16 +57,14 @@ module _ (words image rest : List ℕ) (j : Judged) (handler : ℕ) where
   found = found_of words part rest j.scan
 
   -- A FAULT
-  module _ (number dashes : ℕ) (told : ParseError) (t : List ℕ) (n : number ≡ number_of j.verdict) (some : number_of j.verdict ≡ 0 → ⊥)
-      (d : dashes ≡ dashes_of j.verdict) (e : t ≡ text_of words part j.verdict) (m : told ≡ fault_message number) where
+  module _ (f : Fault) (v : j.verdict ≡ Err f) (number dashes : ℕ) (told : ParseError) (t : List ℕ)
+      (n : number ≡ number_of f) (d : dashes ≡ dashes_of f) (e : t ≡ text_of words part f) (m : told ≡ error_of f) where
     pub fault_carried : text number (message told (dashed dashes t)) ≡ carried handler (outcome_in words image rest j)
-    unfolding outcome_in carried
+    unfolding carried
     fault_carried =
-        ap (λ (x : ParseError). text number (message x (dashed dashes t))) m
-        ∙ ap (λ (x : ℕ). text x (message (fault_message x) (dashed dashes t))) n
-        ∙ ap (λ (x : ℕ). text (number_of j.verdict) (message (fault_message (number_of j.verdict)) (dashed x t))) d
-        ∙ ap (λ (x : List ℕ). text (number_of j.verdict) (message (fault_message (number_of j.verdict)) (dashed (dashes_of j.verdict) x))) e
-        ∙ sym (ap (carried handler) (fault_told words part path found j.verdict some))
+        ap (λ (x : ParseError). text number (message x (dashed dashes t))) (m ∙ error_told f)
+        ∙ ap (λ (x : ℕ). text x (message (fault_message (number_of f)) (dashed dashes t))) n
+        ∙ ap (carried handler) (fault_in words image rest j f dashes t v d e)
 
     -- without dashes
     pub plain_carried : dashes ≡ 0 → text number (message told t) ≡ carried handler (outcome_in words image rest j)
@@ -75,20 +72,20 @@ module _ (words image rest : List ℕ) (j : Judged) (handler : ℕ) where
     plain_carried z = ap (λ (x : ℕ). text number (message told (dashed x t))) (sym z) ∙ fault_carried
 
   -- A COMMAND
-  module _ (fine : number_of j.verdict ≡ 0) where
+  module _ (fine : j.verdict ≡ Ok tt) where
     pub lacking_carried : None ≡ handler_by handler → text 8 (message NoHandler (joined path)) ≡ carried handler (outcome_in words image rest j)
-    unfolding outcome_in carried
-    lacking_carried e = sym (ap (carried handler) (report_told words part path found j.verdict fine) ∙ by (eqb handler 0) e)
+    unfolding carried
+    lacking_carried e = sym (ap (carried handler) (sym (report_in words image rest j fine)) ∙ by (eqb handler 0) e)
       where
-        by : (t : Bool) → None ≡ cond t None (Number handler) → cond t (text 8 (message NoHandler (joined path))) (handed handler (told_in (parsed path found))) ≡ text 8 (message NoHandler (joined path))
+        by : (t : Bool) → None ≡ cond t None (Some handler) → cond t (text 8 (message NoHandler (joined path))) (handed handler (told_in (parsed path found))) ≡ text 8 (message NoHandler (joined path))
         by true q = refl
         by false q = cc
 
-    pub handed_carried : (number : ℕ) → Number number ≡ handler_by handler → handed number (report_of path found.options found.flags found.positionals) ≡ carried handler (outcome_in words image rest j)
-    unfolding outcome_in carried told_in
-    handed_carried number e = sym (ap (carried handler) (report_told words part path found j.verdict fine) ∙ by (eqb handler 0) e)
+    pub handed_carried : (number : ℕ) → Some number ≡ handler_by handler → handed number (report_of path found.options found.flags found.positionals) ≡ carried handler (outcome_in words image rest j)
+    unfolding carried told_in
+    handed_carried number e = sym (ap (carried handler) (sym (report_in words image rest j fine)) ∙ by (eqb handler 0) e)
       where
-        by : (t : Bool) → Number number ≡ cond t None (Number handler)
+        by : (t : Bool) → Some number ≡ cond t None (Some handler)
             → cond t (text 8 (message NoHandler (joined path))) (handed handler (told_in (parsed path found))) ≡ handed number (report_of path found.options found.flags found.positionals)
         by true q = cc
         by false q = let k : handler ≡ number = cc in ap (λ (n : ℕ). handed n (report_of path found.options found.flags found.positionals)) k

@@ -1,19 +1,17 @@
 -- What a line tells on its way: a trimmed line is well-formed where the line is, its words find room, and each answer is the call's.
+use Rattle.std.specs.Prelude.{Ok, Err, Result, ⊤}
 use Prim.Native.Nat.{ℕ, ◌<◌, ◌≤◌, min}
 use mathlib.Core.Path.{◌≡◌, refl, sym, ap, ◌∙◌}
 use mathlib.Core.Bool.{Bool, true, false}
 use mathlib.Core.List.{List, [], ◌∷◌, ◌++◌}
 use native.Mathlib.Omega.{arith}
 use borrow.Author.Tests.{lt-ltb, le-ltb}
-use types.Run.{OneOf, miss}
-use denote.Enum.Declared.{tag_of}
 use lib.ListN.{length, take, drop, length-append}
 use Rattle.buffer.specs.Compare.{same_bytes}
 use Rattle.buffer.proofs.Choices.{then_is, else_is, true_is_not_false}
 use Rattle.text.specs.Unicode.{Scalar, Scalars, none, more, encode, encode_all}
 use Rattle.text.specs.Decoding.{Piece, character, stray, pieces_of, bytes_all, codes_of, codes_in, well_formed_length}
-use Rattle.text.specs.Apart.{trimmed, blank, words_between, next_word}
-use Rattle.text.specs.declared.apart.Word.TheVariants.{At, Nothing as NoWord}
+use Rattle.text.specs.Apart.{trimmed, blank, words_between}
 use Rattle.text.proofs.Prefix.{codes_scalars, whole_is}
 use Rattle.text.proofs.Pieces.{pieces_bytes}
 use Rattle.text.proofs.Splits.{trimming, bytes_append}
@@ -22,20 +20,18 @@ use Rattle.frame.proofs.Series.{all_none}
 use Rattle.words.specs.Tokens.{words_of}
 use Rattle.words.proofs.GoodWords.{nothing}
 use Rattle.arguments.specs.Inner.{WellSplit}
-use Rattle.words.specs.declared.tokenizer.Tokens.{Tokens}
-use Rattle.words.specs.declared.tokenizer.Tokens.TheVariants.{Words, LineTooLong as TooLong, IllFormed as Ill, NoRoom as TooShort}
-use Rattle.words.specs.contracts.tokenizer.Tokens.{the_type}
+use Rattle.words.specs.declared.tokenizer.TokenizeRefusal.{TokenizeRefusal}
+use Rattle.words.specs.declared.tokenizer.TokenizeRefusal.TheVariants.{LineTooLong as TooLong, IllFormed as Ill, NoRoom as TooShort}
 use Rattle.image.specs.Frames.{Frame}
 use Rattle.tree.specs.Images.{frames_of}
 use Rattle.tree.specs.Rules.{check_tree}
-use Rattle.tree.specs.declared.check.Checked.{Checked}
-use Rattle.tree.specs.declared.check.Checked.TheVariants.{Good, BadFrame}
+use Rattle.tree.specs.declared.check.BadFrame.{BadFrame}
 use Rattle.buffer.specs.Ascii.{ascii}
 use Rattle.message.specs.Messages.{ill_formed, clear_screen}
 use Rattle.message.specs.Debug.{unknown_help}
 use Rattle.help.specs.Texts.{help_text, available_text}
-use Rattle.help.proofs.SpacedWords.{next_told, next_nothing}
-use Rattle.help.specs.Paths.{between, FoundAt, LostAt}
+use Rattle.buffer.specs.Lend.{between}
+use Rattle.help.specs.Paths.{FoundAt, LostAt}
 use Rattle.help.specs.Answer.{help_of, help_line}
 use Rattle.help.proofs.Answers.{reply_none, reply_found, reply_lost}
 use Rattle.parse.specs.Answer.{on_checked}
@@ -45,7 +41,9 @@ use Rattle.shell.specs.Answer.{run_answer, run_leaves, Running}
 use Rattle.shell.specs.Inner.{Answered, Splits}
 use Rattle.shell.specs.declared.builtin.Builtin.{Builtin}
 use Rattle.shell.specs.declared.answer.Ran.{Ran}
-use Rattle.shell.specs.declared.answer.Ran.TheVariants.{Nothing, BadTree, LineTooLong}
+use Rattle.shell.specs.declared.answer.RunRefusal.{RunRefusal}
+use Rattle.shell.specs.declared.answer.Ran.TheVariants.{Nothing}
+use Rattle.shell.specs.declared.answer.RunRefusal.TheVariants.{BadTree, LineTooLong}
 use Rattle.shell.proofs.WrittenAnswers.{said_nothing, said_same}
 
 -- A TRIMMED LINE: all pieces of a well-formed text are characters, and so are those that are kept
@@ -105,11 +103,11 @@ trimmed_short line =
     omega arith
 
 -- ITS WORDS are never refused
-pub words_there : (line : List ℕ) (t : Tokens) → length line ≤ 1024 → well_formed_length line ≡ length line → LineTold line t → OneOf (1 ∷ 2 ∷ 3 ∷ []) (tag_of the_type t) → ⊥
-words_there line (Words n) h w x k = miss (1 ∷ 2 ∷ 3 ∷ []) 0 tt k
-words_there line (TooLong n) h w x k = true_is_not_false (sym x.0 ∙ le-ltb 1024 (length line) h)
-words_there line (Ill n) h w x k = true_is_not_false (sym x.1 ∙ le-ltb (well_formed_length line) (length line) (omega arith))
-words_there line (TooShort n) h w x k = x
+pub words_there : (line : List ℕ) (t : Result ℕ TokenizeRefusal) → length line ≤ 1024 → well_formed_length line ≡ length line → LineTold line t → ((n : ℕ) → t ≡ Ok n → ⊥) → ⊥
+words_there line (Ok n) h w x k = k n refl
+words_there line (Err (TooLong n)) h w x k = true_is_not_false (sym x.0 ∙ le-ltb 1024 (length line) h)
+words_there line (Err (Ill n)) h w x k = true_is_not_false (sym x.1 ∙ le-ltb (well_formed_length line) (length line) (omega arith))
+words_there line (Err (TooShort n)) h w x k = x
 
 -- no words are split so
 pub split_none : WellSplit []
@@ -129,22 +127,22 @@ module _ (image words out : List ℕ) where
   abbrev asked : Said
   asked = help_said (help_of (frames_of image) (words_between words))
 
-  pub help_none : next_word 0 words ≡ NoWord → Answered asked out Nothing out
+  pub help_none : words_between words ≡ [] → Answered asked out (Ok Nothing) out
   unfolding help_line
-  help_none e = said_same _ asked out _ _ (sym (ap help_said (reply_none image words (next_nothing words e)))) (said_nothing out)
+  help_none e = said_same _ asked out _ _ (sym (ap help_said (reply_none image words e))) (said_nothing out)
 
-  module _ (first last : ℕ) (e : next_word 0 words ≡ At first last) (begin end : ℕ) (r : Ran) (left : List ℕ) where
+  module _ (some : words_between words ≡ [] → ⊥) (begin end : ℕ) (r : Result Ran RunRefusal) (left : List ℕ) where
     pub help_found : FoundAt image words begin end → (node : List ℕ) → node ≡ between image begin end → Answered (text 0 (help_text (words_between words) (frames_of node))) out r left → Answered asked out r left
     unfolding help_line
     help_found f node n a =
         said_same _ asked out r left
-        (ap (λ (s : List ℕ). text 0 (help_text (words_between words) (frames_of s))) n ∙ sym (ap help_said (reply_found image words _ _ (next_told words first last e).words begin end f))) a
+        (ap (λ (s : List ℕ). text 0 (help_text (words_between words) (frames_of s))) n ∙ sym (ap help_said (reply_found image words some begin end f))) a
 
     pub help_lost : LostAt image words begin end → (word : List ℕ) → word ≡ between words begin end → Answered (text 4 (unknown_help word)) out r left → Answered asked out r left
     unfolding help_line
     help_lost f word n a =
         said_same _ asked out r left
-        (ap (λ (s : List ℕ). text 4 (unknown_help s)) n ∙ sym (ap help_said (reply_lost image words _ _ (next_told words first last e).words begin end f))) a
+        (ap (λ (s : List ℕ). text 4 (unknown_help s)) n ∙ sym (ap help_said (reply_lost image words some begin end f))) a
 
 -- A LINE by its beginning
 module _ (line : List ℕ) where
@@ -172,27 +170,27 @@ module _ (line : List ℕ) where
         ap (λ (x : Builtin). on_builtin x (text 0 (available_text frames)) farewell (text 0 clear_screen) (other_said frames line)) (sym k ∙ e ∙ ap builtin_of q)
 
 -- THE CALL, by its refusals in their order
-as_bad : {A : Type 0} (x : Checked) (n : ℕ) (bad : ℕ → A) (a : A) → x ≡ BadFrame n → on_checked x bad a ≡ bad n
-as_bad x n bad a e = ap (λ (y : Checked). on_checked y bad a) e
+as_bad : {A : Type 0} (x : Result ⊤ BadFrame) (n : ℕ) (bad : ℕ → A) (a : A) → x ≡ Err (record { number = n }) → on_checked x bad a ≡ bad n
+as_bad x n bad a e = ap (λ (y : Result ⊤ BadFrame). on_checked y bad a) e
 
 module _ (image line out : List ℕ) where
-  pub bad_tree_lem : (n : ℕ) → check_tree image ≡ BadFrame n → Running image line out (BadTree n) out
+  pub bad_tree_lem : (n : ℕ) → check_tree image ≡ Err (record { number = n }) → Running image line out (Err (BadTree n)) out
   unfolding run_answer run_leaves
-  bad_tree_lem n e = record { answer = sym (as_bad (check_tree image) n (λ m. BadTree m) _ e); bytes = sym (as_bad (check_tree image) n (λ m. out) _ e) }
+  bad_tree_lem n e = record { answer = sym (as_bad (check_tree image) n (λ m. Err (BadTree m)) _ e); bytes = sym (as_bad (check_tree image) n (λ m. out) _ e) }
 
-  module _ (good : check_tree image ≡ Good) where
+  module _ (good : check_tree image ≡ Ok tt) where
     as_good : {A : Type 0} (bad : ℕ → A) (a : A) → on_checked (check_tree image) bad a ≡ a
-    as_good bad a = ap (λ (x : Checked). on_checked x bad a) good
+    as_good bad a = ap (λ (x : Result ⊤ BadFrame). on_checked x bad a) good
 
-    pub too_long : (n : ℕ) → 1024 < length line → n ≡ min (length line) 65535 → Running image line out (LineTooLong n) out
+    pub too_long : (n : ℕ) → 1024 < length line → n ≡ min (length line) 65535 → Running image line out (Err (LineTooLong n)) out
     unfolding run_answer run_leaves
     too_long n h e =
         record {
-          answer = ap LineTooLong e ∙ sym (as_good _ _ ∙ then_is _ _ _ (lt-ltb 1024 (length line) h));
+          answer = ap (λ (n : ℕ). Err (LineTooLong n)) e ∙ sym (as_good _ _ ∙ then_is _ _ _ (lt-ltb 1024 (length line) h));
           bytes = sym (as_good _ _ ∙ then_is _ _ _ (lt-ltb 1024 (length line) h));
         }
 
-    module _ (h : length line ≤ 1024) (r : Ran) (left : List ℕ) where
+    module _ (h : length line ≤ 1024) (r : Result Ran RunRefusal) (left : List ℕ) where
       running : Answered (said_of (frames_of image) line) out r left → Running image line out r left
       unfolding run_answer run_leaves
       running a =

@@ -1,58 +1,46 @@
-// What running a line answers.
-ghost use Rattle.std.specs.Prelude.{List, ℕ};
-ghost use Rattle.buffer.specs.Showing.{Showing};
-ghost use Rattle.report.specs.Inner.{Reporting};
-ghost use Rattle.message.specs.Messages.{goodbye};
-ghost use Rattle.shell.specs.Lines.{text, farewell, handed};
-ghost use Rattle.shell.specs.Inner.{Answered};
+// What running a line answers, or why the line is not run.
+ghost use Rattle.std.specs.Prelude.{◌≡◌};
+ghost use Rattle.shell.specs.declared.answer.RunRefusal.TheVariants.{BadTree, NoRoom};
 
-use buffer::Shown;
-use report::Reported;
+use buffer::TooShort;
+use tree::BadFrame;
 
+// What a line that was run answers. What it says stands at the front of the buffer, so many bytes.
 #[derive(Clone, Copy)]
 pub enum Ran {
-    // Nothing is to be done.
+    // Nothing is to be done, and nothing is said.
     Nothing,
-    // A text stands in the buffer, so many bytes: a message with its number, or help, the list or `clear` with 0.
+    // A text: a message with its number, or help, the list of commands or `clear` with 0.
     Text { number: u8, length: usize },
-    // The end, with its text of so many bytes.
+    // The end is asked for: its text of so many bytes.
     Exit(usize),
-    // A handler by its number, and the report for it, so many bytes.
+    // The line calls a handler, by its number: the report for it.
     Handler { handler: u16, length: usize },
+}
+
+// Why a line is not run. The buffer is left as it was.
+#[derive(Clone, Copy)]
+pub enum RunRefusal {
     // The tree is bad: the number of its first frame that breaks a rule.
     BadTree(usize),
     // The line has over 1,024 bytes: its length, 65,535 if more.
     LineTooLong(usize),
-    // The buffer is too short: the length needed.
+    // What the line says is longer than the buffer: its length.
     NoRoom(usize),
 }
 
-// What showing a text answers here, with the number beside it.
-pub fn shown(number: u8, answer: Shown) -> Ran
-    ensures { (bytes out left : List ℕ) → Showing bytes out answer left → Answered (text number bytes) out result left }
-{
-    match answer {
-        Shown::Text(length) => Ran::Text { number, length },
-        Shown::NoRoom(n) => Ran::NoRoom(n),
+impl From<BadFrame> for RunRefusal {
+    ghost from_gives = { λ bad refusal. refusal ≡ BadTree bad.number };
+
+    fn from(bad: BadFrame) -> RunRefusal {
+        RunRefusal::BadTree(bad.number)
     }
 }
 
-// What showing the text of the end answers here.
-pub fn exited(answer: Shown) -> Ran
-    ensures { (out left : List ℕ) → Showing goodbye out answer left → Answered farewell out result left }
-{
-    match answer {
-        Shown::Text(n) => Ran::Exit(n),
-        Shown::NoRoom(n) => Ran::NoRoom(n),
-    }
-}
+impl From<TooShort> for RunRefusal {
+    ghost from_gives = { λ short refusal. refusal ≡ NoRoom short.needed };
 
-// What writing a report answers here, with the handler that it is for.
-pub fn called(handler: u16, reported: Reported) -> Ran
-    ensures { (frames out left : List ℕ) → Reporting frames out reported left → Answered (handed handler frames) out result left }
-{
-    match reported {
-        Reported::Report(length) => Ran::Handler { handler, length },
-        Reported::NoRoom(n) => Ran::NoRoom(n),
+    fn from(short: TooShort) -> RunRefusal {
+        RunRefusal::NoRoom(short.needed)
     }
 }

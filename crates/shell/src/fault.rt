@@ -8,34 +8,40 @@ ghost use Rattle.buffer.specs.Showing.{Showing};
 ghost use Rattle.message.specs.Messages.{message};
 ghost use Rattle.message.specs.declared.error.ParseError.TheVariants.{NoHandler};
 ghost use Rattle.help.specs.Texts.{spaced};
-ghost use Rattle.shell.specs.Lines.{fault_message, joined};
+ghost use Rattle.shell.specs.Lines.{joined};
+ghost use Rattle.shell.specs.Inner.{error_of};
 
-use buffer::{Shown, put, rest};
+use buffer::{TooShort, push, put, rest};
 use frame::{FRAMES_LIMIT, Framed, read_frame};
 use message::{ParseError, show_message};
-use report::write_fault;
+use parse::Fault;
 
-// The message of a fault by its number.
-pub fn told_of(number: u8) -> ParseError
-    ensures { result ≡ fault_message number }
+// The message of a fault.
+pub fn error_of(fault: Fault) -> ParseError
+    ensures { result ≡ error_of fault }
 {
-    match number {
-        4 => ParseError::UnknownCommand,
-        5 => ParseError::UnknownOption,
-        6 => ParseError::MissingValue,
-        _ => ParseError::MissingRequired,
+    match fault {
+        Fault::NoWords | Fault::UnknownCommand(_) => ParseError::UnknownCommand,
+        Fault::UnknownOption(_) => ParseError::UnknownOption,
+        Fault::MissingValue(_) => ParseError::MissingValue,
+        Fault::MissingRequired(_) => ParseError::MissingRequired,
     }
 }
 
-// The message that names some dashes and a text: put together as the frame of a fault, and lent without its head.
-pub fn show_dashed(told: ParseError, dashes: usize, text: &[u8], out: &mut [u8]) -> Shown
+// The message that names some dashes and a text after them.
+pub fn show_dashed(
+    told: ParseError,
+    dashes: usize,
+    text: &[u8],
+    out: &mut [u8],
+) -> Result<usize, TooShort>
     requires { (dashes < 256) × (length text.now ≤ frames_limit) }
     ensures { Showing (message told (dashed dashes text.now)) out.old result out.new }
 {
-    let mut frame = [0u8; 4608];
-    write_fault(dashes, text, &mut frame);
-    let end = 3 + dashes + text.len();
-    show_message(told, &frame[3..end], out)
+    let mut dashed = [0u8; 4608];
+    dashed[..dashes].fill(b'-');
+    let end = push(text, &mut dashed, dashes);
+    show_message(told, &dashed[..end], out)
 }
 
 // Writes the words of a path, which come as frames, each after a space, and returns the place after them.
@@ -59,7 +65,7 @@ fn put_path(path: &[u8], out: &mut [u8]) -> usize
 }
 
 // The message of a command without a handler, which names its path joined by spaces.
-pub fn show_no_handler(path: &[u8], out: &mut [u8]) -> Shown
+pub fn show_no_handler(path: &[u8], out: &mut [u8]) -> Result<usize, TooShort>
     requires { (length path.now ≤ frames_limit) × AllFrames path.now }
     ensures { Showing (message NoHandler (joined (texts_in path.now))) out.old result out.new }
 {

@@ -6,14 +6,8 @@ ghost use Rattle.shell.specs.Inner.{handler_by};
 
 use image::{Head, head_of};
 
-#[derive(Clone, Copy)]
-pub enum Handler {
-    Number(u16),
-    None,
-}
-
 // The handler of the node that frames begin with; an image says 0 where there is none.
-pub fn handler_of(frames: &[u8]) -> Handler
+pub fn handler_of(frames: &[u8]) -> Option<u16>
     ensures { result ≡ handler_by (handler_of (frames_of frames.now)) }
 {
     let Head::Node {
@@ -22,10 +16,10 @@ pub fn handler_of(frames: &[u8]) -> Handler
         texts: _,
     } = head_of(frames)
     else {
-        return Handler::None;
+        return None;
     };
     if handler == 0 {
-        return Handler::None;
+        return None;
     }
-    Handler::Number(handler as u16)
+    Some(handler as u16)
 }

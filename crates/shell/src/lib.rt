@@ -7,5 +7,5 @@ mod fault;
 mod handler;
 mod runner;
 
-pub use answer::Ran;
+pub use answer::{Ran, RunRefusal};
 pub use runner::run;

@@ -1,11 +1,10 @@
 -- Laws of the calls on a saved state: what each way through the code answers and leaves.
+use Rattle.std.specs.Prelude.{Ok, Err, Result, ⊤}
 use Prim.Native.Nat.{ℕ, ◌<◌, ◌≤◌}
 use mathlib.Core.Path.{◌≡◌, refl, sym, ap, ◌∙◌}
 use mathlib.Core.Bool.{Bool, true, false, cond}
-use mathlib.Core.List.{List, [], ◌∷◌}
+use mathlib.Core.List.{List}
 use native.Mathlib.Omega.{arith}
-use types.Run.{OneOf, miss}
-use denote.Enum.Declared.{tag_of}
 use lib.Dec.{ltb}
 use lib.ListN.{length}
 use borrow.Author.Tests.{lt-ltb, le-ltb}
@@ -14,13 +13,11 @@ use Rattle.history.specs.Entries.{total}
 use Rattle.history.specs.Journal.{Journal, no_entries, offered, record_of, journal_of, good}
 use Rattle.history.specs.Answer.{Emptied, add_answer, record_by, slots_by, Addition}
 use Rattle.history.specs.declared.stepping.History.{History}
-use Rattle.history.specs.declared.adding.Added.{Added}
-use Rattle.history.specs.declared.adding.Added.TheVariants.{Done, BadState as BadHistory, TooLong, IllFormed}
+use Rattle.history.specs.declared.adding.AddRefusal.{AddRefusal}
+use Rattle.history.specs.declared.adding.AddRefusal.TheVariants.{BadState as BadHistory, TooLong, IllFormed}
 use Rattle.history.specs.Forgotten.{forgotten, forget_answer, record_left, Forgets}
-use Rattle.history.specs.declared.forgetting.Forgot.{Forgot}
-use Rattle.history.specs.declared.forgetting.Forgot.TheVariants.{Gone, BadState as NoHistory, NoEntry}
-use Rattle.history.specs.contracts.adding.Added.{the_type}
-use Rattle.history.specs.contracts.forgetting.Forgot.{the_type as forgot_type}
+use Rattle.history.specs.declared.forgetting.ForgetRefusal.{ForgetRefusal}
+use Rattle.history.specs.declared.forgetting.ForgetRefusal.TheVariants.{BadState as NoHistory, NoEntry}
 use Rattle.history.proofs.Lasting.{added_good, forgets_good}
 use Rattle.editor.proofs.States.{good_parts, state_parts, good_state_lem}
 use Rattle.editor.proofs.Fine.{stays_good}
@@ -28,27 +25,27 @@ use Rattle.keys.specs.declared.standing.Profile.{Profile}
 use Rattle.keys.specs.Modes.{is_profile, profile_of}
 use Rattle.editor.specs.declared.line.Editor.{Editor}
 use Rattle.editor.specs.declared.drawing.KeyAnswer.{KeyAnswer}
-use Rattle.editor.specs.declared.drawing.Pressed.TheVariants.{BadState}
+use Rattle.editor.specs.declared.drawing.KeyRefusal.TheVariants.{BadState}
 use Rattle.editor.specs.Line.{fresh_editor}
 use Rattle.editor.specs.Turns.{turn_of}
 use Rattle.editor.specs.Answer.{state_of, editor_of, history_of, good_state, key_answer, refused, Pressing}
-use Rattle.state.specs.State.{state_size, saved_of, editor_in, history_in, good_saved}
+use Rattle.state.specs.State.{state_size, saved_of, editor_in, history_in, good_saved, Read}
 use Rattle.state.specs.Calls.{begin_answer, fresh_saved, Beginning, turn_in, press_answer, saved_after, SavedKey, saved_answer, state_by, SavedAdd, saved_forget_answer, state_left, SavedForget}
-use Rattle.state.specs.declared.calls.Begun.TheVariants.{Ready, NoRoom, BadState as NoState}
-use Rattle.state.proofs.Savings.{size_is, good_saved_parts, Fits, good_fits, Read, read_good}
+use Rattle.state.specs.declared.calls.BeginRefusal.TheVariants.{NoRoom, BadState as NoState}
+use Rattle.state.proofs.Savings.{size_is, good_saved_parts, Fits, good_fits, read_good}
 
 -- a fresh session
 module _ (profile : ℕ) (state slots : List ℕ) where
-  pub no_profile : is_profile profile ≡ false → Beginning profile state slots NoState state slots
+  pub no_profile : is_profile profile ≡ false → Beginning profile state slots (Err NoState) state slots
   unfolding begin_answer
   no_profile n = record { answer = sym (else_is _ _ _ n); kept = refl; held = refl }
 
   module _ (p : is_profile profile ≡ true) where
-    pub short_state : length state < 266 → Beginning profile state slots (NoRoom 266) state slots
+    pub short_state : length state < 266 → Beginning profile state slots (Err (NoRoom 266)) state slots
     unfolding begin_answer
     short_state a =
         record {
-          answer = sym (then_is _ _ _ p ∙ then_is _ _ _ (ap (ltb (length state)) size_is ∙ lt-ltb _ 266 a) ∙ ap NoRoom size_is);
+          answer = sym (then_is _ _ _ p ∙ then_is _ _ _ (ap (ltb (length state)) size_is ∙ lt-ltb _ 266 a) ∙ ap (λ (n : ℕ). Err (NoRoom n)) size_is);
           kept = refl;
           held = refl;
         }
@@ -57,7 +54,7 @@ module _ (profile : ℕ) (state slots : List ℕ) where
       room : ltb (length state) state_size ≡ false
       room = ap (ltb (length state)) size_is ∙ le-ltb _ 266 a
 
-      pub long_state : 266 < length state → Beginning profile state slots NoState state slots
+      pub long_state : 266 < length state → Beginning profile state slots (Err NoState) state slots
       unfolding begin_answer
       long_state m =
           record {
@@ -67,19 +64,19 @@ module _ (profile : ℕ) (state slots : List ℕ) where
           }
 
       module _ (m : length state ≤ 266) where
-        exact : begin_answer profile (length state) (length slots) ≡ cond (ltb (length slots) 25600) (NoRoom 25600) (cond (ltb 25600 (length slots)) NoState Ready)
+        exact : begin_answer profile (length state) (length slots) ≡ cond (ltb (length slots) 25600) (Err (NoRoom 25600)) (cond (ltb 25600 (length slots)) (Err NoState) (Ok tt))
         unfolding begin_answer
         exact = then_is _ _ _ p ∙ else_is _ _ _ room ∙ else_is _ _ _ (ap (λ (n : ℕ). ltb n (length state)) size_is ∙ le-ltb 266 _ m)
 
-        pub short_slots : length slots < 25600 → Beginning profile state slots (NoRoom 25600) state slots
+        pub short_slots : length slots < 25600 → Beginning profile state slots (Err (NoRoom 25600)) state slots
         short_slots b = record { answer = sym (exact ∙ then_is _ _ _ (lt-ltb _ 25600 b)); kept = refl; held = refl }
 
         module _ (b : 25600 ≤ length slots) where
-          pub long_slots : 25600 < length slots → Beginning profile state slots NoState state slots
+          pub long_slots : 25600 < length slots → Beginning profile state slots (Err NoState) state slots
           long_slots n = record { answer = sym (exact ∙ else_is _ _ _ (le-ltb _ 25600 b) ∙ then_is _ _ _ (lt-ltb 25600 _ n)); kept = refl; held = refl }
 
           pub begin_ready : (e : Editor) (h : History) (state' slots' : List ℕ) → length slots ≤ 25600 → e ≡ fresh_editor (profile_of profile) → Emptied h slots' → state' ≡ saved_of e h
-              → Beginning profile state slots Ready state' slots'
+              → Beginning profile state slots (Ok tt) state' slots'
           unfolding fresh_saved
           begin_ready e h state' slots' n q o w =
               record {
@@ -101,12 +98,12 @@ history_good e h state slots read = (good_parts e h slots (read_good e h state s
 
 -- a text added
 module _ (state slots text : List ℕ) where
-  pub add_other : good_saved state slots ≡ false → SavedAdd state slots text BadHistory state slots
+  pub add_other : good_saved state slots ≡ false → SavedAdd state slots text (Err BadHistory) state slots
   unfolding saved_answer add_answer
   add_other h = record { answer = sym (else_is _ _ _ h); kept = refl; held = refl }
 
   module _ (e : Editor) (h : History) (read : Read e h state slots) where
-    module _ (r : History) (told : Added) (left : List ℕ) (b : Addition h slots text r told left) where
+    module _ (r : History) (told : Result ⊤ AddRefusal) (left : List ℕ) (b : Addition h slots text r told left) where
       a : Addition (history_in state) slots text r told left
       a = rw read.history at b
 
@@ -115,19 +112,19 @@ module _ (state slots text : List ℕ) where
       answered_so = b.answer ∙ ap (λ (t : Bool). add_answer t text) (history_good e h state slots read ∙ sym read.is)
 
       left_so : left ≡ slots_by told slots (offered text (journal_of (history_in state) slots))
-      left_so = a.bytes ∙ ap (λ (x : Added). slots_by x slots (offered text (journal_of (history_in state) slots))) (sym a.answer)
+      left_so = a.bytes ∙ ap (λ (x : Result ⊤ AddRefusal). slots_by x slots (offered text (journal_of (history_in state) slots))) (sym a.answer)
 
-      pub add_done : (state' : List ℕ) → told ≡ Done → state' ≡ saved_of e r → SavedAdd state slots text told state' left
+      pub add_done : (state' : List ℕ) → told ≡ Ok tt → state' ≡ saved_of e r → SavedAdd state slots text told state' left
       add_done state' d w =
           let j : Journal = offered text (journal_of (history_in state) slots) in
-          let known : add_answer (good (history_in state) slots) text ≡ Done = sym a.answer ∙ d in
+          let known : add_answer (good (history_in state) slots) text ≡ Ok tt = sym a.answer ∙ d in
           record {
             answer = answered_so;
             kept =
                 w
                 ∙ ap (λ (x : Editor). saved_of x r) read.editor
-                ∙ ap (saved_of (editor_in state)) (a.state ∙ ap (λ (x : Added). record_by x (history_in state) (offered text (journal_of (history_in state) slots))) known)
-                ∙ ap (λ (x : Added). state_by x state j) (sym d);
+                ∙ ap (saved_of (editor_in state)) (a.state ∙ ap (λ (x : Result ⊤ AddRefusal). record_by x (history_in state) (offered text (journal_of (history_in state) slots))) known)
+                ∙ ap (λ (x : Result ⊤ AddRefusal). state_by x state j) (sym d);
             held = left_so;
           }
 
@@ -137,22 +134,22 @@ module _ (state slots text : List ℕ) where
       pub add_fits : Fits e r
       add_fits = good_fits e r left add_good
 
-      pub add_refused : OneOf (1 ∷ 2 ∷ 3 ∷ []) (tag_of the_type told) → SavedAdd state slots text told state left
+      pub add_refused : ((u : ⊤) → told ≡ Ok u → ⊥) → SavedAdd state slots text told state left
       add_refused k = record { answer = answered_so; kept = sym (stays told k); held = left_so }
         where
-          stays : (x : Added) → OneOf (1 ∷ 2 ∷ 3 ∷ []) (tag_of the_type x) → state_by x state (offered text (journal_of (history_in state) slots)) ≡ state
-          stays Done m = absurd (miss (1 ∷ 2 ∷ 3 ∷ []) 0 tt m)
-          stays BadHistory m = refl
-          stays (TooLong n) m = refl
-          stays (IllFormed n) m = refl
+          stays : (x : Result ⊤ AddRefusal) → ((u : ⊤) → x ≡ Ok u → ⊥) → state_by x state (offered text (journal_of (history_in state) slots)) ≡ state
+          stays (Ok u) m = absurd (m u refl)
+          stays (Err BadHistory) m = refl
+          stays (Err (TooLong n)) m = refl
+          stays (Err (IllFormed n)) m = refl
 
 -- an entry forgotten
 module _ (state slots : List ℕ) (k : ℕ) where
-  pub forget_other : good_saved state slots ≡ false → SavedForget state slots k NoHistory state slots
+  pub forget_other : good_saved state slots ≡ false → SavedForget state slots k (Err NoHistory) state slots
   unfolding saved_forget_answer forget_answer
   forget_other h = record { answer = sym (else_is _ _ _ h); kept = refl; held = refl }
 
-  module _ (e : Editor) (h : History) (read : Read e h state slots) (r : History) (told : Forgot) (left : List ℕ) (b : Forgets h slots k r told left) where
+  module _ (e : Editor) (h : History) (read : Read e h state slots) (r : History) (told : Result ℕ ForgetRefusal) (left : List ℕ) (b : Forgets h slots k r told left) where
     f : Forgets (history_in state) slots k r told left
     f = rw read.history at b
 
@@ -163,7 +160,7 @@ module _ (state slots : List ℕ) (k : ℕ) where
         ∙ ap (λ (t : Bool). forget_answer t k (journal_of (history_in state) slots).entries)
         (ap (λ (x : History). good x slots) (sym read.history) ∙ history_good e h state slots read ∙ sym read.is)
 
-    pub forget_done : (state' : List ℕ) (n : ℕ) → told ≡ Gone n → state' ≡ saved_of e r → SavedForget state slots k told state' left
+    pub forget_done : (state' : List ℕ) (n : ℕ) → told ≡ Ok n → state' ≡ saved_of e r → SavedForget state slots k told state' left
     forget_done state' n d w =
         let j : Journal = forgotten k (journal_of (history_in state) slots) in
         record {
@@ -171,8 +168,8 @@ module _ (state slots : List ℕ) (k : ℕ) where
           kept =
               w
               ∙ ap (λ (x : Editor). saved_of x r) read.editor
-              ∙ ap (saved_of (editor_in state)) (f.state ∙ ap (λ (x : Forgot). record_left x (history_in state) j) d)
-              ∙ ap (λ (x : Forgot). state_left x state j) (sym d);
+              ∙ ap (saved_of (editor_in state)) (f.state ∙ ap (λ (x : Result ℕ ForgetRefusal). record_left x (history_in state) j) d)
+              ∙ ap (λ (x : Result ℕ ForgetRefusal). state_left x state j) (sym d);
           held = f.bytes;
         }
 
@@ -181,17 +178,17 @@ module _ (state slots : List ℕ) (k : ℕ) where
         good_fits e r left
         (good_state_lem e r left (state_parts e h slots (read_good e h state slots read)).0 (forgets_good h slots k r told left (history_good e h state slots read) b))
 
-    pub forget_refused : OneOf (1 ∷ 2 ∷ []) (tag_of forgot_type told) → SavedForget state slots k told state left
+    pub forget_refused : ((n : ℕ) → told ≡ Ok n → ⊥) → SavedForget state slots k told state left
     forget_refused m = record { answer = forgot_so; kept = sym (stays told m); held = f.bytes }
       where
-        stays : (x : Forgot) → OneOf (1 ∷ 2 ∷ []) (tag_of forgot_type x) → state_left x state (forgotten k (journal_of (history_in state) slots)) ≡ state
-        stays (Gone n) m = absurd (miss (1 ∷ 2 ∷ []) 0 tt m)
-        stays NoHistory m = refl
-        stays (NoEntry n) m = refl
+        stays : (x : Result ℕ ForgetRefusal) → ((n : ℕ) → x ≡ Ok n → ⊥) → state_left x state (forgotten k (journal_of (history_in state) slots)) ≡ state
+        stays (Ok n) m = absurd (m n refl)
+        stays (Err NoHistory) m = refl
+        stays (Err (NoEntry n)) m = refl
 
 -- one key
 module _ (state slots prompt : List ℕ) (byte : ℕ) (line screen : List ℕ) where
-  pub key_other : good_saved state slots ≡ false → SavedKey state slots prompt byte line screen BadState state slots line screen
+  pub key_other : good_saved state slots ≡ false → SavedKey state slots prompt byte line screen (Err BadState) state slots line screen
   unfolding press_answer key_answer
   key_other h = record { answer = sym (else_is _ _ _ h); kept = refl; held = refl; given = refl; shown = refl }
 

@@ -1,5 +1,6 @@
 -- Where a history begins, of saved states: a key and an add change the bytes of one slot at most and drop no entry where there is room; and in two good states that differ in nothing else
 -- every call answers the same and leaves two such states.
+use Rattle.std.specs.Prelude.{Result, ⊤}
 use Prim.Native.Nat.{ℕ, ◌<◌}
 use mathlib.Core.Path.{◌≡◌, refl, sym, ap, ◌∙◌}
 use mathlib.Core.Bool.{Bool, true, false}
@@ -9,14 +10,15 @@ use Rattle.history.specs.Slots.{slot_after, ChangesOnly}
 use Rattle.history.specs.Journal.{Journal, offered, Alike, Longer, journal_of}
 use Rattle.history.specs.Answer.{add_answer, slots_by, record_by, Addition}
 use Rattle.history.specs.declared.stepping.History.{History}
-use Rattle.history.specs.declared.adding.Added.{Added}
-use Rattle.history.specs.declared.forgetting.Forgot.{Forgot}
+use Rattle.history.specs.declared.adding.AddRefusal.{AddRefusal}
+use Rattle.history.specs.declared.forgetting.ForgetRefusal.{ForgetRefusal}
 use Rattle.history.proofs.Called.{is_done, add_longer}
 use Rattle.history.proofs.Begun.{changes_none, add_changes, add_alike as add_alike_by_value}
 use Rattle.history.proofs.Shortened.{forget_alike as forget_alike_by_value}
 use Rattle.editor.specs.declared.line.Editor.{Editor}
 use Rattle.editor.specs.declared.drawing.KeyAnswer.{KeyAnswer}
 use Rattle.editor.specs.declared.drawing.Pressed.{Pressed}
+use Rattle.editor.specs.declared.drawing.KeyRefusal.{KeyRefusal}
 use Rattle.editor.specs.Turns.{State, SameBut}
 use Rattle.editor.specs.Answer.{state_of, key_answer, refused, Pressing}
 use Rattle.editor.proofs.Lines.{good_line_lem, length_of_lem}
@@ -30,7 +32,7 @@ use Rattle.state.proofs.Stored.{held_in, stored_add, record_done, stored_held, s
 use Rattle.state.proofs.ByValue.{key_for, key_by_value, key_saved, add_by_value, forget_by_value, forget_keeps}
 
 -- one key
-module _ (state slots prompt : List ℕ) (byte : ℕ) (line screen : List ℕ) (told : Pressed) (state' slots' line' screen' : List ℕ)
+module _ (state slots prompt : List ℕ) (byte : ℕ) (line screen : List ℕ) (told : Result Pressed KeyRefusal) (state' slots' line' screen' : List ℕ)
     (p : SavedKey state slots prompt byte line screen told state' slots' line' screen') where
   abbrev key : KeyAnswer
   key = key_for state (turn_in state slots prompt byte) told
@@ -63,7 +65,7 @@ module _ (state slots prompt : List ℕ) (byte : ℕ) (line screen : List ℕ) (
         rw (ap (λ (s : State). s.history) key_held) (key_longer (editor_in state) (history_in state) slots prompt byte line screen key slots' line' screen' key_pressing room)
 
 -- a text that is added
-module _ (state slots text : List ℕ) (told : Added) (state' slots' : List ℕ) (p : SavedAdd state slots text told state' slots') where
+module _ (state slots text : List ℕ) (told : Result ⊤ AddRefusal) (state' slots' : List ℕ) (p : SavedAdd state slots text told state' slots') where
   pub add_changes_saved : ChangesOnly (slot_after (history_in state).first (history_in state).count) slots slots'
   unfolding saved_answer add_answer
   add_changes_saved = by (good_saved state slots) refl
@@ -76,7 +78,7 @@ module _ (state slots text : List ℕ) (told : Added) (state' slots' : List ℕ)
           let is = good_saved_parts state slots g in
           add_changes (history_in state) slots text (record_by told (history_in state) j) told slots'
           (add_by_value state slots text told state' slots' p is.0 (state_parts (editor_in state) (history_in state) slots is.1).0)
-      by false g = changes_none _ slots slots' (p.held ∙ ap (λ (x : Added). slots_by x slots j) (p.answer ∙ else_is _ _ _ g))
+      by false g = changes_none _ slots slots' (p.held ∙ ap (λ (x : Result ⊤ AddRefusal). slots_by x slots j) (p.answer ∙ else_is _ _ _ g))
 
   module _ (g : good_saved state slots ≡ true) where
     adds : Addition (history_in state) slots text (record_by told (history_in state) (offered text (journal_of (history_in state) slots))) told slots'
@@ -108,13 +110,13 @@ with_histories e h slots e₂ h₂ slots₂ r left r₂ left₂ a b = record { l
 
 -- two good states that differ in where their history begins and in nothing else: a key, a text that is added, and an entry that is forgotten
 module _ (state slots state₂ slots₂ : List ℕ) (g : good_saved state slots ≡ true) (g₂ : good_saved state₂ slots₂ ≡ true) (a : SameBut (held_in state slots) (held_in state₂ slots₂)) where
-  pub record SameKey (told told₂ : Pressed) (state' slots' line' screen' state₂' slots₂' line₂' screen₂' : List ℕ) : Type 0 where
+  pub record SameKey (told told₂ : Result Pressed KeyRefusal) (state' slots' line' screen' state₂' slots₂' line₂' screen₂' : List ℕ) : Type 0 where
     pub answer : told₂ ≡ told
     pub given : line₂' ≡ line'
     pub shown : screen₂' ≡ screen'
     pub after : SameBut (held_in state' slots') (held_in state₂' slots₂')
 
-  pub key_alike : (prompt : List ℕ) (byte : ℕ) (line screen : List ℕ) (told told₂ : Pressed) (state' slots' line' screen' state₂' slots₂' line₂' screen₂' : List ℕ)
+  pub key_alike : (prompt : List ℕ) (byte : ℕ) (line screen : List ℕ) (told told₂ : Result Pressed KeyRefusal) (state' slots' line' screen' state₂' slots₂' line₂' screen₂' : List ℕ)
       → SavedKey state slots prompt byte line screen told state' slots' line' screen' → SavedKey state₂ slots₂ prompt byte line screen told₂ state₂' slots₂' line₂' screen₂'
       → SameKey told told₂ state' slots' line' screen' state₂' slots₂' line₂' screen₂'
   key_alike prompt byte line screen told told₂ state' slots' line' screen' state₂' slots₂' line₂' screen₂' p q =
@@ -138,7 +140,7 @@ module _ (state slots state₂ slots₂ : List ℕ) (g : good_saved state slots 
             ) alike;
       }
 
-  pub add_alike : (text : List ℕ) (told told₂ : Added) (state' slots' state₂' slots₂' : List ℕ) → SavedAdd state slots text told state' slots' → SavedAdd state₂ slots₂ text told₂ state₂' slots₂'
+  pub add_alike : (text : List ℕ) (told told₂ : Result ⊤ AddRefusal) (state' slots' state₂' slots₂' : List ℕ) → SavedAdd state slots text told state' slots' → SavedAdd state₂ slots₂ text told₂ state₂' slots₂'
       → (told₂ ≡ told) × SameBut (held_in state' slots') (held_in state₂' slots₂')
   add_alike text told told₂ state' slots' state₂' slots₂' p q =
       let h : History = history_in state in
@@ -154,7 +156,7 @@ module _ (state slots state₂ slots₂ : List ℕ) (g : good_saved state slots 
             (with_histories (editor_in state) h slots (editor_in state₂) h₂ slots₂ _ slots' _ slots₂' a both.1),
       )
 
-  pub forget_alike : (k : ℕ) (told told₂ : Forgot) (state' slots' state₂' slots₂' : List ℕ) → SavedForget state slots k told state' slots' → SavedForget state₂ slots₂ k told₂ state₂' slots₂'
+  pub forget_alike : (k : ℕ) (told told₂ : Result ℕ ForgetRefusal) (state' slots' state₂' slots₂' : List ℕ) → SavedForget state slots k told state' slots' → SavedForget state₂ slots₂ k told₂ state₂' slots₂'
       → (told₂ ≡ told) × SameBut (held_in state' slots') (held_in state₂' slots₂')
   forget_alike k told told₂ state' slots' state₂' slots₂' p q =
       let h : History = history_in state in

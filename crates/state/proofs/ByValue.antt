@@ -1,4 +1,5 @@
 -- A call on a saved state is the call by value on what the bytes hold, and leaves the bytes of what that hands back.
+use Rattle.std.specs.Prelude.{Result, ⊤, Ok}
 use Prim.Native.Nat.{ℕ, ◌≤◌}
 use mathlib.Core.Path.{◌≡◌, refl, sym, ap, ◌∙◌}
 use mathlib.Core.Bool.{Bool, true, false, cond}
@@ -8,14 +9,15 @@ use Rattle.buffer.proofs.Choices.{then_is, else_is}
 use Rattle.history.specs.Journal.{offered, journal_of, good}
 use Rattle.history.specs.Answer.{add_answer, record_by, slots_by, Addition}
 use Rattle.history.specs.declared.stepping.History.{History}
-use Rattle.history.specs.declared.adding.Added.{Added}
+use Rattle.history.specs.declared.adding.AddRefusal.{AddRefusal}
 use Rattle.history.specs.Forgotten.{forgotten, forget_answer, is_gone, record_left, Forgets}
-use Rattle.history.specs.declared.forgetting.Forgot.{Forgot}
+use Rattle.history.specs.declared.forgetting.ForgetRefusal.{ForgetRefusal}
 use Rattle.history.proofs.Called.{is_done}
 use Rattle.keys.specs.declared.standing.Mode.TheVariants.{Typing}
 use Rattle.editor.specs.declared.line.Editor.{Editor}
 use Rattle.editor.specs.declared.drawing.KeyAnswer.{KeyAnswer}
 use Rattle.editor.specs.declared.drawing.Pressed.{Pressed}
+use Rattle.editor.specs.declared.drawing.KeyRefusal.{KeyRefusal}
 use Rattle.editor.specs.declared.drawing.Pressed.TheVariants.{Dropped}
 use Rattle.editor.specs.Line.{limit, good_editor}
 use Rattle.editor.specs.Saved.{saved_size as editor_size}
@@ -31,7 +33,7 @@ use Rattle.state.proofs.Savings.{editor_saved_lem, history_saved_lem, IsState, g
 use Rattle.state.proofs.Stored.{stored_add, record_done, stored_forget, stored_saved, editor_stays, same_editor}
 
 -- what `key` hands back for a turn from a saved state, with this answer
-abbrev pub key_for : List ℕ → Turn → Pressed → KeyAnswer
+abbrev pub key_for : List ℕ → Turn → Result Pressed KeyRefusal → KeyAnswer
 key_for state t told =
     record {
       editor = cond (refused told) (editor_in state) (editor_of t.after);
@@ -42,7 +44,7 @@ key_for state t told =
 pub same_saved : {e e' : Editor} {h h' : History} → e ≡ e' → h ≡ h' → saved_of e h ≡ saved_of e' h'
 same_saved p q = cc
 
-module _ (state slots prompt : List ℕ) (byte : ℕ) (line screen : List ℕ) (told : Pressed) (state' slots' line' screen' : List ℕ)
+module _ (state slots prompt : List ℕ) (byte : ℕ) (line screen : List ℕ) (told : Result Pressed KeyRefusal) (state' slots' line' screen' : List ℕ)
     (p : SavedKey state slots prompt byte line screen told state' slots' line' screen') (is : IsState state) where
   pub key_by_value : Pressing (editor_in state) (history_in state) slots prompt byte line screen (key_for state (turn_in state slots prompt byte) told) slots' line' screen'
   unfolding press_answer turn_in
@@ -66,7 +68,7 @@ module _ (state slots prompt : List ℕ) (byte : ℕ) (line screen : List ℕ) (
       by true s = sym (saved_restored state is)
       by false s = refl
 
-module _ (state slots text : List ℕ) (told : Added) (state' slots' : List ℕ) (p : SavedAdd state slots text told state' slots')
+module _ (state slots text : List ℕ) (told : Result ⊤ AddRefusal) (state' slots' : List ℕ) (p : SavedAdd state slots text told state' slots')
     (is : IsState state) (fair : good_editor (editor_in state) ≡ true) where
   pub add_by_value : Addition (history_in state) slots text (record_by told (history_in state) (offered text (journal_of (history_in state) slots))) told slots'
   unfolding saved_answer good_state
@@ -75,8 +77,8 @@ module _ (state slots text : List ℕ) (told : Added) (state' slots' : List ℕ)
       p.answer ∙ ap (λ (t : Bool). add_answer t text) (good_as state slots is ∙ then_is _ _ _ fair) in
       record {
         answer = a;
-        state = ap (λ (x : Added). record_by x (history_in state) (offered text (journal_of (history_in state) slots))) a;
-        bytes = p.held ∙ ap (λ (x : Added). slots_by x slots (offered text (journal_of (history_in state) slots))) a;
+        state = ap (λ (x : Result ⊤ AddRefusal). record_by x (history_in state) (offered text (journal_of (history_in state) slots))) a;
+        bytes = p.held ∙ ap (λ (x : Result ⊤ AddRefusal). slots_by x slots (offered text (journal_of (history_in state) slots))) a;
       }
 
   pub add_saved : state' ≡ saved_of (editor_in state) (record_by told (history_in state) (offered text (journal_of (history_in state) slots)))
@@ -85,10 +87,10 @@ module _ (state slots text : List ℕ) (told : Added) (state' slots' : List ℕ)
       ∙ ap (saved_of (editor_in state)) (sym (record_done told (history_in state) (offered text (journal_of (history_in state) slots))))
 
 -- what `forget` hands back for an entry of a saved state's history, with this answer
-abbrev forget_for : List ℕ → List ℕ → ℕ → Forgot → History
+abbrev forget_for : List ℕ → List ℕ → ℕ → Result ℕ ForgetRefusal → History
 forget_for state slots k told = record_left told (history_in state) (forgotten k (journal_of (history_in state) slots))
 
-module _ (state slots : List ℕ) (k : ℕ) (told : Forgot) (state' slots' : List ℕ) (p : SavedForget state slots k told state' slots') (g : good_saved state slots ≡ true) where
+module _ (state slots : List ℕ) (k : ℕ) (told : Result ℕ ForgetRefusal) (state' slots' : List ℕ) (p : SavedForget state slots k told state' slots') (g : good_saved state slots ≡ true) where
   saved_for : state' ≡ saved_of (editor_in state) (forget_for state slots k told)
   saved_for =
       stored_saved state slots (is_gone told) (forgotten k (journal_of (history_in state) slots)) state' slots' (stored_forget state slots k told state' slots' p) (good_saved_parts state slots g).0
@@ -109,10 +111,10 @@ module _ (state slots : List ℕ) (k : ℕ) (told : Forgot) (state' slots' : Lis
   forget_saved = saved_for ∙ ap (saved_of (editor_in state)) (sym held_for)
 
 -- a byte typed into a full line is answered dropped, and nothing changes: not a byte of the state, nor of any buffer
-pub dropped_saved : (state slots prompt : List ℕ) (byte : ℕ) (line screen : List ℕ) (told : Pressed) (state' slots' line' screen' : List ℕ)
+pub dropped_saved : (state slots prompt : List ℕ) (byte : ℕ) (line screen : List ℕ) (told : Result Pressed KeyRefusal) (state' slots' line' screen' : List ℕ)
     → SavedKey state slots prompt byte line screen told state' slots' line' screen' → good_saved state slots ≡ true → good_prompt prompt ≡ true → limit ≤ length line
     → (editor_in state).mode ≡ Typing → limit ≤ (editor_in state).length → 0x20 ≤ byte → (byte ≡ 0x7F → ⊥)
-    → (told ≡ Dropped) × (state' ≡ state) × (slots' ≡ slots) × (line' ≡ line) × (screen' ≡ screen)
+    → (told ≡ Ok Dropped) × (state' ≡ state) × (slots' ≡ slots) × (line' ≡ line) × (screen' ≡ screen)
 dropped_saved state slots prompt byte line screen told state' slots' line' screen' p good fair room typing full shown not-del =
     let is = good_saved_parts state slots good in
     let d = dropped (editor_in state) (history_in state) slots prompt byte line screen (key_for state (turn_in state slots prompt byte) told) slots' line' screen'
@@ -125,7 +127,7 @@ dropped_saved state slots prompt byte line screen told state' slots' line' scree
     )
 
 -- no key changes the profile of a saved state, taken or refused; a text that is added and an entry that is forgotten leave every byte of the editor
-module _ (state slots prompt : List ℕ) (byte : ℕ) (line screen : List ℕ) (told : Pressed) (state' slots' line' screen' : List ℕ)
+module _ (state slots prompt : List ℕ) (byte : ℕ) (line screen : List ℕ) (told : Result Pressed KeyRefusal) (state' slots' line' screen' : List ℕ)
     (p : SavedKey state slots prompt byte line screen told state' slots' line' screen') where
   kept_good : good_saved state slots ≡ true → (editor_in state').profile ≡ (editor_in state).profile
   kept_good good =
@@ -146,7 +148,7 @@ module _ (state slots prompt : List ℕ) (byte : ℕ) (line screen : List ℕ) (
       by true g = kept_good g
       by false g = ap (λ (x : List ℕ). (editor_in x).profile) (p.kept ∙ then_is _ _ _ (ap refused (p.answer ∙ else_is _ _ _ g)))
 
-add_keeps : (state slots text : List ℕ) (told : Added) (state' slots' : List ℕ) → SavedAdd state slots text told state' slots' → take editor_size state' ≡ take editor_size state
+add_keeps : (state slots text : List ℕ) (told : Result ⊤ AddRefusal) (state' slots' : List ℕ) → SavedAdd state slots text told state' slots' → take editor_size state' ≡ take editor_size state
 unfolding saved_answer add_answer
 add_keeps state slots text told state' slots' p =
     editor_stays state slots (is_done told) (offered text (journal_of (history_in state) slots)) state' slots' (stored_add state slots text told state' slots' p) (λ t. by (good_saved state slots) refl t)
@@ -155,11 +157,11 @@ add_keeps state slots text told state' slots' p =
     by true g t = refl
     by false g t = sym (ap is_done (p.answer ∙ else_is _ _ _ g)) ∙ t
 
-pub add_kept : (state slots text : List ℕ) (told : Added) (state' slots' : List ℕ) → SavedAdd state slots text told state' slots'
+pub add_kept : (state slots text : List ℕ) (told : Result ⊤ AddRefusal) (state' slots' : List ℕ) → SavedAdd state slots text told state' slots'
     → (editor_in state').profile ≡ (editor_in state).profile
 add_kept state slots text told state' slots' p = ap (λ (x : Editor). x.profile) (same_editor state state' (add_keeps state slots text told state' slots' p))
 
-pub forget_keeps : (state slots : List ℕ) (k : ℕ) (told : Forgot) (state' slots' : List ℕ) → SavedForget state slots k told state' slots' → take editor_size state' ≡ take editor_size state
+pub forget_keeps : (state slots : List ℕ) (k : ℕ) (told : Result ℕ ForgetRefusal) (state' slots' : List ℕ) → SavedForget state slots k told state' slots' → take editor_size state' ≡ take editor_size state
 unfolding saved_forget_answer forget_answer
 forget_keeps state slots k told state' slots' p =
     editor_stays state slots (is_gone told) (forgotten k (journal_of (history_in state) slots)) state' slots' (stored_forget state slots k told state' slots' p) (λ t. by (good_saved state slots) refl t)
@@ -168,6 +170,6 @@ forget_keeps state slots k told state' slots' p =
     by true g t = refl
     by false g t = sym (ap is_gone (p.answer ∙ else_is _ _ _ g)) ∙ t
 
-pub forget_kept : (state slots : List ℕ) (k : ℕ) (told : Forgot) (state' slots' : List ℕ) → SavedForget state slots k told state' slots'
+pub forget_kept : (state slots : List ℕ) (k : ℕ) (told : Result ℕ ForgetRefusal) (state' slots' : List ℕ) → SavedForget state slots k told state' slots'
     → (editor_in state').profile ≡ (editor_in state).profile
 forget_kept state slots k told state' slots' p = ap (λ (x : Editor). x.profile) (same_editor state state' (forget_keeps state slots k told state' slots' p))

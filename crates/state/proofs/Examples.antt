@@ -1,4 +1,5 @@
 -- Worked examples: the bytes of a state, and bytes that are none.
+use Rattle.std.specs.Prelude.{Ok, Err}
 use mathlib.Core.Path.{◌≡◌, refl}
 use mathlib.Core.Bool.{Bool, true, false}
 use Prim.Native.Nat.{ℕ}
@@ -16,7 +17,7 @@ use Rattle.history.specs.Saved.{saved_size as history_size, saved_of as history_
 use Rattle.editor.specs.Saved.{saved_size as editor_size, saved_of as editor_saved, saved_in as editor_saved_in, has_keys, has_form, is_saved as is_editor}
 use Rattle.state.specs.State.{state_size, saved_of, editor_in, good_saved}
 use Rattle.state.specs.Calls.{begin_answer}
-use Rattle.state.specs.declared.calls.Begun.TheVariants.{Ready, NoRoom, BadState}
+use Rattle.state.specs.declared.calls.BeginRefusal.TheVariants.{NoRoom, BadState}
 
 -- `ab` with the cursor at 1, after ESC `[` in the profile of the original, and the second of three entries recalled, which have 258 bytes together and
 -- begin in slot 98
@@ -79,26 +80,26 @@ unfolding Good is_editor has_form has_keys is_profile is_mode profile_of mode_of
 sequences = (refl, refl, refl, refl, refl, refl, refl, refl, refl, refl)
 
 -- the state before the slots, and too short before too long; a number that is no profile's before both
-both_short : begin_answer 0 0 0 ≡ NoRoom 266
+both_short : begin_answer 0 0 0 ≡ Err (NoRoom 266)
 unfolding begin_answer is_profile state_size editor_size history_size
 both_short = refl
 
-long_state : begin_answer 1 267 25599 ≡ BadState
+long_state : begin_answer 1 267 25599 ≡ Err BadState
 unfolding begin_answer is_profile state_size editor_size history_size
 long_state = refl
 
-short_slots : begin_answer 0 266 25599 ≡ NoRoom 25600
+short_slots : begin_answer 0 266 25599 ≡ Err (NoRoom 25600)
 unfolding begin_answer is_profile state_size editor_size history_size
 short_slots = refl
 
-long_slots : begin_answer 1 266 25601 ≡ BadState
+long_slots : begin_answer 1 266 25601 ≡ Err BadState
 unfolding begin_answer is_profile state_size editor_size history_size
 long_slots = refl
 
-no_profile : begin_answer 2 0 0 ≡ BadState
+no_profile : begin_answer 2 0 0 ≡ Err BadState
 unfolding begin_answer is_profile
 no_profile = refl
 
-ready : begin_answer 1 266 25600 ≡ Ready
+ready : begin_answer 1 266 25600 ≡ Ok tt
 unfolding begin_answer is_profile state_size editor_size history_size
 ready = refl

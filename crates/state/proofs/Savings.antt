@@ -1,4 +1,5 @@
 -- Laws of saved states: what was saved is restored, nothing in the bytes is lost, and how the code writes them.
+use Rattle.std.specs.Prelude.{Some, None, Option}
 use Prim.Native.Nat.{ℕ, ◌+◌, ◌*◌, ◌≤◌}
 use mathlib.Core.Path.{◌≡◌, refl, sym, ap, ◌∙◌}
 use mathlib.Core.Bool.{Bool, true, false, cond}
@@ -6,7 +7,7 @@ use mathlib.Core.List.{List, [], ◌∷◌, ◌++◌, append-nil}
 use native.Mathlib.Omega.{arith}
 use lib.ListN.{length, take, drop, get_or, length-append, length-drop, take-append-drop}
 use lib.Seq.{take_at, drop_at, drop-drop, get_or-drop}
-use Rattle.buffer.proofs.Choices.{then_is, else_is, true_is_not_false}
+use Rattle.buffer.proofs.Choices.{then_is, else_is}
 use Rattle.buffer.proofs.Lists.{drop_end}
 use Rattle.buffer.proofs.Lending.{over_at_front, length_over_at}
 use Rattle.buffer.proofs.Writing.{pushed_both}
@@ -17,8 +18,6 @@ use Rattle.buffer.proofs.Numbers.{value_two, bytes_drop}
 use Rattle.history.specs.declared.stepping.History.{History}
 use Rattle.history.specs.Entries.{total}
 use Rattle.history.specs.Journal.{no_entries, record_of, good}
-use Rattle.history.specs.declared.saving.Restored.{Restored as RestoredHistory}
-use Rattle.history.specs.declared.saving.Restored.TheVariants.{Good, Bad}
 use Rattle.history.specs.Saved.{saved_size as history_size, saved_of as history_saved, saved_in as history_saved_in, is_saved as is_history, restored as restored_history, Fits as HistoryFits}
 use Rattle.history.proofs.States.{holds}
 use Rattle.history.proofs.Journals.{good_fits as history_fits}
@@ -27,15 +26,14 @@ use Rattle.keys.specs.declared.standing.Profile.{Profile}
 use Rattle.keys.specs.Modes.{profile_number}
 use Rattle.keys.proofs.Modes.{profile_back}
 use Rattle.editor.specs.declared.line.Editor.{Editor}
-use Rattle.editor.specs.declared.saving.Restored.{Restored as RestoredEditor}
 use Rattle.editor.specs.Line.{limit, padded, fresh_editor, good_editor}
 use Rattle.editor.specs.Turns.{State, turn_of}
 use Rattle.editor.specs.Answer.{state_of, good_state}
 use Rattle.editor.specs.Saved.{saved_size as editor_size, saved_of as editor_saved, saved_in as editor_saved_in, has_form, is_saved as is_editor, restored as restored_editor, Fits as EditorFits}
 use Rattle.editor.proofs.Lines.{good_line_lem, length_of_lem}
 use Rattle.editor.proofs.States.{good_parts, state_parts}
-use Rattle.editor.proofs.Saved.{length_saved, saved_is as editor_is, saved_has as editor_has, right_form, form_size, saved_in_lem, saved_back, good_fits as editor_fits, restored_is, restored_not, restored_saved as editor_restored}
-use Rattle.state.specs.State.{state_size, saved_of, editor_in, history_in, good_saved}
+use Rattle.editor.proofs.Saved.{length_saved, saved_is as editor_is, saved_has as editor_has, right_form, form_size, saved_in_lem, saved_back, good_fits as editor_fits, Back as EditorBack, good_back as editor_read_back, bad_back as no_editor_back, restored_saved as editor_restored}
+use Rattle.state.specs.State.{state_size, saved_of, editor_in, history_in, good_saved, Read}
 use Rattle.state.specs.Calls.{fresh_saved, turn_in}
 
 -- the sizes
@@ -207,42 +205,27 @@ pub rest_history : (s rest : List ℕ) → rest ≡ drop 261 s → rest ≡ drop
 unfolding editor_size
 rest_history s rest e = e
 
--- an editor and a history that were read of a good state
-pub record Read (e : Editor) (h : History) (s slots : List ℕ) : Type 0 where
-  pub is : good_saved s slots ≡ true
-  pub editor : e ≡ editor_in s
-  pub history : h ≡ history_in s
-
 -- what is read of the editor, and of the history after it
-module _ (s slots : List ℕ) (r : RestoredEditor) (q : r ≡ restored_editor (take editor_size s)) where
-  pub no_editor : r.valid ≡ false → good_saved s slots ≡ false
+module _ (s slots : List ℕ) (found : Option Editor) (q : found ≡ restored_editor (take editor_size s)) where
+  pub no_editor : found ≡ None → good_saved s slots ≡ false
   unfolding good_saved
-  no_editor v = else_is _ _ _ (by (is_editor (take editor_size s)) refl)
-    where
-      by : (t : Bool) → is_editor (take editor_size s) ≡ t → t ≡ false
-      by true h = sym (ap (λ (x : RestoredEditor). x.valid) (q ∙ restored_is (take editor_size s) h)) ∙ v
-      by false h = refl
+  no_editor v = else_is _ _ _ (no_editor_back (take editor_size s) (sym q ∙ v))
 
-  module _ (v : r.valid ≡ true) where
-    read_is : (is_editor (take editor_size s) ≡ true) × (r.editor ≡ editor_in s)
-    unfolding editor_in
-    read_is = by (is_editor (take editor_size s)) refl
-      where
-        by : (t : Bool) → is_editor (take editor_size s) ≡ t → (is_editor (take editor_size s) ≡ true) × (r.editor ≡ editor_saved_in (take editor_size s))
-        by true h = (h, ap (λ (x : RestoredEditor). x.editor) (q ∙ restored_is (take editor_size s) h))
-        by false h = absurd (true_is_not_false (sym v ∙ ap (λ (x : RestoredEditor). x.valid) (q ∙ restored_not (take editor_size s) h)))
+  module _ (e : Editor) (v : found ≡ Some e) where
+    read : EditorBack e (take editor_size s)
+    read = editor_read_back (take editor_size s) e (sym q ∙ v)
 
     as_history : good_saved s slots ≡ is_history (drop editor_size s) slots
     unfolding good_saved
-    as_history = then_is _ _ _ read_is.0
+    as_history = then_is _ _ _ read.is
 
-    pub no_history : (told : RestoredHistory) → told ≡ restored_history (drop editor_size s) slots → told ≡ Bad → good_saved s slots ≡ false
+    pub no_history : (told : Option History) → told ≡ restored_history (drop editor_size s) slots → told ≡ None → good_saved s slots ≡ false
     no_history told p b = as_history ∙ bad_back (drop editor_size s) slots (sym p ∙ b)
 
-    pub both_read : (told : RestoredHistory) (h : History) → told ≡ restored_history (drop editor_size s) slots → told ≡ Good h → Read r.editor h s slots
-    unfolding history_in
+    pub both_read : (told : Option History) (h : History) → told ≡ restored_history (drop editor_size s) slots → told ≡ Some h → Read e h s slots
+    unfolding editor_in history_in
     both_read told h p g =
-        let k = good_back (drop editor_size s) slots h (sym p ∙ g) in record { is = as_history ∙ k.is; editor = read_is.1; history = k.held }
+        let k = good_back (drop editor_size s) slots h (sym p ∙ g) in record { is = as_history ∙ k.is; editor = read.held; history = k.held }
 
 -- such an editor and such a history are good, and the bytes have a state's length
 pub read_good : (e : Editor) (h : History) (s slots : List ℕ) → Read e h s slots → good_state e h slots ≡ true
@@ -256,7 +239,7 @@ read_size e h s slots b = state_size_lem s (good_saved_parts s slots b.is).0
 
 -- what was saved of a good state is restored
 pub restored_saved : (e : Editor) (h : History) (slots : List ℕ) → length e.line ≡ 255 → good_state e h slots ≡ true
-    → (restored_editor (take editor_size (saved_of e h)) ≡ record { valid = true; editor = e }) × (restored_history (drop editor_size (saved_of e h)) slots ≡ Good h)
+    → (restored_editor (take editor_size (saved_of e h)) ≡ Some e) × (restored_history (drop editor_size (saved_of e h)) slots ≡ Some h)
 restored_saved e h slots l g =
     let p = state_parts e h slots g in (
       ap restored_editor (front_saved e h l) ∙ editor_restored e l p.0,

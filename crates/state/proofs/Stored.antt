@@ -1,4 +1,5 @@
 -- A saved state into which another history was written, or none: the editor's bytes stay, what is good stays good, and what the bytes hold is the editor with that history.
+use Rattle.std.specs.Prelude.{Ok, Err, Result, ⊤}
 use Prim.Native.Nat.{ℕ}
 use mathlib.Core.Path.{◌≡◌, refl, sym, ap, ◌∙◌}
 use mathlib.Core.Bool.{Bool, true, false, cond}
@@ -8,9 +9,9 @@ use Rattle.history.specs.Journal.{Journal, offered, record_of, slots_of as journ
 use Rattle.history.specs.Answer.{record_by, slots_by}
 use Rattle.history.specs.Forgotten.{forgotten, is_gone}
 use Rattle.history.specs.declared.stepping.History.{History}
-use Rattle.history.specs.declared.adding.Added.{Added}
-use Rattle.history.specs.declared.adding.Added.TheVariants.{Done, BadState, TooLong, IllFormed}
-use Rattle.history.specs.declared.forgetting.Forgot.{Forgot}
+use Rattle.history.specs.declared.adding.AddRefusal.{AddRefusal}
+use Rattle.history.specs.declared.adding.AddRefusal.TheVariants.{BadState, TooLong, IllFormed}
+use Rattle.history.specs.declared.forgetting.ForgetRefusal.{ForgetRefusal}
 use Rattle.history.proofs.Journals.{Fair, fair_good}
 use Rattle.history.proofs.Called.{is_done}
 use Rattle.editor.specs.declared.line.Editor.{Editor}
@@ -37,23 +38,23 @@ pub record Stored (state slots : List ℕ) (taken : Bool) (j : Journal) (state' 
   pub held : slots' ≡ cond taken (journal_slots j) slots
 
 -- a text that is added, and an entry that is forgotten
-pub stored_add : (state slots text : List ℕ) (told : Added) (state' slots' : List ℕ) → SavedAdd state slots text told state' slots'
+pub stored_add : (state slots text : List ℕ) (told : Result ⊤ AddRefusal) (state' slots' : List ℕ) → SavedAdd state slots text told state' slots'
     → Stored state slots (is_done told) (offered text (journal_of (history_in state) slots)) state' slots'
 stored_add state slots text told state' slots' p = record { kept = p.kept ∙ (by told _).0; held = p.held ∙ (by told _).1 }
   where
-    by : (x : Added) (j : Journal) → (state_by x state j ≡ cond (is_done x) (saved_of (editor_in state) (record_of j)) state) × (slots_by x slots j ≡ cond (is_done x) (journal_slots j) slots)
-    by Done j = (refl, refl)
-    by BadState j = (refl, refl)
-    by (TooLong n) j = (refl, refl)
-    by (IllFormed n) j = (refl, refl)
+    by : (x : Result ⊤ AddRefusal) (j : Journal) → (state_by x state j ≡ cond (is_done x) (saved_of (editor_in state) (record_of j)) state) × (slots_by x slots j ≡ cond (is_done x) (journal_slots j) slots)
+    by (Ok u) j = (refl, refl)
+    by (Err BadState) j = (refl, refl)
+    by (Err (TooLong n)) j = (refl, refl)
+    by (Err (IllFormed n)) j = (refl, refl)
 
-pub record_done : (x : Added) (h : History) (j : Journal) → record_by x h j ≡ cond (is_done x) (record_of j) h
-record_done Done h j = refl
-record_done BadState h j = refl
-record_done (TooLong n) h j = refl
-record_done (IllFormed n) h j = refl
+pub record_done : (x : Result ⊤ AddRefusal) (h : History) (j : Journal) → record_by x h j ≡ cond (is_done x) (record_of j) h
+record_done (Ok u) h j = refl
+record_done (Err BadState) h j = refl
+record_done (Err (TooLong n)) h j = refl
+record_done (Err (IllFormed n)) h j = refl
 
-pub stored_forget : (state slots : List ℕ) (k : ℕ) (told : Forgot) (state' slots' : List ℕ) → SavedForget state slots k told state' slots'
+pub stored_forget : (state slots : List ℕ) (k : ℕ) (told : Result ℕ ForgetRefusal) (state' slots' : List ℕ) → SavedForget state slots k told state' slots'
     → Stored state slots (is_gone told) (forgotten k (journal_of (history_in state) slots)) state' slots'
 stored_forget state slots k told state' slots' p = record { kept = p.kept; held = p.held }
 

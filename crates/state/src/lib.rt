@@ -4,4 +4,4 @@
 mod calls;
 mod saving;
 
-pub use calls::{Begun, add, begin, forget, press};
+pub use calls::{BeginRefusal, add, begin, forget, press};

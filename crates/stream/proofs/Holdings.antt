@@ -77,20 +77,20 @@ module _ (line₀ : List ℕ) (held : ℕ) (bytes line : List ℕ) (count i : �
     here : drop i bytes ≡ get_or bytes i 0 ∷ drop (i + 1) bytes
     here = drop_step bytes i 0 more
 
-    ends_here : closes count (get_or bytes i 0) ≡ true → Holding line₀ held bytes (record { count = count + 1; closed = true }) (set line count (get_or bytes i 0))
+    ends_here : closes count (get_or bytes i 0) ≡ true → Holding line₀ held bytes (count + 1) true (set line count (get_or bytes i 0))
     ends_here e =
         let told = reach_ends count (get_or bytes i 0) (drop (i + 1) bytes) e in
         let n : reach held bytes ≡ i + 1 = p.reaches ∙ ap (λ (l : List ℕ). i + reach count l) here ∙ ap (λ (m : ℕ). i + m) told.0 in
         record {
-          count = let q = p.place in omega (arith, n);
+          counts = let q = p.place in omega (arith, n);
           closes = sym (p.closing ∙ ap (is_closed count) here ∙ told.1);
           left = stored ∙ ap (λ (m : ℕ). over_at (take m bytes) line₀ held) (sym n);
         }
 
-    pub hold_lf : get_or bytes i 0 ≡ LF → Holding line₀ held bytes (record { count = count + 1; closed = true }) (set line count (get_or bytes i 0))
+    pub hold_lf : get_or bytes i 0 ≡ LF → Holding line₀ held bytes (count + 1) true (set line count (get_or bytes i 0))
     hold_lf e = ends_here (closes_lf count (get_or bytes i 0) [] e)
 
-    pub hold_full : line_room ≤ count + 1 → Holding line₀ held bytes (record { count = count + 1; closed = true }) (set line count (get_or bytes i 0))
+    pub hold_full : line_room ≤ count + 1 → Holding line₀ held bytes (count + 1) true (set line count (get_or bytes i 0))
     hold_full h = ends_here (closes_full count (get_or bytes i 0) [] h)
 
     pub hold_goes : (get_or bytes i 0 ≡ LF → ⊥) → count + 1 < line_room → length (set line count (get_or bytes i 0)) ≡ line_room
@@ -108,14 +108,14 @@ module _ (line₀ : List ℕ) (held : ℕ) (bytes line : List ℕ) (count i : �
           closing = p.closing ∙ ap (is_closed count) here ∙ told.1;
         }
 
-  pub hold_ends : length bytes ≤ i → Holding line₀ held bytes (record { count = count; closed = false }) line
+  pub hold_ends : length bytes ≤ i → Holding line₀ held bytes (held + length bytes) false line
   unfolding reach is_closed
   hold_ends h =
       let n : i ≡ length bytes = let w = p.within in omega arith in
       let none : drop i bytes ≡ [] = ap (λ (m : ℕ). drop m bytes) n ∙ drop-length bytes in
       let r : reach held bytes ≡ i = p.reaches ∙ ap (λ (l : List ℕ). i + reach count l) none ∙ (omega arith) in
       record {
-        count = let q = p.place in omega (arith, r);
+        counts = omega (arith, r);
         closes = sym (p.closing ∙ ap (is_closed count) none);
         left = p.left ∙ ap (λ (m : ℕ). over_at (take m bytes) line₀ held) (sym r);
       }

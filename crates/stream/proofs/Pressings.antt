@@ -1,11 +1,11 @@
 -- Keys pressed one after the other: what one prints at a place, a turn of the loop, and its ends.
+use Rattle.std.specs.Prelude.{Ok, IsOk}
 use Prim.Native.Nat.{ℕ, ◌+◌, ◌-◌, ◌≤◌, ◌<◌}
-use mathlib.Core.Path.{◌≡◌, refl, sym, ap, ◌∙◌}
+use mathlib.Core.Path.{◌≡◌, refl, sym, ap, ◌∙◌, subst}
 use mathlib.Core.Bool.{Bool, true, false}
 use mathlib.Core.List.{List, [], ◌∷◌}
 use native.Mathlib.Omega.{arith}
-use types.Run.{OneOf, miss}
-use denote.Enum.Declared.{tag_of}
+use Rattle.std.proofs.Common.{rules}
 use lib.ListN.{length, take, drop, get_or, length-drop}
 use borrow.Author.Tests.{lt-ltb, le-ltb}
 use borrow.Rule.Slice.PartMut.{put_mid}
@@ -17,11 +17,9 @@ use Rattle.session.specs.Lines.{Standing, press_key}
 use Rattle.session.specs.Calls.{Laid, printing as answering}
 use Rattle.session.specs.Calls.{PressingKey}
 use Rattle.session.specs.Sizes.{key_room}
-use Rattle.session.specs.declared.running.Printing.{Printing}
 use Rattle.session.specs.declared.running.Printing.TheVariants.{Goes, Ends}
 use Rattle.session.specs.declared.standing.Session.{Session}
 use Rattle.session.specs.declared.pressing.Pressing.{Pressing}
-use Rattle.session.specs.contracts.running.Printing.{the_type}
 use Rattle.session.specs.Held.{Holds}
 use Rattle.session.proofs.Held.{key_held}
 use Rattle.stream.specs.Bytes.{line_room}
@@ -33,17 +31,17 @@ use Rattle.stream.proofs.Making.{Same, same_self, same_as, same_on, same_made, s
 use Rattle.stream.proofs.Standings.{holds_standing, holds_own, keys_first, keys_none, stands_waiting, stands_stopped, stands_settled, sound_waiting, sound_stopped, sound_settled}
 
 -- a key, where the rest of a buffer is lent: it goes on or ends by its answer, and is never refused
-goes_so : (b : Bool) (n m : ℕ) → answering b n ≡ Goes m → (b ≡ false) × (n ≡ m)
+goes_so : (b : Bool) (n m : ℕ) → answering b n ≡ Ok (Goes m) → (b ≡ false) × (n ≡ m)
 goes_so true n m e = absurd (let z : ◌≡◌ {A = ℕ} 0 1 = cc in omega arith)
 goes_so false n m e = (refl, cc)
 
-ends_so : (b : Bool) (n m : ℕ) → answering b n ≡ Ends m → (b ≡ true) × (n ≡ m)
+ends_so : (b : Bool) (n m : ℕ) → answering b n ≡ Ok (Ends m) → (b ≡ true) × (n ≡ m)
 ends_so true n m e = (refl, cc)
 ends_so false n m e = absurd (let z : ◌≡◌ {A = ℕ} 0 1 = cc in omega arith)
 
-other_never : (b : Bool) (n : ℕ) (x : Printing) → x ≡ answering b n → OneOf (2 ∷ 3 ∷ 4 ∷ []) (tag_of the_type x) → ⊥
-other_never true n x e k = miss (2 ∷ 3 ∷ 4 ∷ []) 1 tt (rw e at k)
-other_never false n x e k = miss (2 ∷ 3 ∷ 4 ∷ []) 0 tt (rw e at k)
+answering_ok : (b : Bool) (n : ℕ) → IsOk (answering b n)
+answering_ok true n = search rules
+answering_ok false n = search rules
 
 module _ (h : Session) (image slots : List ℕ) (byte : ℕ) (out : List ℕ) (at : ℕ) (k : Holds (standing_of h image slots) h image slots) (room : at + key_room ≤ length out)
     (r : Pressing) (slots' e : List ℕ) (p : PressingKey h image slots byte (take (length out - at) (drop at out)) r slots' e) where
@@ -57,14 +55,17 @@ module _ (h : Session) (image slots : List ℕ) (byte : ℕ) (out : List ℕ) (a
   bytes : put_mid at (length out - at) out e ≡ over_at (lines_of (press_key (standing_of h image slots) byte).prints) out at
   bytes = rest_written _ out e at (omega arith) told.0.bytes
 
+  pub never_refused : IsOk r.answer
+  never_refused = subst IsOk (sym told.0.answer) (answering_ok (press_key (standing_of h image slots) byte).ends _)
+
   module _ (back : length (put_mid at (length out - at) out e) ≡ length out) (slot : length slots' ≡ length slots) where
     fits : at + size (press_key (standing_of h image slots) byte).prints ≤ length out
     fits = written_fits (lines_of (press_key (standing_of h image slots) byte).prints) out (put_mid at (length out - at) out e) at (omega arith) bytes back
 
-    pub goes_fits : (n : ℕ) → r.answer ≡ Goes n → at + n ≤ length out
+    pub goes_fits : (n : ℕ) → r.answer ≡ Ok (Goes n) → at + n ≤ length out
     goes_fits n q = let s = (goes_so (press_key (standing_of h image slots) byte).ends _ n (sym told.0.answer ∙ q)).1 in let f = fits in omega arith
 
-    pub ends_fits : (n : ℕ) → r.answer ≡ Ends n → at + n ≤ length out
+    pub ends_fits : (n : ℕ) → r.answer ≡ Ok (Ends n) → at + n ≤ length out
     ends_fits n q = let s = (ends_so (press_key (standing_of h image slots) byte).ends _ n (sym told.0.answer ∙ q)).1 in let f = fits in omega arith
 
     made : (n : ℕ) (b : Bool) → b ≡ (press_key (standing_of h image slots) byte).ends → size (press_key (standing_of h image slots) byte).prints ≡ n
@@ -72,16 +73,13 @@ module _ (h : Session) (image slots : List ℕ) (byte : ℕ) (out : List ℕ) (a
     made n b q s =
         record { ends = q; place = ap (λ (m : ℕ). at + m) (sym s); holds = told.1; bytes = bytes; outs = back; slot = slot }
 
-    pub goes_made : (n : ℕ) → r.answer ≡ Goes n
+    pub goes_made : (n : ℕ) → r.answer ≡ Ok (Goes n)
         → KeyMade (press_key (standing_of h image slots) byte) image slots out at (record { session = r.session; printed = at + n; ends = false }) slots' (put_mid at (length out - at) out e)
     goes_made n q = let s = goes_so (press_key (standing_of h image slots) byte).ends _ n (sym told.0.answer ∙ q) in made n false (sym s.0) s.1
 
-    pub ends_made : (n : ℕ) → r.answer ≡ Ends n
+    pub ends_made : (n : ℕ) → r.answer ≡ Ok (Ends n)
         → KeyMade (press_key (standing_of h image slots) byte) image slots out at (record { session = r.session; printed = at + n; ends = true }) slots' (put_mid at (length out - at) out e)
     ends_made n q = let s = ends_so (press_key (standing_of h image slots) byte).ends _ n (sym told.0.answer ∙ q) in made n true (sym s.0) s.1
-
-    pub never_refused : OneOf (2 ∷ 3 ∷ 4 ∷ []) (tag_of the_type r.answer) → ⊥
-    never_refused o = other_never (press_key (standing_of h image slots) byte).ends _ r.answer told.0.answer o
 
 -- the definition, key by key
 module _ (room : ℕ) (at : Standing) where

@@ -1,11 +1,11 @@
 -- A step over a piece: bytes taken line after line, until the piece is taken, there is no room, or keys wait.
+use Rattle.std.specs.Prelude.{Ok, Result, IsOk}
+use Rattle.std.proofs.Common.{rules}
 use Prim.Native.Nat.{ℕ, ◌+◌, ◌-◌, ◌≤◌, ◌<◌}
 use mathlib.Core.Path.{◌≡◌, refl, sym, ap, ◌∙◌}
 use mathlib.Core.Bool.{Bool, true, false, cond}
 use mathlib.Core.List.{List, [], ◌∷◌, ◌++◌, append_assoc}
 use native.Mathlib.Omega.{arith}
-use types.Run.{OneOf, miss}
-use denote.Enum.Declared.{tag_of}
 use lib.Dec.{ltb, eqb}
 use lib.ListN.{length, take, drop, length-append, length-drop}
 use lib.Seq.{length-take-le, take_all, take_at, drop-drop, drop-length}
@@ -17,9 +17,7 @@ use Rattle.frame.specs.House.{ends_in_lF}
 use Rattle.session.specs.Prints.{Printed, bad_line, lines_of}
 use Rattle.session.specs.Calls.{RefusingLine}
 use Rattle.session.specs.Sizes.{key_room}
-use Rattle.session.specs.declared.running.Printing.{Printing}
-use Rattle.session.specs.declared.running.Printing.TheVariants.{Ends}
-use Rattle.session.specs.contracts.running.Printing.{the_type}
+use Rattle.buffer.specs.declared.show.TooShort.{TooShort}
 use Rattle.stream.specs.Bytes.{line_room}
 use Rattle.stream.specs.Moves.{Stand, reads, waits, closed, Move, size, line_move, Went, stays, printed, take_some, resume, step_by, press_some}
 use Rattle.stream.specs.Held.{reading, busy_with, standing_of, keys_of, stand_of, Ready, Sound, Stepped, last_of, Finished}
@@ -27,7 +25,6 @@ use Rattle.stream.specs.Inner.{reach, is_closed, Holding, Makes, Moved, line_of,
 use Rattle.stream.specs.declared.standing.Stream.{Stream}
 use Rattle.stream.specs.declared.standing.Step.{Step}
 use Rattle.stream.specs.declared.standing.Printout.{Printout}
-use Rattle.stream.specs.declared.holding.Held.{Held}
 use Rattle.stream.proofs.Making.{Same, same_self, same_on, same_made, same_then, written_fits}
 use Rattle.stream.proofs.Reaches.{reach_within, reach_some, reach_room, open_all, open_unended, line_next}
 
@@ -54,7 +51,7 @@ module _ (s : Stream) (line image slots : List ℕ) where
   stands_waiting p q = else_is _ _ _ p ∙ then_is _ _ _ q
 
 -- bytes after those that are held, in the buffer for a line
-module _ (line : List ℕ) (held : ℕ) (bytes : List ℕ) (r : Held) (line' : List ℕ) (h : Holding line held bytes r line') (whole : length line ≡ line_room) (short : held < line_room) where
+module _ (line : List ℕ) (held : ℕ) (bytes : List ℕ) (count : ℕ) (ended : Bool) (line' : List ℕ) (h : Holding line held bytes count ended line') (whole : length line ≡ line_room) (short : held < line_room) where
   some : length (take (reach held bytes) bytes) ≡ reach held bytes
   some = length-take-le (reach held bytes) bytes (reach_within held bytes)
 
@@ -63,15 +60,15 @@ module _ (line : List ℕ) (held : ℕ) (bytes : List ℕ) (r : Held) (line' : L
       let n = some in let f = reach_room held bytes short in
       ap length h.left ∙ length_over_at (take (reach held bytes) bytes) line held (omega arith) ∙ whole
 
-  pub held_text : take r.count line' ≡ take held line ++ take (reach held bytes) bytes
+  pub held_text : take count line' ≡ take held line ++ take (reach held bytes) bytes
   unfolding over_at over
   held_text =
       let n = some in
       let t : List ℕ = take (reach held bytes) bytes in
-      let front : length (take held line ++ t) ≡ r.count = length-append (take held line) t ∙ (let c = h.count in let k = length-take-le held line (omega arith) in omega arith) in
-      ap (take r.count) (h.left ∙ sym (append_assoc (take held line) t (drop (length t) (drop held line)))) ∙ take_at (take held line ++ t) (drop (length t) (drop held line)) r.count front
+      let front : length (take held line ++ t) ≡ count = length-append (take held line) t ∙ (let c = h.counts in let k = length-take-le held line (omega arith) in omega arith) in
+      ap (take count) (h.left ∙ sym (append_assoc (take held line) t (drop (length t) (drop held line)))) ∙ take_at (take held line ++ t) (drop (length t) (drop held line)) count front
 
-module _ (s : Stream) (line image slots : List ℕ) (k : Sound s line image slots) (idle : busy_with s ≡ false) (bytes out : List ℕ) (at : ℕ) (r : Held) (line' : List ℕ) (h : Holding line s.held bytes r line') where
+module _ (s : Stream) (line image slots : List ℕ) (k : Sound s line image slots) (idle : busy_with s ≡ false) (bytes out : List ℕ) (at : ℕ) (count : ℕ) (ended : Bool) (line' : List ℕ) (h : Holding line s.held bytes count ended line') where
   held_is : length (take s.held line) ≡ s.held
   held_is = length-take-le s.held line (let w = k.ready.whole in let l = k.held in omega arith)
 
@@ -80,39 +77,39 @@ module _ (s : Stream) (line image slots : List ℕ) (k : Sound s line image slot
 
   pub held_ready : Ready s.session line' image slots
   held_ready =
-      record { holds = k.ready.holds; whole = held_whole line s.held bytes r line' h k.ready.whole k.held; room = k.ready.room; slot = k.ready.slot }
+      record { holds = k.ready.holds; whole = held_whole line s.held bytes count ended line' h k.ready.whole k.held; room = k.ready.room; slot = k.ready.slot }
 
-  pub count_is : r.count - s.held ≡ reach s.held bytes
-  count_is = let c = h.count in omega arith
+  pub count_is : count - s.held ≡ reach s.held bytes
+  count_is = let c = h.counts in omega arith
 
-  pub count_from : s.held ≤ r.count
-  count_from = let c = h.count in omega arith
+  pub count_from : s.held ≤ count
+  count_from = let c = h.counts in omega arith
 
   -- no line is at its end
-  pub bytes_held : r.closed ≡ false → (q : Stream) → q ≡ reading s.session r.count
-      → Takes (line_of (length out - at) (standing_of s.session image slots) (take s.held line) bytes) (reach s.held bytes) out at (record { stream = q; took = r.count - s.held; printed = at }) line' image slots out
+  pub bytes_held : (took : ℕ) → took + s.held ≡ count → ended ≡ false → (q : Stream) → q ≡ reading s.session count
+      → Takes (line_of (length out - at) (standing_of s.session image slots) (take s.held line) bytes) (reach s.held bytes) out at (record { stream = q; took = took; printed = at }) line' image slots out
   unfolding line_of lines_of
-  bytes_held e q d =
+  bytes_held took t e q d =
       let open-held : is_closed s.held bytes ≡ false = sym h.closes ∙ e in
       let apart : is_closed (length (take s.held line)) bytes ≡ false = ap (λ (m : ℕ). is_closed m bytes) held_is ∙ open-held in
       let all = open_all s.held bytes open-held k.held in
-      let text : take r.count line' ≡ take s.held line ++ bytes =
-      held_text line s.held bytes r line' h k.ready.whole k.held ∙ ap (λ (l : List ℕ). take s.held line ++ l) (take_all (reach s.held bytes) bytes (let n = all.0 in omega arith)) in
+      let text : take count line' ≡ take s.held line ++ bytes =
+      held_text line s.held bytes count ended line' h k.ready.whole k.held ∙ ap (λ (l : List ℕ). take s.held line ++ l) (take_all (reach s.held bytes) bytes (let n = all.0 in omega arith)) in
       rw d
       (record {
         makes =
             rw apart
             (record {
-              after = stands_reading (reading s.session r.count) line' image slots refl refl ∙ ap (reads (standing_of s.session image slots)) text;
+              after = stands_reading (reading s.session count) line' image slots refl refl ∙ ap (reads (standing_of s.session image slots)) text;
               place = omega arith;
               bytes = sym (over_at_nothing out at);
             });
-        took = count_is;
+        took = let c = h.counts in omega arith;
         outs = refl;
         sound =
             record {
               ready = held_ready;
-              held = let c = h.count in let n = all.0 in let l = all.1 in omega arith;
+              held = let c = h.counts in let n = all.0 in let l = all.1 in omega arith;
               keys = omega arith;
               early = λ x y. early;
               unended = ap ends_in_lF text ∙ open_unended (take s.held line) bytes k.unended apart;
@@ -120,15 +117,15 @@ module _ (s : Stream) (line image slots : List ℕ) (k : Sound s line image slot
       })
 
   -- a line is at its end
-  pub bytes_line : r.closed ≡ true → (q : Printout) (line'' image' slots' out' : List ℕ)
-      → Moved (line_move (length out - at) (standing_of s.session image slots) (take r.count line')) out at q line'' image' slots' out'
+  pub bytes_line : ended ≡ true → (q : Printout) (line'' image' slots' out' : List ℕ)
+      → Moved (line_move (length out - at) (standing_of s.session image slots) (take count line')) out at q line'' image' slots' out'
       → Takes (line_of (length out - at) (standing_of s.session image slots) (take s.held line) bytes) (reach s.held bytes) out at
-      (record { stream = q.stream; took = r.count - s.held; printed = q.printed }) line'' image' slots' out'
+      (record { stream = q.stream; took = count - s.held; printed = q.printed }) line'' image' slots' out'
   unfolding line_of
   bytes_line e q line'' image' slots' out' m =
       let shut : is_closed (length (take s.held line)) bytes ≡ true = ap (λ (n : ℕ). is_closed n bytes) held_is ∙ sym h.closes ∙ e in
-      let text : take r.count line' ≡ take s.held line ++ take (reach (length (take s.held line)) bytes) bytes =
-      held_text line s.held bytes r line' h k.ready.whole k.held ∙ ap (λ (n : ℕ). take s.held line ++ take (reach n bytes) bytes) (sym held_is) in
+      let text : take count line' ≡ take s.held line ++ take (reach (length (take s.held line)) bytes) bytes =
+      held_text line s.held bytes count ended line' h k.ready.whole k.held ∙ ap (λ (n : ℕ). take s.held line ++ take (reach n bytes) bytes) (sym held_is) in
       let made = rw text at m in
       record { makes = rw shut made.makes; took = count_is; outs = made.outs; sound = made.sound }
 
@@ -297,17 +294,17 @@ module _ (s : Stream) (out : List ℕ) where
   unfolding last_of
   last_none e h = nothing_more (else_is _ _ _ e ∙ then_is _ _ _ (eq-eqb s.held 0 h))
 
-  module _ (room : 7 ≤ length out) (r : Printing) (out' : List ℕ) (p : RefusingLine (s.session.lines + 1) out r out') where
-    pub last_never : OneOf (0 ∷ 2 ∷ 3 ∷ 4 ∷ []) (tag_of the_type r) → ⊥
-    last_never k = miss (0 ∷ 2 ∷ 3 ∷ 4 ∷ []) 1 tt (rw (p.told room).answer at k)
+  module _ (room : 7 ≤ length out) (r : Result ℕ TooShort) (out' : List ℕ) (p : RefusingLine (s.session.lines + 1) out r out') where
+    pub last_ok : IsOk r
+    last_ok = rw (p.told room).0 (search rules)
 
-    pub last_bad : busy_with s ≡ false → (s.held ≡ 0 → ⊥) → (n : ℕ) → r ≡ Ends n → Finished (last_of s) out n out'
+    pub last_bad : busy_with s ≡ false → (s.held ≡ 0 → ⊥) → (n : ℕ) → r ≡ Ok n → Finished (last_of s) out n out'
     unfolding last_of
     last_bad e h n q =
-        let size_is : Ends n ≡ Ends (size (bad_line (s.session.lines + 1) ∷ [])) = sym q ∙ (p.told room).answer in
+        let told = sym q ∙ (p.told room).0 in
         let count : n ≡ size (bad_line (s.session.lines + 1) ∷ []) = cc in
         rw (else_is (busy_with s) [] (cond (eqb s.held 0) [] (bad_line (s.session.lines + 1) ∷ [])) e ∙ else_is _ _ _ (ne_eqb s.held 0 h))
-        (record { printed = count; bytes = (p.told room).bytes })
+        (record { printed = count; bytes = (p.told room).1 })
 
 -- no second answer: what a step took, printed and left of its buffer, and where the stream stands then
 pub one_step : (w : Went) (piece out : List ℕ) (r q : Step) (l i s o l' i' s' o' : List ℕ) → Stepped w piece out r l i s o → Stepped w piece out q l' i' s' o'

@@ -1,4 +1,6 @@
 -- A whole line given to the session: each thing that a line can be is the move that the definition makes of it.
+use Rattle.std.specs.Prelude.{Ok, Result, IsOk}
+use Rattle.std.proofs.Common.{rules}
 use Prim.Native.Nat.{ℕ, ◌+◌, ◌-◌, ◌≤◌, ◌<◌}
 use mathlib.Core.Path.{◌≡◌, refl, sym, ap, ◌∙◌}
 use mathlib.Core.List.{List, [], ◌∷◌}
@@ -13,12 +15,10 @@ use Rattle.buffer.proofs.Lending.{rest_lent, rest_written, length_over, over_at_
 use Rattle.session.specs.Prints.{bad_line, lines_of}
 use Rattle.session.specs.Lines.{Standing, Taking, grown, pressing, refused, take_line}
 use Rattle.session.specs.Calls.{RefusingLine}
-use Rattle.session.specs.declared.running.Printing.{Printing}
-use Rattle.session.specs.declared.running.Printing.TheVariants.{Ends}
+use Rattle.buffer.specs.declared.show.TooShort.{TooShort}
 use Rattle.session.specs.declared.standing.Session.{Session}
 use Rattle.session.specs.declared.taking.Taken.TheVariants.{Tree, Keys, BadLine}
 use Rattle.session.specs.declared.taking.Took.{Took}
-use Rattle.session.specs.contracts.running.Printing.{the_type}
 use Rattle.session.specs.contracts.taking.Taken.{the_type as taken_type}
 use Rattle.session.specs.Held.{Holds}
 use Rattle.session.proofs.Followed.{Brings, line_held}
@@ -32,21 +32,21 @@ use Rattle.stream.proofs.Making.{written_fits}
 use Rattle.stream.proofs.Standings.{holds_standing, holds_own, stands_stopped, stands_settled, sound_stopped, sound_settled}
 
 -- the 2F of a line, where the rest of a buffer is lent
-module _ (h : Session) (number : ℕ) (out : List ℕ) (at : ℕ) (room : at + 7 ≤ length out) (r : Printing) (e : List ℕ)
+module _ (h : Session) (number : ℕ) (out : List ℕ) (at : ℕ) (room : at + 7 ≤ length out) (r : Result ℕ TooShort) (e : List ℕ)
     (p : RefusingLine number (take (length out - at) (drop at out)) r e) where
   lent : 7 ≤ length (take (length out - at) (drop at out))
   lent = rw (rest_lent out at) (rw (length-drop at out) (omega arith))
 
-  ends_so : (n : ℕ) → r ≡ Ends n → size (bad_line number ∷ []) ≡ n
-  ends_so n q = let k = sym (p.told lent).answer ∙ q in cc
+  ends_so : (n : ℕ) → r ≡ Ok n → size (bad_line number ∷ []) ≡ n
+  ends_so n q = let k = sym (p.told lent).0 ∙ q in cc
 
   bytes : put_mid at (length out - at) out e ≡ over_at (lines_of (bad_line number ∷ [])) out at
-  bytes = rest_written _ out e at (omega arith) (p.told lent).bytes
+  bytes = rest_written _ out e at (omega arith) (p.told lent).1
 
-  pub refuse_never : OneOf (0 ∷ 2 ∷ 3 ∷ 4 ∷ []) (tag_of the_type r) → ⊥
-  refuse_never k = miss (0 ∷ 2 ∷ 3 ∷ 4 ∷ []) 1 tt (rw (p.told lent).answer at k)
+  pub refuse_ok : IsOk r
+  refuse_ok = rw (p.told lent).0 (search rules)
 
-  module _ (back : length (put_mid at (length out - at) out e) ≡ length out) (n : ℕ) (q : r ≡ Ends n) where
+  module _ (back : length (put_mid at (length out - at) out e) ≡ length out) (n : ℕ) (q : r ≡ Ok n) where
     pub refuse_fits : at + n ≤ length out
     refuse_fits = let s = ends_so n q in let f = written_fits (lines_of (bad_line number ∷ [])) out (put_mid at (length out - at) out e) at (omega arith) bytes back in omega arith
 

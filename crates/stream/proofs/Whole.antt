@@ -1,4 +1,5 @@
 -- The steps come to the whole: whatever pieces the bytes come in and however far each step goes, what they print is what the definition prints.
+use Rattle.std.specs.Prelude.{Result}
 use Prim.Native.Nat.{ℕ, ◌+◌, ◌-◌, ◌<◌}
 use mathlib.Core.Path.{◌≡◌, refl, sym, ap, ◌∙◌}
 use mathlib.Core.Bool.{Bool, true, false, cond}
@@ -10,7 +11,7 @@ use borrow.Author.Tests.{lt-ltb, ltb-true, eqb-true}
 use Rattle.buffer.proofs.Choices.{then_is, else_is}
 use Rattle.frame.specs.House.{LF, ends_in_lF, digits_of, read_house}
 use Rattle.frame.specs.Hex.{unhex}
-use Rattle.frame.specs.declared.house.House.{House}
+use Rattle.frame.specs.declared.house.HouseRefusal.{HouseRefusal}
 use Rattle.session.specs.Prints.{Printed, bad_line, lines_of}
 use Rattle.keys.specs.declared.standing.Profile.{Profile}
 use Rattle.session.specs.Lines.{form_by, formless, Form, line_form, Standing, Taking, grown, pressing, refused, take_form, take_line, Course, preceded, press_key, press_keys, on_taking, line_course, session}
@@ -182,7 +183,7 @@ step_comes room s piece more f =
 -- THE INPUT'S END
 unended_form : (line : List ℕ) → ends_in_lF line ≡ false → line_form line ≡ formless
 unfolding line_form read_house
-unended_form line e = ap (λ (x : House). form_by x (unhex (digits_of line))) (else_is _ _ _ e)
+unended_form line e = ap (λ (x : Result ℕ HouseRefusal). form_by x (unhex (digits_of line))) (else_is _ _ _ e)
 
 bad_line_lem : (at : Standing) (line : List ℕ) → ends_in_lF line ≡ false
     → cond (line_course at line).ends (line_course at line).prints ((line_course at line).prints ++ session (line_course at line).after []) ≡ bad_line (at.lines + 1) ∷ []

@@ -13,7 +13,6 @@ use Rattle.stream.specs.Held.{stopped, standing_of, stand_of, Sound}
 use Rattle.stream.specs.declared.standing.Stream.{Stream}
 use Rattle.stream.specs.declared.standing.Step.{Step}
 use Rattle.stream.specs.declared.standing.Printout.{Printout}
-use Rattle.stream.specs.declared.holding.Held.{Held}
 use Rattle.stream.specs.declared.pressing.Keyed.{Keyed}
 
 -- bytes put after those that are held: how many up to one that ends the line, and whether there is one
@@ -25,9 +24,9 @@ unfoldable pub is_closed : ℕ → List ℕ → Bool
 is_closed held [] = false
 is_closed held (byte ∷ bytes) = cond (closes_at held byte) true (is_closed (held + 1) bytes)
 
-pub record Holding (line : List ℕ) (held : ℕ) (bytes : List ℕ) (r : Held) (line' : List ℕ) : Type 0 where
-  pub count : r.count ≡ held + reach held bytes
-  pub closes : r.closed ≡ is_closed held bytes
+pub record Holding (line : List ℕ) (held : ℕ) (bytes : List ℕ) (count : ℕ) (ended : Bool) (line' : List ℕ) : Type 0 where
+  pub counts : count ≡ held + reach held bytes
+  pub closes : ended ≡ is_closed held bytes
   pub left : line' ≡ over_at (take (reach held bytes) bytes) line held
 
 -- a key, printed at a place

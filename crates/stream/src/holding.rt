@@ -1,44 +1,23 @@
 // The bytes of a line, put after those that came before.
-ghost use Rattle.std.specs.Prelude.{◌≡◌, ◌<◌, length};
+ghost use Rattle.std.specs.Prelude.{◌≡◌, ◌+◌, ◌<◌, true, false, length, MatchOption};
 ghost use Rattle.stream.specs.Bytes.{line_room};
 ghost use Rattle.stream.specs.Inner.{Holding};
 
 use super::standing::Stream;
 
-// How many bytes of a line are held, and whether the last of them ends it.
-#[derive(Clone, Copy)]
-pub struct Held {
-    pub count: usize,
-    pub closed: bool,
-}
-
-// Puts bytes after those that are held, up to one that ends the line: the LF, or the last one that there is room for.
-pub fn hold(line: &mut [u8], held: usize, bytes: &[u8]) -> Held
+// Puts bytes after those that are held, up to one that ends the line: the LF, or the last one that there is room for. Returns how many the line has then;
+// none where no byte ends it: then all of them are held.
+pub fn hold(line: &mut [u8], held: usize, bytes: &[u8]) -> Option<usize>
     requires { (length line.old ≡ line_room) × (held < line_room) }
-    ensures { Holding line.old held bytes.now result line.new }
+    ensures { MatchOption result (Holding line.old held bytes.now (held + length bytes.now) false line.new) (λ count. Holding line.old held bytes.now count true line.new) }
 {
     let mut count = held;
-    let mut i = 0;
-    while i < bytes.len() {
-        let byte = bytes[i];
-        line[count] = byte;
+    for byte in bytes {
+        line[count] = *byte;
         count += 1;
-        i += 1;
-        if byte == 0x0A {
-            return Held {
-                count,
-                closed: true,
-            };
-        }
-        if Stream::LINE_ROOM <= count {
-            return Held {
-                count,
-                closed: true,
-            };
+        if *byte == b'\n' || Stream::LINE_ROOM <= count {
+            return Some(count);
         }
     }
-    Held {
-        count,
-        closed: false,
-    }
+    None
 }

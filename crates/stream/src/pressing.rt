@@ -9,7 +9,7 @@ ghost use Rattle.stream.specs.Inner.{PressedAt, PressedSome};
 use super::standing::{Printout, Stream};
 use session::{KEY_ROOM, Printing, Session, press};
 
-// A session after a key, the place after what the key printed, and whether it was the last.
+// A session after a key, the place after what the key printed, and whether it was the last: session and place are told either way, so it is no enum.
 #[derive(Clone, Copy)]
 pub struct Keyed {
     pub session: Session,
@@ -30,22 +30,15 @@ fn press_at(
     ensures { PressedAt session byte image.now slots.old out.old at result slots.new out.new }
 {
     let pressing = press(session, image, slots, byte, &mut out[at..]);
-    let after = pressing.session;
-    let answer = pressing.answer;
-    match answer {
+    match pressing.answer.unwrap() {
         Printing::Goes(n) => Keyed {
-            session: after,
+            session: pressing.session,
             printed: at + n,
             ends: false,
         },
         Printing::Ends(n) => Keyed {
-            session: after,
+            session: pressing.session,
             printed: at + n,
-            ends: true,
-        },
-        _ => Keyed {
-            session: after,
-            printed: at,
             ends: true,
         },
     }
@@ -67,19 +60,17 @@ pub fn press_some(
     ensures { PressedSome session (keys_of line.now next keys) image.now slots.old out.old at result line.now slots.new out.new }
 {
     let mut here = session;
-    let mut next = next;
     let mut printed = at;
-    while next < keys {
+    for k in next..keys {
         if out.len() - printed < KEY_ROOM {
             return Printout {
-                stream: Stream::waiting(here, next, keys),
+                stream: Stream::waiting(here, k, keys),
                 printed,
             };
         }
-        let key = press_at(here, image, slots, line[next], out, printed);
+        let key = press_at(here, image, slots, line[k], out, printed);
         here = key.session;
         printed = key.printed;
-        next += 1;
         if key.ends {
             return Printout {
                 stream: Stream::stopped(here),

@@ -39,13 +39,7 @@ impl Stream {
     pub fn start(profile: Profile) -> Stream
         ensures { result ≡ starting profile }
     {
-        Stream {
-            session: Session::fresh(profile),
-            held: 0,
-            next: 0,
-            keys: 0,
-            over: false,
-        }
+        Stream::reading(Session::fresh(profile), 0)
     }
 
     // A session of which so many bytes of a line are held.
@@ -66,11 +60,9 @@ impl Stream {
         ensures { result ≡ waiting session next keys }
     {
         Stream {
-            session,
-            held: 0,
             next,
             keys,
-            over: false,
+            ..Stream::reading(session, 0)
         }
     }
 
@@ -79,11 +71,8 @@ impl Stream {
         ensures { result ≡ settled session }
     {
         Stream {
-            session,
-            held: 0,
-            next: 0,
-            keys: 0,
             over: Session::LAST_LINE <= session.lines,
+            ..Stream::reading(session, 0)
         }
     }
 
@@ -92,11 +81,8 @@ impl Stream {
         ensures { result ≡ stopped session }
     {
         Stream {
-            session,
-            held: 0,
-            next: 0,
-            keys: 0,
             over: true,
+            ..Stream::reading(session, 0)
         }
     }
 
@@ -104,9 +90,6 @@ impl Stream {
     pub fn is_busy(self) -> bool
         ensures { result ≡ busy_with self }
     {
-        if self.over {
-            return true;
-        }
-        self.next < self.keys
+        self.over || self.next < self.keys
     }
 }

@@ -8,7 +8,7 @@ use super::pressing::press_some;
 use super::standing::{Printout, Step, Stream};
 use super::taking::take_bytes;
 use buffer::rest;
-use session::{KEY_ROOM, Printing, refuse};
+use session::{KEY_ROOM, refuse};
 
 // Presses the keys that wait.
 fn resume_keys(
@@ -21,15 +21,11 @@ fn resume_keys(
     requires { Sound stream line.now image.now slots.old }
     ensures { Resumed stream line.now image.now slots.old out.old result slots.new out.new }
 {
-    if stream.over {
+    if stream.over || stream.keys <= stream.next {
         return Printout { stream, printed: 0 };
     }
-    if stream.keys <= stream.next {
-        return Printout { stream, printed: 0 };
-    }
-    let session = stream.session;
     press_some(
-        session,
+        stream.session,
         stream.next,
         stream.keys,
         line,
@@ -57,14 +53,7 @@ fn take_piece(
     let mut printed = at;
     let mut took = 0;
     while took < piece.len() {
-        if here.is_busy() {
-            return Step {
-                stream: here,
-                took,
-                printed,
-            };
-        }
-        if out.len() - printed < KEY_ROOM {
+        if here.is_busy() || out.len() - printed < KEY_ROOM {
             return Step {
                 stream: here,
                 took,
@@ -97,8 +86,7 @@ pub fn step(
     ensures { Stepping stream piece.now line.old image.old slots.old out.old result line.new image.new slots.new out.new }
 {
     let first = resume_keys(stream, line, image, slots, out);
-    let here = first.stream;
-    take_piece(here, piece, line, image, slots, out, first.printed)
+    take_piece(first.stream, piece, line, image, slots, out, first.printed)
 }
 
 // The input's end: a line that is not at its end is a bad one, and what that prints stands at the front of out.
@@ -106,14 +94,8 @@ pub fn finish(stream: Stream, out: &mut [u8]) -> usize
     requires { (stream.session.lines ≤ last_line) × (7 ≤ length out.old) }
     ensures { Finished (last_of stream) out.old result out.new }
 {
-    if stream.is_busy() {
+    if stream.is_busy() || stream.held == 0 {
         return 0;
     }
-    if stream.held == 0 {
-        return 0;
-    }
-    let Printing::Ends(n) = refuse(stream.session.lines + 1, out) else {
-        return 0;
-    };
-    n
+    refuse(stream.session.lines + 1, out).unwrap()
 }

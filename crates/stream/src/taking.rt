@@ -8,7 +8,7 @@ use super::holding::hold;
 use super::pressing::press_some;
 use super::standing::{Printout, Step, Stream};
 use buffer::{copy, part, rest};
-use session::{Printing, Session, Taken, Took, refuse, take_line};
+use session::{Session, Taken, Took, refuse, take_line};
 
 // Room for the frame of a line.
 fn blank_frame() -> [u8; Session::FRAME_ROOM]
@@ -22,12 +22,7 @@ fn refuse_at(session: Session, number: usize, out: &mut [u8], at: usize) -> Prin
     requires { at + 7 ≤ length out.old }
     ensures { Refuses session number out.old at result out.new }
 {
-    let Printing::Ends(n) = refuse(number, &mut out[at..]) else {
-        return Printout {
-            stream: Stream::stopped(session),
-            printed: at,
-        };
-    };
+    let n = refuse(number, &mut out[at..]).unwrap();
     Printout {
         stream: Stream::stopped(session),
         printed: at + n,
@@ -81,16 +76,14 @@ fn take_whole(
 {
     let mut frame = blank_frame();
     let took = read_whole(session, held, line, image, &mut frame);
-    let after = took.session;
-    let answer = took.answer;
-    match answer {
+    match took.answer {
         Taken::Tree => Printout {
-            stream: Stream::settled(after),
+            stream: Stream::settled(took.session),
             printed: at,
         },
         Taken::Keys(n) => {
             let keys = rest(part(&frame, 0, n), 1);
-            press_keys(after, keys, line, image, slots, out, at)
+            press_keys(took.session, keys, line, image, slots, out, at)
         }
         Taken::BadLine(number) => refuse_at(session, number, out, at),
         _ => Printout {
@@ -113,22 +106,17 @@ pub fn take_bytes(
     requires { Sound stream line.old image.old slots.old × (busy_with stream ≡ false) × (at + key_room ≤ length out.old) }
     ensures { TakesBytes stream bytes.now line.old image.old slots.old out.old at result line.new image.new slots.new out.new }
 {
-    let session = stream.session;
-    let held = hold(line, stream.held, bytes);
-    let count = held.count;
-    let took = count - stream.held;
-    if !held.closed {
+    let Some(count) = hold(line, stream.held, bytes) else {
         return Step {
-            stream: Stream::reading(session, count),
-            took,
+            stream: Stream::reading(stream.session, stream.held + bytes.len()),
+            took: bytes.len(),
             printed: at,
         };
-    }
-    let done = take_whole(session, count, line, image, slots, out, at);
-    let next = done.stream;
+    };
+    let done = take_whole(stream.session, count, line, image, slots, out, at);
     Step {
-        stream: next,
-        took,
+        stream: done.stream,
+        took: count - stream.held,
         printed: done.printed,
     }
 }

@@ -7,8 +7,8 @@ use mathlib.Core.Option.{Option, none, some}
 use native.Mathlib.Omega.{arith}
 use lib.ListN.{length}
 use Rattle.buffer.specs.Compare.{order, same_bytes}
-use Rattle.buffer.specs.declared.order.Order.{Order}
-use Rattle.buffer.specs.declared.order.Order.TheVariants.{Less, Equal, Greater}
+use Rattle.std.specs.declared.cmp.Ordering.{Ordering}
+use Rattle.std.specs.declared.cmp.Ordering.TheVariants.{Less, Equal, Greater}
 use Rattle.buffer.proofs.Choices.{then_is, else_is}
 use Rattle.buffer.proofs.Ordering.{same_is, same_self, order_is, order_self, order_trans, order_turned, turned}
 use Rattle.table.specs.Map.{Map, on_order, put, look, has, Above, Rising}
@@ -34,15 +34,15 @@ equal_same a b e = rw (order_is a b e) (same_self b)
 module _ (k v : List ℕ) (e : List ℕ × List ℕ) (m : Map) where
   pub put_less : order k e.0 ≡ Less → put k v (e ∷ m) ≡ (k, v) ∷ e ∷ m
   unfolding put
-  put_less h = ap (λ (o : Order). on_order o ((k, v) ∷ e ∷ m) ((k, v) ∷ m) (e ∷ put k v m)) h
+  put_less h = ap (λ (o : Ordering). on_order o ((k, v) ∷ e ∷ m) ((k, v) ∷ m) (e ∷ put k v m)) h
 
   pub put_equal : order k e.0 ≡ Equal → put k v (e ∷ m) ≡ (k, v) ∷ m
   unfolding put
-  put_equal h = ap (λ (o : Order). on_order o ((k, v) ∷ e ∷ m) ((k, v) ∷ m) (e ∷ put k v m)) h
+  put_equal h = ap (λ (o : Ordering). on_order o ((k, v) ∷ e ∷ m) ((k, v) ∷ m) (e ∷ put k v m)) h
 
   pub put_greater : order k e.0 ≡ Greater → put k v (e ∷ m) ≡ e ∷ put k v m
   unfolding put
-  put_greater h = ap (λ (o : Order). on_order o ((k, v) ∷ e ∷ m) ((k, v) ∷ m) (e ∷ put k v m)) h
+  put_greater h = ap (λ (o : Ordering). on_order o ((k, v) ∷ e ∷ m) ((k, v) ∷ m) (e ∷ put k v m)) h
 
 pub put_none : (k v : List ℕ) → put k v [] ≡ (k, v) ∷ []
 unfolding put
@@ -53,7 +53,7 @@ above_put : (j k v : List ℕ) (m : Map) → order j k ≡ Less → Above j m �
 above_put j k v [] h a = rw (put_none k v) h
 above_put j k v (e ∷ m) h a = by (order k e.0) refl
   where
-    by : (o : Order) → order k e.0 ≡ o → Above j (put k v (e ∷ m))
+    by : (o : Ordering) → order k e.0 ≡ o → Above j (put k v (e ∷ m))
     by Less q = rw (put_less k v e m q) h
     by Equal q = rw (put_equal k v e m q) h
     by Greater q = rw (put_greater k v e m q) a
@@ -66,7 +66,7 @@ pub put_rises : (k v : List ℕ) (m : Map) → Rising m → Rising (put k v m)
 put_rises k v [] r = rw (put_none k v) (tt, tt)
 put_rises k v (e ∷ m) r = by (order k e.0) refl (put_rises k v m r.1)
   where
-    by : (o : Order) → order k e.0 ≡ o → Rising (put k v m) → Rising (put k v (e ∷ m))
+    by : (o : Ordering) → order k e.0 ≡ o → Rising (put k v m) → Rising (put k v (e ∷ m))
     by Less q again = rw (put_less k v e m q) (q, r)
     by Equal q again = rw (put_equal k v e m q) (rw (order_is k e.0 q) r.0, r.1)
     by Greater q again =
@@ -94,7 +94,7 @@ look_put j k v (e ∷ m) = by (order k e.0) refl (look_put j k v m)
     swap true false x p q g = refl
     swap false u x p q g = refl
 
-    by : (o : Order) → order k e.0 ≡ o → look j (put k v m) ≡ cond (same_bytes j k) (some v) (look j m)
+    by : (o : Ordering) → order k e.0 ≡ o → look j (put k v m) ≡ cond (same_bytes j k) (some v) (look j m)
         → look j (put k v (e ∷ m)) ≡ cond (same_bytes j k) (some v) (look j (e ∷ m))
     by Less q again = ap (look j) (put_less k v e m q)
     by Equal q again =
@@ -156,7 +156,7 @@ put_length k v (e ∷ m) r = by (order k e.0) refl (put_length k v m r.1)
     deeper true = refl
     deeper false = refl
 
-    by : (o : Order) → order k e.0 ≡ o → length (put k v m) ≡ cond (has k m) (length m) (suc (length m))
+    by : (o : Ordering) → order k e.0 ≡ o → length (put k v m) ≡ cond (has k m) (length m) (suc (length m))
         → length (put k v (e ∷ m)) ≡ cond (has k (e ∷ m)) (suc (length m)) (suc (suc (length m)))
     by Less q again =
         ap length (put_less k v e m q) ∙ sym (else_is _ _ _ (above_not k (e ∷ m) q r))
@@ -214,7 +214,7 @@ rising_same (e ∷ m) (f ∷ n) r s h = by (order e.0 f.0) refl (λ g. rising_sa
         let a : some e.1 ≡ some f.1 = sym (look_first e m) ∙ h e.0 ∙ ap (λ (k : List ℕ). look k (f ∷ n)) q ∙ look_first f n in
         cc
 
-    by : (o : Order) → order e.0 f.0 ≡ o → (((k : List ℕ) → look k m ≡ look k n) → m ≡ n) → e ∷ m ≡ f ∷ n
+    by : (o : Ordering) → order e.0 f.0 ≡ o → (((k : List ℕ) → look k m ≡ look k n) → m ≡ n) → e ∷ m ≡ f ∷ n
     by Less q again = absurd (some_none e.1 (sym (look_first e m) ∙ h e.0 ∙ above_none e.0 (f ∷ n) q s))
     by Greater q again =
         absurd (some_none f.1 (sym (look_first f n) ∙ sym (h f.0) ∙ above_none f.0 (e ∷ m) (order_turned e.0 f.0 ∙ ap turned q) r))

@@ -9,12 +9,11 @@ use lib.ListN.{length, take, set, length-set}
 use borrow.Author.Tests.{lt-ltb, le-ltb}
 use Rattle.buffer.proofs.Choices.{then_is, else_is}
 use Rattle.table.specs.Map.{Map, put, Rising, put_within}
-use Rattle.table.specs.Inner.{seek_from, opened, key_of, value_of, entries, map_of, capacity}
+use Rattle.table.specs.Inner.{seek_from, opened, key_of, value_of, entries, map_of, tabled, capacity}
 use Rattle.table.specs.declared.sorted.Table.{Table}
-use Rattle.table.specs.declared.sorted.Rank.{Rank}
-use Rattle.table.specs.declared.sorted.Rank.TheVariants.{Here, Gap}
+use Rattle.std.specs.Prelude.{Result, Ok, Err}
 use Rattle.table.proofs.Maps.{put_rises}
-use Rattle.table.proofs.TableMaps.{map_size, size_is, entries_set, entries_opened}
+use Rattle.table.proofs.TableMaps.{map_size, map_cut, size_is, entries_set, entries_opened}
 use Rattle.table.proofs.Shifting.{length_opened}
 use Rattle.table.proofs.Seeking.{Replaced, Opened, PutAt, put_at}
 
@@ -35,19 +34,23 @@ within_rises most k v m r = by (ltb most (length (put k v m)))
     by true = r
     by false = put_rises k v m r
 
--- what the search answered for a key that was lent back
-pub found_at : (words image : List ℕ) (t : Table) (k x : List ℕ) (q s : Rank) → x ≡ k → q ≡ seek_from 0 x (map_of words image t) → q ≡ s
-    → seek_from 0 k (map_of words image t) ≡ s
-found_at words image t k x q s e r h = ap (λ (y : List ℕ). seek_from 0 y (map_of words image t)) (sym e) ∙ sym r ∙ h
+-- what the search among the entries that count answered for a key that was lent back
+pub found_at : (words image : List ℕ) (t : Table) (k x : List ℕ) (q s : Result ℕ ℕ) → x ≡ k
+    → q ≡ seek_from 0 x (map_of words image (tabled (length (take t.count t.at)) (take t.count t.at))) → q ≡ s → seek_from 0 k (map_of words image t) ≡ s
+found_at words image t k x q s e r h =
+    ap (λ (y : List ℕ). seek_from 0 y (map_of words image t)) (sym e)
+    ∙ ap (seek_from 0 x) (sym (map_cut words image t.count t.at))
+    ∙ sym r
+    ∙ h
 
 -- where `put` goes then
-spotted : (k v : List ℕ) (m : Map) (s : Rank) → seek_from 0 k m ≡ s → PutAt k v m 0 s
+spotted : (k v : List ℕ) (m : Map) (s : Result ℕ ℕ) → seek_from 0 k m ≡ s → PutAt k v m 0 s
 spotted k v m s e = rw e at (put_at k v 0 m)
 
 module _ (words image : List ℕ) (t : Table) (l : length t.at ≡ 64) (e j : ℕ) where
-  module _ (found : seek_from 0 (key_of words image e) (map_of words image t) ≡ Here j) where
+  module _ (found : seek_from 0 (key_of words image e) (map_of words image t) ≡ Ok j) where
     replaced : Replaced (key_of words image e) (value_of words e) (map_of words image t) 0 j
-    replaced = spotted _ _ _ (Here j) found
+    replaced = spotted _ _ _ (Ok j) found
 
     pub here_below : j < min t.count 64
     here_below = let p = replaced in let w = p.within in let d = p.place in let n = map_size words image t ∙ size_is t l in omega arith
@@ -71,9 +74,9 @@ module _ (words image : List ℕ) (t : Table) (l : length t.at ≡ 64) (e j : �
         ∙ sym same
         ∙ sym (within_room capacity k v m (omega arith))
 
-  module _ (found : seek_from 0 (key_of words image e) (map_of words image t) ≡ Gap j) where
+  module _ (found : seek_from 0 (key_of words image e) (map_of words image t) ≡ Err j) where
     gap : Opened (key_of words image e) (value_of words e) (map_of words image t) 0 j
-    gap = spotted _ _ _ (Gap j) found
+    gap = spotted _ _ _ (Err j) found
 
     pub gap_low : j ≤ min t.count 64
     gap_low = let p = gap in let w = p.within in let d = p.place in let n = map_size words image t ∙ size_is t l in omega arith

@@ -1,20 +1,21 @@
 -- Laws of the map that a table holds: what stands at a place, and what a store and an opened place make of it.
 use Prim.Native.Nat.{ℕ, zero, suc, ◌+◌, ◌≤◌, ◌<◌, min}
 use mathlib.Core.Path.{◌≡◌, refl, sym, ap, ◌∙◌}
-use mathlib.Core.Bool.{true, false}
+use mathlib.Core.Bool.{Bool, true, false, cond, ◌||◌}
 use mathlib.Core.List.{List, [], ◌∷◌, ◌++◌, map, map-append}
 use native.Mathlib.Omega.{arith}
 use native.Mathlib.Numerals.{add-one}
 use lib.ListN.{length, take, drop, set, get_or, length-map, length-take, get_or-map}
-use lib.Seq.{get_or-take, take-set-lt, length-take-le}
+use lib.Seq.{get_or-take, take-set-lt, length-take-le, take-length}
+use Rattle.std.specs.List.{list_any}
+use Rattle.std.proofs.lemmas.List.{take_min}
 use Rattle.buffer.specs.Compare.{order, same_bytes}
-use Rattle.buffer.specs.declared.order.Order.{Order}
+use Rattle.std.specs.declared.cmp.Ordering.{Ordering}
 use Rattle.buffer.proofs.Lists.{drop_step, drop_end}
-use Rattle.buffer.proofs.Choices.{then_is, else_is}
 use Rattle.table.specs.Map.{on_order, has}
 use Rattle.table.specs.Inner.{seek_from, opened, key_of, value_of, entries, map_of, tabled, size_of}
 use Rattle.table.specs.declared.sorted.Table.{Table}
-use Rattle.table.specs.declared.sorted.Rank.TheVariants.{Here, Gap}
+use Rattle.std.specs.Prelude.{Ok, Err}
 
 -- the array of a table has 64 elements, as its type says it in the logic
 pub whole : (l : List ℕ) → length (map (λ (x : ℕ). x) l) ≡ 64 → length l ≡ 64
@@ -70,8 +71,30 @@ module _ (words image : List ℕ) where
   unfolding entries
   entries_opened n m at other place e h = ap (map pair) h ∙ map_opened pair place e (take n at)
 
+  -- the entries that count are the whole of a table of their own
+  pub map_cut : (n : ℕ) (at : List ℕ) → map_of words image (tabled (length (take n at)) (take n at)) ≡ map_of words image (tabled n at)
+  unfolding map_of entries
+  map_cut n at = ap (map pair) (take-length (take n at))
+
+  has_any : (k : List ℕ) (l : List ℕ) → has k (map pair l) ≡ list_any (λ e. same_bytes k (key_of words image e)) l
+  unfolding has
+  has_any k [] = refl
+  has_any k (e ∷ l) = by (same_bytes k (key_of words image e)) (has_any k l)
+    where
+      by : (t : Bool) → has k (map pair l) ≡ list_any (λ e. same_bytes k (key_of words image e)) l
+          → cond t true (has k (map pair l)) ≡ (t || list_any (λ e. same_bytes k (key_of words image e)) l)
+      by true h = refl
+      by false h = h
+
   -- the same of a table
   module _ (t : Table) where
+    -- whether an entry that counts has the key
+    pub has_some : (k : List ℕ) (n : ℕ) → n ≡ size_of t → list_any (λ e. same_bytes k (key_of words image e)) (take n t.at) ≡ has k (map_of words image t)
+    unfolding map_of size_of entries
+    has_some k n h =
+        let cut : take n t.at ≡ take t.count t.at = ap (λ (j : ℕ). take j t.at) (h ∙ length-take t.count t.at) ∙ take_min t.count t.at in
+        ap (list_any (λ e. same_bytes k (key_of words image e))) cut ∙ sym (has_any k (take t.count t.at))
+
     pub map_size : length (map_of words image t) ≡ size_of t
     unfolding map_of size_of entries
     map_size = length-map (take t.count t.at) pair
@@ -88,28 +111,15 @@ module _ (words image : List ℕ) where
     at_end i h = let size = map_size in drop_end (map_of words image t) i (omega arith)
 
     -- a search for a key, turn by turn
-    module _ (k x : List ℕ) (i : ℕ) where
-      pub has_end : size_of t ≤ i → has k (drop i (map_of words image t)) ≡ false
-      unfolding has
-      has_end h = ap (has k) (at_end i h)
-
-      pub seek_end : size_of t ≤ i → seek_from i k (drop i (map_of words image t)) ≡ Gap i
+    module _ (k : List ℕ) (i : ℕ) where
+      pub seek_end : size_of t ≤ i → (n : ℕ) → i ≡ n → seek_from i k (drop i (map_of words image t)) ≡ Err n
       unfolding seek_from
-      seek_end h = ap (seek_from i k) (at_end i h)
+      seek_end h n e = ap (seek_from i k) (at_end i h) ∙ ap (λ (j : ℕ). seek_from j k []) e
 
-      module _ (h : i < size_of t) (p : x ≡ key_of words image (get_or t.at i 0)) where
-        pub has_here : same_bytes k x ≡ true → has k (drop i (map_of words image t)) ≡ true
-        unfolding has
-        has_here s = ap (has k) (at_place i h) ∙ then_is _ _ _ (ap (same_bytes k) (sym p) ∙ s)
-
-        pub has_on : same_bytes k x ≡ false → has k (drop i (map_of words image t)) ≡ has k (drop (i + 1) (map_of words image t))
-        unfolding has
-        has_on s = ap (has k) (at_place i h) ∙ else_is _ _ _ (ap (same_bytes k) (sym p) ∙ s)
-
-        pub seek_turn : (o : Order) → order k x ≡ o
-            → seek_from i k (drop i (map_of words image t)) ≡ on_order o (Gap i) (Here i) (seek_from (i + 1) k (drop (i + 1) (map_of words image t)))
-        unfolding seek_from
-        seek_turn o s =
-            ap (seek_from i k) (at_place i h)
-            ∙ ap (λ (q : Order). on_order q (Gap i) (Here i) (seek_from (suc i) k (drop (i + 1) (map_of words image t)))) (ap (order k) (sym p) ∙ s)
-            ∙ ap (λ (n : ℕ). on_order o (Gap i) (Here i) (seek_from n k (drop (i + 1) (map_of words image t)))) (sym (add-one i))
+      pub seek_turn : (x : List ℕ) → i < size_of t → x ≡ key_of words image (get_or t.at i 0) → (o : Ordering) → order k x ≡ o
+          → seek_from i k (drop i (map_of words image t)) ≡ on_order o (Err i) (Ok i) (seek_from (i + 1) k (drop (i + 1) (map_of words image t)))
+      unfolding seek_from
+      seek_turn x h p o s =
+          ap (seek_from i k) (at_place i h)
+          ∙ ap (λ (q : Ordering). on_order q (Err i) (Ok i) (seek_from (suc i) k (drop (i + 1) (map_of words image t)))) (ap (order k) (sym p) ∙ s)
+          ∙ ap (λ (n : ℕ). on_order o (Err i) (Ok i) (seek_from n k (drop (i + 1) (map_of words image t)))) (sym (add-one i))

@@ -1,13 +1,11 @@
 -- What only contracts of inner calls cite. How a table holds a map: a number for each entry, in which the places of its key and its value are packed. A value lies in the words, a key in the
 -- words (a long form, as typed) or in the image (a name, for a short one) (STANDARD 7.11).
-use Rattle.std.specs.Prelude.{ℕ, zero, suc, ◌+◌, ◌*◌, ◌/◌, ◌%◌, ◌≤◌, ◌≡◌, List, [], ◌∷◌, ◌++◌, map, length, take, drop}
+use Rattle.std.specs.Prelude.{ℕ, zero, suc, ◌+◌, ◌*◌, ◌/◌, ◌%◌, ◌≤◌, ◌≡◌, List, [], ◌∷◌, ◌++◌, map, length, take, drop, Result, Ok, Err}
 use Rattle.buffer.specs.Compare.{order}
 use Rattle.table.specs.Map.{Map, on_order, put_within}
 use Rattle.table.specs.declared.packing.Source.{Source}
 use Rattle.table.specs.declared.packing.Source.TheVariants.{Words, Image}
 use Rattle.table.specs.declared.sorted.Table.{Table}
-use Rattle.table.specs.declared.sorted.Rank.{Rank}
-use Rattle.table.specs.declared.sorted.Rank.TheVariants.{Here, Gap}
 
 -- n bytes of a text from a place on
 abbrev pub part_of : List ℕ → ℕ → ℕ → List ℕ
@@ -85,10 +83,10 @@ put_entry words image e table = put_within capacity (key_of words image e) (valu
 abbrev pub PutIn : List ℕ → List ℕ → ℕ → ℕ → List ℕ → ℕ → List ℕ → Type 0
 PutIn words image n e table r left = (map_of words image (tabled r left) ≡ put_entry words image e (tabled n table)) × Fit r left
 
--- the place of the key, or of the first that is greater, where i keys precede the map
-unfoldable pub seek_from : ℕ → List ℕ → Map → Rank
-seek_from i k [] = Gap i
-seek_from i k (e ∷ m) = on_order (order k e.0) (Gap i) (Here i) (seek_from (suc i) k m)
+-- the place of the key, or as an error that of the first that is greater, where i keys precede the map
+unfoldable pub seek_from : ℕ → List ℕ → Map → Result ℕ ℕ
+seek_from i k [] = Err i
+seek_from i k (e ∷ m) = on_order (order k e.0) (Err i) (Ok i) (seek_from (suc i) k m)
 
 -- a list with one element more, at a place
 abbrev pub opened : {A : Type 0} → ℕ → A → List A → List A

@@ -3,14 +3,14 @@
 use Rattle.std.specs.Prelude.{ℕ, ◌≡◌, Bool, true, false, cond, List, [], ◌∷◌, ltb, length}
 use Rattle.std.proofs.Math.Option.{Option, none, some}
 use Rattle.buffer.specs.Compare.{order, same_bytes}
-use Rattle.buffer.specs.declared.order.Order.{Order}
-use Rattle.buffer.specs.declared.order.Order.TheVariants.{Less, Equal, Greater}
+use Rattle.std.specs.declared.cmp.Ordering.{Ordering}
+use Rattle.std.specs.declared.cmp.Ordering.TheVariants.{Less, Equal, Greater}
 
 -- keys with their values
 abbrev pub Map : Type 0
 Map = List (List ℕ × List ℕ)
 
-abbrev pub on_order : {A : Type 0} → Order → A → A → A → A
+abbrev pub on_order : {A : Type 0} → Ordering → A → A → A → A
 on_order Less less equal greater = less
 on_order Equal less equal greater = equal
 on_order Greater less equal greater = greater

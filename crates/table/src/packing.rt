@@ -1,5 +1,5 @@
 // An entry of a table: one number, in which the places of a key and of its value are packed.
-ghost use Rattle.std.specs.Prelude.{◌≡◌, ◌≤◌, ◌<◌};
+ghost use Rattle.std.specs.Prelude.{◌≡◌, ◌<◌};
 ghost use Rattle.table.specs.Inner.{bit_of, packed, key_of, value_of};
 
 use buffer::part;
@@ -18,21 +18,12 @@ pub enum Source {
     Image,
 }
 
-fn bit_of(source: Source) -> usize
-    ensures { (result ≡ bit_of source) × (result ≤ 1) }
-{
-    match source {
-        Source::Words => 0,
-        Source::Image => 1,
-    }
-}
-
 // The entry of a key and of its value, which lies in the words.
 pub fn entry(source: Source, key: Span, value: Span) -> usize
     requires { (key.start < 0x10000) × (key.length < 0x10000) × (value.start < 0x2000) × (value.length < 0x2000) }
     ensures { result ≡ packed (bit_of source) key.start key.length value.start value.length }
 {
-    let place = bit_of(source) * 0x10000 + key.start;
+    let place = source as usize * 0x10000 + key.start;
     let whole = place * 0x10000 + key.length;
     (whole * 0x2000 + value.start) * 0x2000 + value.length
 }

@@ -1,4 +1,5 @@
 -- Worked examples: the code points of the Unicode Standard's Table 3-4 in UTF-8, what Table 3-7 refuses, and a text taken apart.
+use Rattle.std.specs.Prelude.{Some, None}
 use Prim.Native.Nat.{ℕ}
 use mathlib.Core.Path.{◌≡◌, refl}
 use mathlib.Core.Bool.{false}
@@ -36,13 +37,13 @@ bad_beginnings = refl
 -- the letters U+00F6, U+09AD, U+8A9E and U+FFFD; and U+0085, U+3000, "a", U+10302 and a letter cut off, which are none
 letters : map letter_first
     ((0xC3 ∷ 0xB6 ∷ []) ∷ (0xE0 ∷ 0xA6 ∷ 0xAD ∷ []) ∷ (0xE8 ∷ 0xAA ∷ 0x9E ∷ []) ∷ (0xEF ∷ 0xBF ∷ 0xBD ∷ []) ∷ [])
-    ≡ 2 ∷ 3 ∷ 3 ∷ 3 ∷ []
+    ≡ Some 2 ∷ Some 3 ∷ Some 3 ∷ Some 3 ∷ []
 unfolding letter_first letter decode_first table decode_two decode_three within least_second greatest_second
 letters = refl
 
 no_letters : map letter_first
     ((0xC2 ∷ 0x85 ∷ []) ∷ (0xE3 ∷ 0x80 ∷ 0x80 ∷ []) ∷ (0x61 ∷ []) ∷ (0xF0 ∷ 0x90 ∷ 0x8C ∷ 0x82 ∷ []) ∷ (0xC3 ∷ 0x61 ∷ []) ∷ [])
-    ≡ 0 ∷ 0 ∷ 0 ∷ 0 ∷ 0 ∷ []
+    ≡ None ∷ None ∷ None ∷ None ∷ None ∷ []
 unfolding letter_first letter decode_first table decode_two decode_three decode_four within least_second greatest_second
 no_letters = refl
 

@@ -3,11 +3,14 @@ use Prim.Native.Nat.{ℕ, zero, suc, ◌+◌, ◌-◌, ◌<◌, ◌≤◌, max}
 use mathlib.Core.Path.{◌≡◌, refl, sym, ap, ◌∙◌}
 use mathlib.Core.List.{List, [], ◌∷◌}
 use native.Mathlib.Omega.{arith}
+use mathlib.Core.Bool.{Bool, true, false, ◌&&◌}
+use borrow.Author.Tests.{ne_eqb}
+use lib.Dec.{eqb}
 use lib.ListN.{length, take, drop, get_or, length-drop}
 use lib.Seq.{get_or-drop, drop-drop}
 use Rattle.buffer.specs.Greatest.{greatest}
 use Rattle.buffer.proofs.Lists.{drop_step, drop_end}
-use Rattle.buffer.proofs.Greatest.{greatest_step, greatest_end, greatest_append, greatest_covered}
+use Rattle.buffer.proofs.Greatest.{greatest_append, greatest_covered}
 use Rattle.text.specs.Inner.{misfit, misfits, misfits_in, end_misfit, unfit}
 
 -- as many as there are bytes from the fourth on
@@ -82,34 +85,52 @@ misfit_at s j h =
     let q : get_or (drop j s) 0 0 ≡ get_or s j 0 = get_or-drop j s 0 0 ∙ ap (λ (n : ℕ). get_or s n 0) e in
     sym p ∙ front_in (drop j s) (omega arith) ∙ cc (q, get_or-drop j s 1 0, get_or-drop j s 2 0, get_or-drop j s 3 0)
 
+-- of two both fit exactly if there is no misfit
+none_both : (m n : ℕ) → (eqb m 0 && eqb n 0) ≡ eqb (max m n) 0
+none_both zero n = let e : n ≡ max 0 n = omega arith in ap (λ (k : ℕ). eqb k 0) e
+none_both (suc m) n = ap (λ (t : Bool). t && eqb n 0) (ne_eqb (suc m) 0 (λ e. omega arith)) ∙ sym (ne_eqb (max (suc m) n) 0 (λ e. omega arith))
+
+pub both_fit : (t u : Bool) (m n : ℕ) → t ≡ eqb m 0 → u ≡ eqb n 0 → (t && u) ≡ eqb (max m n) 0
+both_fit t u m n e f = cc (e, f) ∙ none_both m n
+
+pub three_fit : (t u v : Bool) (m n k : ℕ) → t ≡ eqb m 0 → u ≡ eqb n 0 → v ≡ eqb k 0 → ((t && u) && v) ≡ eqb (max (max m n) k) 0
+three_fit t u v m n k e f g = both_fit (t && u) v (max m n) k (both_fit t u m n e f) g
+
 -- a turn of the pass, which looks back from its place, and its end
-pub pass_turn : (s : List ℕ) (i top m : ℕ) → 3 ≤ i → i < length s → m ≡ misfit (get_or s (i - 3) 0) (get_or s (i - 2) 0) (get_or s (i - 1) 0) (get_or s i 0)
-    → max (max top m) (greatest (drop (i + 1 - 3) (misfits_in s))) ≡ max top (greatest (drop (i - 3) (misfits_in s)))
-pass_turn s i top m h k e =
+pub pass_turn : (s : List ℕ) (i : ℕ) (fit t : Bool) → 3 ≤ i → i < length s → t ≡ eqb (misfit (get_or s (i - 3) 0) (get_or s (i - 2) 0) (get_or s (i - 1) 0) (get_or s i 0)) 0
+    → ((fit && t) && eqb (greatest (drop (i + 1 - 3) (misfits_in s))) 0) ≡ (fit && eqb (greatest (drop (i - 3) (misfits_in s))) 0)
+unfolding greatest
+pass_turn s i true t h k e =
     let on : i + 1 - 3 ≡ i - 3 + 1 = omega arith in
     let p : i - 2 ≡ i - 3 + 1 = omega arith in
     let q : i - 1 ≡ i - 3 + 2 = omega arith in
     let r : i ≡ i - 3 + 3 = omega arith in
     let l = length_in s in
-    let is : m ≡ get_or (misfits_in s) (i - 3) 0 =
-    e ∙ cc (ap (λ (n : ℕ). get_or s n 0) p, ap (λ (n : ℕ). get_or s n 0) q, ap (λ (n : ℕ). get_or s n 0) r) ∙ sym (misfit_at s (i - 3) (omega arith))
+    let is : misfit (get_or s (i - 3) 0) (get_or s (i - 2) 0) (get_or s (i - 1) 0) (get_or s i 0) ≡ get_or (misfits_in s) (i - 3) 0 =
+    cc (ap (λ (n : ℕ). get_or s n 0) p, ap (λ (n : ℕ). get_or s n 0) q, ap (λ (n : ℕ). get_or s n 0) r) ∙ sym (misfit_at s (i - 3) (omega arith))
     in
-    ap (λ (n : ℕ). max (max top n) (greatest (drop (i + 1 - 3) (misfits_in s)))) is
-    ∙ ap (λ (n : ℕ). max (max top (get_or (misfits_in s) (i - 3) 0)) (greatest (drop n (misfits_in s)))) on
-    ∙ greatest_step (misfits_in s) (i - 3) top (omega arith)
+    ap (λ (u : Bool). u && eqb (greatest (drop (i + 1 - 3) (misfits_in s))) 0) (e ∙ ap (λ (n : ℕ). eqb n 0) is)
+    ∙ none_both (get_or (misfits_in s) (i - 3) 0) (greatest (drop (i + 1 - 3) (misfits_in s)))
+    ∙ ap (λ (n : ℕ). eqb (max (get_or (misfits_in s) (i - 3) 0) (greatest (drop n (misfits_in s)))) 0) on
+    ∙ ap (λ (t : List ℕ). eqb (greatest t) 0) (sym (drop_step (misfits_in s) (i - 3) 0 (omega arith)))
+pass_turn s i false t h k e = refl
 
-pub pass_end : (s : List ℕ) (i top : ℕ) → length s ≤ i → max top (greatest (drop (i - 3) (misfits_in s))) ≡ top
-pass_end s i top h = let l = length_in s in greatest_end (misfits_in s) (i - 3) top (omega arith)
+pub pass_end : (s : List ℕ) (i : ℕ) (fit : Bool) → length s ≤ i → fit ≡ (fit && eqb (greatest (drop (i - 3) (misfits_in s))) 0)
+unfolding greatest
+pass_end s i true h = let l = length_in s in rw (drop_end (misfits_in s) (i - 3) (omega arith)) refl
+pass_end s i false h = refl
 
 -- a turn of the walk, which carries the last three bytes, and its end
-pub walk_turn : (s : List ℕ) (c b a i top : ℕ) → i < length s
-    → max (max top (misfit c b a (get_or s i 0))) (unfit b a (get_or s i 0) (drop (i + 1) s)) ≡ max top (unfit c b a (drop i s))
+pub walk_turn : (s : List ℕ) (c b a i : ℕ) (fit t : Bool) → i < length s → t ≡ eqb (misfit c b a (get_or s i 0)) 0
+    → ((fit && t) && eqb (unfit b a (get_or s i 0) (drop (i + 1) s)) 0) ≡ (fit && eqb (unfit c b a (drop i s)) 0)
 unfolding unfit
-walk_turn s c b a i top h = rw (drop_step s i 0) (omega arith)
+walk_turn s c b a i true t h e =
+    rw (drop_step s i 0) (ap (λ (u : Bool). u && eqb (unfit b a (get_or s i 0) (drop (i + 1) s)) 0) e ∙ none_both (misfit c b a (get_or s i 0)) (unfit b a (get_or s i 0) (drop (i + 1) s)))
+walk_turn s c b a i false t h e = refl
 
-pub walk_end : (s : List ℕ) (c b a i top : ℕ) → length s ≤ i → max top (misfit c b a 0) ≡ max top (unfit c b a (drop i s))
+pub walk_end : (s : List ℕ) (c b a i : ℕ) (fit : Bool) → length s ≤ i → (fit && eqb (misfit c b a 0) 0) ≡ (fit && eqb (unfit c b a (drop i s)) 0)
 unfolding unfit
-walk_end s c b a i top h = rw (drop_end s i) refl
+walk_end s c b a i fit h = rw (drop_end s i) refl
 
 -- the first three bytes
 nested : (p q r : ℕ) → max (max p q) r ≡ max p (max q (max r 0))

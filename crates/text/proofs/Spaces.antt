@@ -1,27 +1,16 @@
 -- Laws of a list of numbers that is looked through, and so of the table of White_Space.
-use Prim.Native.Nat.{ℕ, zero, suc, ◌+◌, ◌<◌, ◌≤◌}
+use Prim.Native.Nat.{ℕ, zero, suc, ◌+◌, ◌-◌, ◌<◌, ◌≤◌}
 use native.Mathlib.Omega.{arith}
 use mathlib.Core.Logic.{⊎_elim}
 use Rattle.text.proofs.Encoding.{below_or_not}
 use mathlib.Core.Path.{◌≡◌, refl, sym, ap, ◌∙◌}
-use mathlib.Core.Bool.{Bool, true, false, cond, not, beq}
+use mathlib.Core.Bool.{Bool, true, false, cond, not, beq, ◌||◌, ◌&&◌}
 use mathlib.Core.List.{List, [], ◌∷◌}
-use borrow.Author.Tests.{eq-eqb, ne_eqb, le-ltb}
-use lib.Dec.{eqb, ltb}
-use lib.ListN.{length, drop, get_or}
-use Rattle.buffer.proofs.Choices.{then_is, else_is, true_is_not_false}
-use Rattle.buffer.proofs.Lists.{drop_step}
+use borrow.Author.Tests.{tests, ne_eqb}
+use lib.Dec.{eqb, ltb, leb}
+use Rattle.buffer.proofs.Choices.{else_is, true_is_not_false}
 use Rattle.text.specs.Space.{white_space, among, is_white_space}
-use Rattle.text.specs.Inner.{low_white, gap}
-
-module _ (n : ℕ) (list : List ℕ) (i : ℕ) (h : i < length list) where
-  pub among_found : get_or list i 0 ≡ n → among n (drop i list) ≡ true
-  unfolding among
-  among_found e = rw (drop_step list i 0 h) (then_is _ _ _ (eq-eqb _ _ e))
-
-  pub among_on : (get_or list i 0 ≡ n → ⊥) → among n (drop i list) ≡ among n (drop (i + 1) list)
-  unfolding among
-  among_on e = rw (drop_step list i 0 h) (else_is _ _ _ (ne_eqb _ _ e))
+use Rattle.text.specs.Inner.{in_ranges}
 
 -- a test that every number of a list passes and n does not: n is not in it
 abbrev pub all_of : (ℕ → Bool) → List ℕ → Bool
@@ -36,12 +25,6 @@ among_not f n (m ∷ list) h k = by (f m) refl h (among_not f n list)
     by : (t : Bool) → f m ≡ t → cond t (all_of f list) false ≡ true → (all_of f list ≡ true → f n ≡ false → among n list ≡ false) → cond (eqb m n) true (among n list) ≡ false
     by true e q ih = else_is _ _ _ (ne_eqb m n (λ z. true_is_not_false (sym e ∙ ap f z ∙ k))) ∙ ih q k
     by false e q ih = cc
-
--- no white space past 84 lies in a gap
-pub none_in_a_gap : (code : ℕ) → 0x85 ≤ code → gap code ≡ true → is_white_space code ≡ false
-unfolding is_white_space white_space gap
-none_in_a_gap code h k =
-    among_not (λ n. cond (ltb n 0x85) true (not (gap n))) code white_space refl (else_is _ _ _ (le-ltb code 0x85 h) ∙ ap not k)
 
 -- a test that every number below k passes
 abbrev pub all_below : (ℕ → Bool) → ℕ → Bool
@@ -62,7 +45,41 @@ same_test false false e = refl
 same_test true false e = cc
 same_test false true e = cc
 
--- the white space below 85
-pub low_is : (code : ℕ) → code < 0x85 → low_white code ≡ is_white_space code
-unfolding is_white_space white_space among low_white
-low_is code h = same_test (low_white code) (is_white_space code) (below_passes (λ n. beq (low_white n) (is_white_space n)) 0x85 code refl h)
+-- where there is no white space past A0, but for five numbers that stand alone and two runs
+unfoldable pub gap : ℕ → Bool
+gap code = (leb 0xA1 code && ltb code 0x1680) || (leb 0x1681 code && ltb code 0x2000) || (leb 0x2060 code && ltb code 0x3000) || leb 0x3001 code
+
+pub none_in_a_gap : (code : ℕ) → gap code ≡ true → is_white_space code ≡ false
+unfolding is_white_space white_space gap
+none_in_a_gap code k = among_not (λ n. not (gap n)) code white_space refl (ap not k)
+
+no_range_in_a_gap : (code : ℕ) → gap code ≡ true → in_ranges code ≡ false
+unfolding gap in_ranges
+no_range_in_a_gap code k = grind (arith, tests)
+
+-- the code points by their ranges, and in the list: from a place on, where they are few
+same_from : (start n code : ℕ) → all_below (λ k. beq (in_ranges (start + k)) (is_white_space (start + k))) n ≡ true → start ≤ code → code < start + n
+    → in_ranges code ≡ is_white_space code
+same_from start n code h l m =
+    let e : start + (code - start) ≡ code = omega arith in
+    ap in_ranges (sym e)
+    ∙ same_test _ _ (below_passes (λ k. beq (in_ranges (start + k)) (is_white_space (start + k))) n (code - start) h (omega arith))
+    ∙ ap is_white_space e
+
+apart : (code : ℕ) → gap code ≡ true → in_ranges code ≡ is_white_space code
+apart code k = no_range_in_a_gap code k ∙ sym (none_in_a_gap code k)
+
+pub ranges_are : (code : ℕ) → in_ranges code ≡ is_white_space code
+unfolding in_ranges is_white_space white_space among gap
+ranges_are code =
+    below 0xA1 (λ (h : code < 0xA1). same_from 0 0xA1 code refl (omega arith) h)
+    (λ (h : 0xA1 ≤ code). below 0x1680 (λ (k : code < 0x1680). apart code (grind (arith, tests)))
+    (λ (k : 0x1680 ≤ code). below 0x1681 (λ (l : code < 0x1681). same_from 0x1680 1 code refl k (omega arith))
+    (λ (l : 0x1681 ≤ code). below 0x2000 (λ (m : code < 0x2000). apart code (grind (arith, tests)))
+    (λ (m : 0x2000 ≤ code). below 0x2060 (λ (n : code < 0x2060). same_from 0x2000 0x60 code refl m (omega arith))
+    (λ (n : 0x2060 ≤ code). below 0x3000 (λ (p : code < 0x3000). apart code (grind (arith, tests)))
+    (λ (p : 0x3000 ≤ code). below 0x3001 (λ (q : code < 0x3001). same_from 0x3000 1 code refl p (omega arith))
+    (λ (q : 0x3001 ≤ code). apart code (grind (arith, tests)))))))))
+  where
+    below : (n : ℕ) → (code < n → in_ranges code ≡ is_white_space code) → (n ≤ code → in_ranges code ≡ is_white_space code) → in_ranges code ≡ is_white_space code
+    below n f g = ⊎_elim f g (below_or_not code n)

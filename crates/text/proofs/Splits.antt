@@ -1,26 +1,27 @@
 -- A text taken apart at white space: trimming removes exactly the outer white space, and the next word is the first of the words.
+use Rattle.std.specs.Prelude.{Some, None, Option}
 use Prim.Native.Nat.{ℕ, ◌+◌, ◌-◌, ◌<◌, ◌≤◌}
 use mathlib.Core.Path.{◌≡◌, refl, sym, ap, ◌∙◌}
 use mathlib.Core.Bool.{Bool, true, false, cond, beq}
 use mathlib.Core.List.{List, [], ◌∷◌, ◌++◌, map, append_assoc, append-nil}
 use mathlib.Core.Logic.{⊎_elim}
 use native.Mathlib.Omega.{arith}
-use borrow.Author.Tests.{eq-eqb, ne_eqb, eqb-true, eqb-false, le-ltb}
+use borrow.Author.Tests.{tests, eq-eqb, ne_eqb, eqb-true, eqb-false}
 use lib.Dec.{eqb}
 use lib.ListN.{length, take, drop, length-append, length-drop}
 use lib.Seq.{drop-drop, take_at, append_snoc}
 use Rattle.buffer.specs.Greatest.{greatest}
+use Rattle.buffer.specs.Lend.{between}
+use Rattle.buffer.specs.declared.lend.Span.{Span}
 use Rattle.buffer.proofs.Choices.{else_is, neither}
 use Rattle.buffer.proofs.Lists.{drop_end}
 use Rattle.text.specs.Decoding.{Piece, pieces_of, bytes_of, bytes_all}
-use Rattle.text.specs.declared.apart.Word.{Word}
-use Rattle.text.specs.declared.apart.Word.TheVariants.{At, Nothing}
 use Rattle.text.specs.Apart.{white, run_of, after_run, trim_end, before_end, trimmed, all_white, blank, unless_empty, words_after, words_between, word_at, next_word}
 use Rattle.text.specs.Space.{is_white_space}
-use Rattle.text.specs.Inner.{low_white}
+use Rattle.text.specs.Inner.{in_ranges}
 use Rattle.text.proofs.Encoding.{below_or_not}
 use Rattle.text.proofs.TableRows.{decode_ascii}
-use Rattle.text.proofs.Spaces.{low_is}
+use Rattle.text.proofs.Spaces.{ranges_are}
 use Rattle.text.proofs.Pieces.{Fair, by_pieces, pieces_bytes, pieces_none, pieces_character, piece_some}
 use Rattle.text.proofs.WhiteRuns.{solid_length}
 
@@ -103,9 +104,8 @@ blank_is s n e =
 
 -- an ASCII text with a byte above 20 is not blank: no white space of ASCII is above 20
 ascii_solid : (code : ℕ) → 0x20 < code → code < 0x80 → is_white_space code ≡ false
-unfolding low_white
-ascii_solid code h k =
-    sym (low_is code (omega arith)) ∙ else_is _ _ _ (le-ltb code 0x0E (omega arith)) ∙ ne_eqb code 0x20 (λ e. omega arith)
+unfolding in_ranges
+ascii_solid code h k = let e : false ≡ in_ranges code = grind (arith, tests) in sym (e ∙ ranges_are code)
 
 blank_ascii : (a : ℕ) (s : List ℕ) → a < 0x80 → blank (a ∷ s) ≡ cond (is_white_space a) (blank s) false
 unfolding blank all_white
@@ -272,7 +272,7 @@ trimming s =
 
 -- where the next word lies
 word_here : (ps : List Piece) (start : ℕ) → begins_white ps ≡ false → 0 < length (bytes_all ps)
-    → word_at start (run_of false ps) ≡ At start (start + length (bytes_all (run_of false ps)))
+    → word_at start (run_of false ps) ≡ Some (record { start = start; end = start + length (bytes_all (run_of false ps)) })
 unfolding bytes_all run_of
 word_here [] start e h = absurd (omega arith)
 word_here (p ∷ ps) start e h = rw e
@@ -284,18 +284,18 @@ module _ (s : List ℕ) (at start : ℕ) (e : start ≡ at + length (bytes_all (
   after_is : after_run true (pieces_of (drop at s)) ≡ pieces_of (drop start s)
   after_is = sym (after_pieces true (drop at s)) ∙ ap pieces_of left_is
 
-  pub next_none : length s ≤ start → next_word at (drop at s) ≡ Nothing
+  pub next_none : length s ≤ start → next_word at (drop at s) ≡ None
   unfolding next_word run_of
   next_none h = rw (after_is, drop_end s start h, pieces_none)
 
-  pub next_is : (end : ℕ) → start < length s → end ≡ start + length (bytes_all (run_of false (pieces_of (drop start s)))) → next_word at (drop at s) ≡ At start end
+  pub next_is : (end : ℕ) → start < length s → end ≡ start + length (bytes_all (run_of false (pieces_of (drop start s)))) → next_word at (drop at s) ≡ Some (record { start = start; end = end })
   unfolding next_word
   next_is end h f =
       let some : 0 < length (bytes_all (pieces_of (drop start s))) = rw (pieces_bytes (drop start s), length-drop start s) (omega arith) in
       let solid : begins_white (pieces_of (drop start s)) ≡ false = rw after_is at (after_solid (pieces_of (drop at s))) in
-      rw (← e, after_is) (word_here (pieces_of (drop start s)) start solid some ∙ ap (λ (n : ℕ). At start n) (sym f))
+      rw (← e, after_is) (word_here (pieces_of (drop start s)) start solid some ∙ ap (λ (n : ℕ). Some (record { start = start; end = n })) (sym f))
 
-pub next_past : (s : List ℕ) (at : ℕ) → length s ≤ at → next_word at (drop at s) ≡ Nothing
+pub next_past : (s : List ℕ) (at : ℕ) → length s ≤ at → next_word at (drop at s) ≡ None
 unfolding next_word run_of after_run
 next_past s at h = rw (drop_end s at h, pieces_none)
 
@@ -322,9 +322,9 @@ words_first word (p ∷ ps) = by (white p) refl (words_first (word ++ (p ∷ [])
     by false e h = h ∙ ap (λ (l : List Piece). unless_empty l (words_after [] (after_run false ps))) (append_snoc word p (run_of false ps))
 
 -- the next word of a text, and the words after it, are its words
-abbrev pub WordsBy : List ℕ → Word → Type 0
-WordsBy s Nothing = words_between s ≡ []
-WordsBy s (At start end) = words_between s ≡ take (end - start) (drop start s) ∷ words_between (drop end s)
+abbrev pub WordsBy : List ℕ → Option Span → Type 0
+WordsBy s None = words_between s ≡ []
+WordsBy s (Some word) = words_between s ≡ between s word.start word.end ∷ words_between (drop word.end s)
 
 no_word : (ps : List Piece) → begins_white ps ≡ false → run_of false ps ≡ [] → ps ≡ []
 unfolding run_of

@@ -13,7 +13,7 @@ use Rattle.text.specs.Space.{is_white_space}
 use Rattle.text.proofs.Encoding.{decode_sound}
 use Rattle.text.specs.Decoding.{decode_first, Piece, pieces_of, bytes_of, bytes_all}
 use Rattle.text.specs.declared.apart.Seen.{Seen}
-use Rattle.text.specs.declared.apart.Seen.TheVariants.{Here, End}
+use Rattle.std.proofs.Common.{Option, None, Some}
 use Rattle.text.specs.Apart.{white, run_of, trim_end, before_end}
 use Rattle.text.specs.Inner.{seen_first}
 use Rattle.text.proofs.Pieces.{Front, nothing, first, front, piece_some, pieces_none, pieces_character, pieces_stray, begins}
@@ -27,9 +27,9 @@ pub record Sees (t : List ℕ) (is : Bool) (n : ℕ) : Type 0 where
   pub fits : n ≤ length t
   pub some : 0 < n
 
-abbrev pub SeesOf : List ℕ → Seen → Type 0
-SeesOf t (Here is n) = Sees t is n
-SeesOf t End = t ≡ []
+abbrev pub SeesOf : List ℕ → Option Seen → Type 0
+SeesOf t (Some seen) = Sees t seen.white seen.length
+SeesOf t None = t ≡ []
 
 first_fits : (t : List ℕ) (p : Piece) → t ≡ bytes_of p ++ drop (length (bytes_of p)) t → length (bytes_of p) ≤ length t
 first_fits t p e =
@@ -46,20 +46,20 @@ by_front t _ e (first {p = p} f q) =
 seen_is : (t : List ℕ) → SeesOf t (seen_first (pieces_of t))
 seen_is t = by_front t (pieces_of t) refl (front t)
 
-pub seen_here : (t : List ℕ) (w : Bool) (n : ℕ) → seen_first (pieces_of t) ≡ Here w n → Sees t w n
-seen_here t w n e = rw e at (seen_is t)
+pub seen_here : (t : List ℕ) (seen : Seen) → seen_first (pieces_of t) ≡ Some seen → Sees t seen.white seen.length
+seen_here t seen e = rw e at (seen_is t)
 
-pub seen_end : (t : List ℕ) → seen_first (pieces_of t) ≡ End → t ≡ []
+pub seen_end : (t : List ℕ) → seen_first (pieces_of t) ≡ None → t ≡ []
 seen_end t e = rw e at (seen_is t)
 
 -- what is seen, by what the decoder answers
-pub see_character : (t : List ℕ) (code n : ℕ) → decode_first t ≡ Character code n → seen_first (pieces_of t) ≡ Here (is_white_space code) n
+pub see_character : (t : List ℕ) (code n : ℕ) → decode_first t ≡ Character code n → seen_first (pieces_of t) ≡ Some (record { white = is_white_space code; length = n })
 see_character t code n e = rw (pieces_character t code n e, (begins t code n e).size)
 
-pub see_stray : (t : List ℕ) → decode_first t ≡ IllFormed → seen_first (pieces_of t) ≡ Here false 1
+pub see_stray : (t : List ℕ) → decode_first t ≡ IllFormed → seen_first (pieces_of t) ≡ Some (record { white = false; length = 1 })
 see_stray t e = rw (pieces_stray t e)
 
-pub see_end : (t : List ℕ) → decode_first t ≡ Decoded.End → seen_first (pieces_of t) ≡ End
+pub see_end : (t : List ℕ) → decode_first t ≡ Decoded.End → seen_first (pieces_of t) ≡ None
 see_end t e =
     let is : t ≡ [] = rw e at (decode_sound t) in
     rw (is, pieces_none)

@@ -1,8 +1,7 @@
 -- A text taken apart at white space: trimmed, blank, and the words between white space (STANDARD 1.8 to 1.11, 5.2, 9.2).
-use Rattle.std.specs.Prelude.{ℕ, ◌+◌, Bool, true, false, cond, List, [], ◌∷◌, ◌++◌, map, length}
+use Rattle.std.specs.Prelude.{ℕ, ◌+◌, Bool, true, false, cond, List, [], ◌∷◌, ◌++◌, map, length, Some, None, Option}
 use Rattle.std.specs.Bool.{beq}
-use Rattle.text.specs.declared.apart.Word.{Word}
-use Rattle.text.specs.declared.apart.Word.TheVariants.{At, Nothing}
+use Rattle.buffer.specs.declared.lend.Span.{Span}
 use Rattle.text.specs.Decoding.{Piece, character, stray, pieces_of, bytes_all}
 use Rattle.text.specs.Space.{is_white_space}
 
@@ -57,11 +56,11 @@ words_after word (p ∷ pieces) = cond (white p) (unless_empty word (words_after
 unfoldable pub words_between : List ℕ → List (List ℕ)
 words_between s = map bytes_all (words_after [] (pieces_of s))
 
-abbrev pub word_at : ℕ → List Piece → Word
-word_at start [] = Nothing
-word_at start (p ∷ word) = At start (start + length (bytes_all (p ∷ word)))
+abbrev pub word_at : ℕ → List Piece → Option Span
+word_at start [] = None
+word_at start (p ∷ word) = Some (record { start = start; end = start + length (bytes_all (p ∷ word)) })
 
 -- where the next word lies, given what is left of the text after its first `at` bytes: after the white space there, up to the next
-unfoldable pub next_word : ℕ → List ℕ → Word
+unfoldable pub next_word : ℕ → List ℕ → Option Span
 next_word at s =
     word_at (at + length (bytes_all (run_of true (pieces_of s)))) (run_of false (after_run true (pieces_of s)))

@@ -1,6 +1,6 @@
 -- The decoder after Unicode's Table 3-7, and a text read as pieces: its characters, and the bytes that belong to none.
 -- (STANDARD 1.4 to 1.6, 1.11; 3 of 10.1)
-use Rattle.std.specs.Prelude.{ℕ, zero, suc, pred, ◌+◌, ◌*◌, ◌%◌, Bool, true, false, cond, List, [], ◌∷◌, ◌++◌, ltb, leb, eqb, length, get_or}
+use Rattle.std.specs.Prelude.{ℕ, zero, suc, pred, ◌+◌, ◌*◌, ◌%◌, Bool, true, false, cond, List, [], ◌∷◌, ◌++◌, ltb, leb, eqb, length, get_or, Some, None, Option}
 use Rattle.text.specs.declared.utf8.Decoded.{Decoded}
 use Rattle.text.specs.declared.utf8.Decoded.TheVariants.{Character, IllFormed, End}
 use Rattle.text.specs.Unicode.{encode, encode_all}
@@ -69,11 +69,11 @@ on_decoded End f other = other
 unfoldable pub letter : ℕ → Bool
 letter code = cond (ltb code 0xC0) false (cond (ltb code 0x1000) true (cond (ltb code 0x4000) false (ltb code 0x10000)))
 
--- the length of the letter that a text begins with, 0 if it begins with anything else
-abbrev pub letter_of : Decoded → ℕ
-letter_of d = on_decoded d (λ code n. cond (letter code) n 0) 0
+-- the length of the letter that a text begins with, if it begins with one
+abbrev pub letter_of : Decoded → Option ℕ
+letter_of d = on_decoded d (λ code n. cond (letter code) (Some n) None) None
 
-unfoldable pub letter_first : List ℕ → ℕ
+unfoldable pub letter_first : List ℕ → Option ℕ
 letter_first s = letter_of (decode_first s)
 
 -- the pieces of a text of which the first `skip` bytes are read already

@@ -1,30 +1,28 @@
--- What only contracts of inner functions cite: what the code sees at a place, the length of a decoded character, how a letter begins, what it decides without the table of White_Space, and a byte judged by the three before it.
-use Rattle.std.specs.Prelude.{List, [], ◌∷◌, length, drop, get_or, ℕ, ◌-◌, max, Bool, true, cond, eqb, leb, ltb}
+-- What only contracts of inner functions cite: what the code sees at a place, the length of a decoded character, how a letter begins, the ranges of White_Space, and a byte judged by the three before it.
+use Rattle.std.specs.Prelude.{List, [], ◌∷◌, length, drop, get_or, ℕ, ◌-◌, max, Bool, true, cond, eqb, leb, ltb, Option, None, Some, ◌&&◌, ◌||◌}
 use Rattle.text.specs.declared.apart.Seen.{Seen}
-use Rattle.text.specs.declared.apart.Seen.TheVariants.{Here, End}
 use Rattle.text.specs.Decoding.{Piece, bytes_of, least_second, greatest_second, within, on_decoded}
 use Rattle.text.specs.Apart.{white}
 use Rattle.text.specs.declared.utf8.Decoded.{Decoded}
 
 -- what pieces begin with, as white space goes, and its length in bytes
-abbrev pub seen_first : List Piece → Seen
-seen_first [] = End
-seen_first (p ∷ pieces) = Here (white p) (length (bytes_of p))
+abbrev pub seen_first : List Piece → Option Seen
+seen_first [] = None
+seen_first (p ∷ pieces) = Some (record { white = white p; length = length (bytes_of p) })
 
--- the length of a character, 0 for anything else
-abbrev pub length_of : Decoded → ℕ
-length_of d = on_decoded d (λ code n. n) 0
+-- the length of a character
+abbrev pub length_of : Decoded → Option ℕ
+length_of d = on_decoded d (λ code n. Some n) None
 
 -- the first bytes of the letters that have three
 unfoldable pub letter_head : ℕ → Bool
 letter_head a = cond (eqb a 0xE0) true (within 0xE4 0xEF a)
 
--- what the code decides without the list: the code points below 85, and wide gaps past it
-unfoldable pub low_white : ℕ → Bool
-low_white code = cond (ltb code 0x0E) (ltb 0x08 code) (eqb code 0x20)
-
-unfoldable pub gap : ℕ → Bool
-gap code = cond (ltb code 0x1680) (ltb 0xA0 code) (ltb 0x3000 code)
+-- the code points of White_Space by their ranges
+unfoldable pub in_ranges : ℕ → Bool
+in_ranges code =
+    leb 0x09 code && leb code 0x0D || eqb code 0x20 || eqb code 0x85 || eqb code 0xA0 || eqb code 0x1680
+    || leb 0x2000 code && leb code 0x200A || eqb code 0x2028 || eqb code 0x2029 || eqb code 0x202F || eqb code 0x205F || eqb code 0x3000
 
 -- 1 for a byte outside two bounds
 unfoldable pub outside : ℕ → ℕ → ℕ → ℕ

@@ -6,53 +6,45 @@ ghost use Rattle.text.specs.Inner.{seen_first};
 
 use crate::space::is_white_space;
 use crate::utf8::{Decoded, decode};
+use buffer::Span;
 
-// Where a word lies in a text.
+// A piece of a text, as white space goes: a character, or a byte that belongs to none, which is no white space.
 #[derive(Clone, Copy)]
-pub enum Word {
-    // From a place up to, not including, another.
-    At { start: usize, end: usize },
-    // There is none.
-    Nothing,
+struct Seen {
+    white: bool,
+    length: usize,
 }
 
-// What stands at a place of a text, as white space goes. A byte that belongs to no character is no white space.
-#[derive(Clone, Copy)]
-enum Seen {
-    Here { white: bool, length: usize },
-    End,
-}
-
-fn see(s: &[u8], at: usize) -> Seen
+// What stands at a place of a text, if it has not ended there. In line: a call would pass the answer through memory.
+#[inline(always)]
+fn see(s: &[u8], at: usize) -> Option<Seen>
     ensures { result ≡ seen_first (pieces_of (drop at s.now)) }
 {
     match decode(s, at) {
-        Decoded::Character { code, length } => Seen::Here {
+        Decoded::Character { code, length } => Some(Seen {
             white: is_white_space(code),
             length,
-        },
-        Decoded::IllFormed => Seen::Here {
+        }),
+        Decoded::IllFormed => Some(Seen {
             white: false,
             length: 1,
-        },
-        Decoded::End => Seen::End,
+        }),
+        Decoded::End => None,
     }
 }
 
-// The place after the run at a place: of white space, or of anything else.
+// The place after the run at a place: of white space, or of anything else. In line, so that each kind has a loop of its own.
+#[inline(always)]
 fn run_end(s: &[u8], from: usize, is_white: bool) -> usize
     requires { from ≤ length s.now }
     ensures { result ≡ from + length (bytes_all (run_of is_white (pieces_of (drop from s.now)))) }
 {
     let mut at = from;
-    while at < s.len() {
-        let Seen::Here { white, length } = see(s, at) else {
-            return at;
-        };
-        if white != is_white {
+    while let Some(seen) = see(s, at) {
+        if seen.white != is_white {
             return at;
         }
-        at += length;
+        at += seen.length;
     }
     at
 }
@@ -64,12 +56,9 @@ fn last_solid(s: &[u8], from: usize) -> usize
 {
     let mut end = from;
     let mut at = from;
-    while at < s.len() {
-        let Seen::Here { white, length } = see(s, at) else {
-            return end;
-        };
-        at += length;
-        if !white {
+    while let Some(seen) = see(s, at) {
+        at += seen.length;
+        if !seen.white {
             end = at;
         }
     }
@@ -92,17 +81,17 @@ pub fn is_blank(s: &[u8]) -> bool
     run_end(s, 0, true) == s.len()
 }
 
-// The first word of s between white space at or after a place.
-pub fn next_word(s: &[u8], at: usize) -> Word
+// Where the first word of s between white space at or after a place lies, if there is one.
+pub fn next_word(s: &[u8], at: usize) -> Option<Span>
     ensures { result ≡ next_word at (drop at s.now) }
 {
     if s.len() <= at {
-        return Word::Nothing;
+        return None;
     }
     let start = run_end(s, at, true);
     if s.len() <= start {
-        return Word::Nothing;
+        return None;
     }
     let end = run_end(s, start, false);
-    Word::At { start, end }
+    Some(Span { start, end })
 }

@@ -6,7 +6,7 @@ mod formed;
 mod space;
 mod utf8;
 
-pub use apart::{Word, is_blank, next_word, trim};
+pub use apart::{is_blank, next_word, trim};
 pub use formed::is_well_formed;
 pub use space::is_white_space;
 pub use utf8::{Decoded, decode, letter_at, well_formed_prefix};

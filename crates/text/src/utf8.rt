@@ -6,6 +6,7 @@ ghost use Rattle.text.specs.Inner.{length_of, letter_head};
 use buffer::{greatest_byte, octet_at};
 
 // What stands at a place of a text.
+// Three cases that callers part by name: an Option of a Result would be no plainer.
 #[derive(Clone, Copy)]
 pub enum Decoded {
     // A character: its scalar value, and its length in bytes.
@@ -17,6 +18,7 @@ pub enum Decoded {
 }
 
 // The least second byte after the first byte a.
+#[tactic(auto, unfolding(crate::specs::Decoding::least_second))]
 pub(crate) fn least_second(a: u8) -> u8
     ensures { result ≡ least_second a }
 {
@@ -28,6 +30,7 @@ pub(crate) fn least_second(a: u8) -> u8
 }
 
 // The greatest second byte after the first byte a.
+#[tactic(auto, unfolding(crate::specs::Decoding::greatest_second))]
 pub(crate) fn greatest_second(a: u8) -> u8
     ensures { result ≡ greatest_second a }
 {
@@ -53,26 +56,28 @@ fn is_later(b: u8) -> bool
 }
 
 // Whether a byte lies from one bound to another.
+#[tactic(auto, unfolding(crate::specs::Decoding::within))]
 pub(crate) fn is_within(least: u8, greatest: u8, b: u8) -> bool
     ensures { result ≡ within least greatest b }
 {
-    if least <= b { b <= greatest } else { false }
+    (least..=greatest).contains(&b)
 }
 
 // The low six bits of a byte after the first.
 fn six_bits(b: u8) -> u32
     ensures { result ≡ b % 0x40 }
 {
-    (b % 0x40) as u32
+    u32::from(b % 0x40)
 }
 
 // The character of two bytes, if they are one.
+#[tactic(auto, unfolding(crate::specs::Decoding::decode_two))]
 fn two(a: u8, b: u8) -> Decoded
     ensures { result ≡ decode_two a b }
 {
     if is_second(a, b) {
         return Decoded::Character {
-            code: (a % 0x20) as u32 * 0x40 + six_bits(b),
+            code: u32::from(a % 0x20) * 0x40 + six_bits(b),
             length: 2,
         };
     }
@@ -80,36 +85,32 @@ fn two(a: u8, b: u8) -> Decoded
 }
 
 // The character of three bytes, if they are one.
+#[tactic(auto, unfolding(crate::specs::Decoding::decode_three))]
 fn three(a: u8, b: u8, c: u8) -> Decoded
     ensures { result ≡ decode_three a b c }
 {
-    if is_second(a, b) {
-        if is_later(c) {
-            return Decoded::Character {
-                code: (a % 0x10) as u32 * 0x1000 + six_bits(b) * 0x40 + six_bits(c),
-                length: 3,
-            };
-        }
+    if is_second(a, b) && is_later(c) {
+        return Decoded::Character {
+            code: u32::from(a % 0x10) * 0x1000 + six_bits(b) * 0x40 + six_bits(c),
+            length: 3,
+        };
     }
     Decoded::IllFormed
 }
 
 // The character of four bytes, if they are one.
+#[tactic(auto, unfolding(crate::specs::Decoding::decode_four))]
 fn four(a: u8, b: u8, c: u8, d: u8) -> Decoded
     ensures { result ≡ decode_four a b c d }
 {
-    if is_second(a, b) {
-        if is_later(c) {
-            if is_later(d) {
-                return Decoded::Character {
-                    code: (a % 0x08) as u32 * 0x40000
-                        + six_bits(b) * 0x1000
-                        + six_bits(c) * 0x40
-                        + six_bits(d),
-                    length: 4,
-                };
-            }
-        }
+    if is_second(a, b) && is_later(c) && is_later(d) {
+        return Decoded::Character {
+            code: u32::from(a % 0x08) * 0x40000
+                + six_bits(b) * 0x1000
+                + six_bits(c) * 0x40
+                + six_bits(d),
+            length: 4,
+        };
     }
     Decoded::IllFormed
 }
@@ -146,83 +147,64 @@ fn decode_longer(s: &[u8], at: usize) -> Decoded
 pub fn decode(s: &[u8], at: usize) -> Decoded
     ensures { result ≡ decode_first (drop at s.now) }
 {
-    if s.len() <= at {
+    let Some(&a) = s.get(at) else {
         return Decoded::End;
-    }
-    let a = s[at];
+    };
     if a < 0x80 {
         return Decoded::Character {
-            code: a as u32,
+            code: u32::from(a),
             length: 1,
         };
     }
     decode_longer(s, at)
 }
 
-// The length of the character of two bytes, 0 if they are none.
-fn length_of_two(a: u8, b: u8) -> usize
-    ensures { result ≡ length_of (decode_two a b) }
+// The length of the character that was decoded, if there is one.
+fn length_of(decoded: Decoded) -> Option<usize>
+    ensures { result ≡ length_of decoded }
 {
-    if is_second(a, b) { 2 } else { 0 }
-}
-
-// The length of the character of three bytes, 0 if they are none.
-fn length_of_three(a: u8, b: u8, c: u8) -> usize
-    ensures { result ≡ length_of (decode_three a b c) }
-{
-    if is_second(a, b) {
-        if is_later(c) {
-            return 3;
-        }
+    match decoded {
+        Decoded::Character { code: _, length } => Some(length),
+        Decoded::IllFormed | Decoded::End => None,
     }
-    0
 }
 
 // Whether a character of three bytes that begins with a is a letter: among those that begin with E1 to E3 is white space.
+#[tactic(auto, unfolding(crate::specs::Inner::letter_head, crate::specs::Decoding::within))]
 fn is_letter_head(a: u8) -> bool
     ensures { result ≡ letter_head a }
 {
-    if a == 0xE0 {
-        return true;
-    }
-    is_within(0xE4, 0xEF, a)
+    matches!(a, 0xE0 | 0xE4..=0xEF)
 }
 
-// The length of the letter at a place, 0 if there is none: most characters outside ASCII, and whoever looks for white space
+// The length of the letter at a place, if there is one: most characters outside ASCII, and whoever looks for white space
 // can pass over them without their code.
-pub fn letter_at(s: &[u8], at: usize) -> usize
+pub fn letter_at(s: &[u8], at: usize) -> Option<usize>
     ensures { result ≡ letter_first (drop at s.now) }
 {
-    if s.len() <= at {
-        return 0;
-    }
-    let a = s[at];
+    let &a = s.get(at)?;
     if a < 0xC3 {
-        return 0;
+        return None;
     }
     if a < 0xE0 {
-        return length_of_two(a, octet_at(s, at + 1));
+        return length_of(two(a, octet_at(s, at + 1)));
     }
     if is_letter_head(a) {
-        return length_of_three(a, octet_at(s, at + 1), octet_at(s, at + 2));
+        return length_of(three(a, octet_at(s, at + 1), octet_at(s, at + 2)));
     }
-    0
+    None
 }
 
-// The length of the character at a place where a byte is no ASCII byte, 0 if none begins there.
-fn longer_length(s: &[u8], at: usize) -> usize
+// The length of the character at a place where a byte is no ASCII byte, if one begins there.
+fn longer_length(s: &[u8], at: usize) -> Option<usize>
     requires { (at < length s.now) × (0x80 ≤ get_or s.now at 0) }
     ensures { result ≡ length_of (decode_first (drop at s.now)) }
 {
     // Most are letters, and need no decoder.
-    let n = letter_at(s, at);
-    if n != 0 {
-        return n;
+    if let Some(n) = letter_at(s, at) {
+        return Some(n);
     }
-    let Decoded::Character { code: _, length } = decode_longer(s, at) else {
-        return 0;
-    };
-    length
+    length_of(decode_longer(s, at))
 }
 
 // The length of the longest well-formed prefix of s: all of s exactly if s is well-formed.
@@ -239,10 +221,9 @@ pub fn well_formed_prefix(s: &[u8]) -> usize
         if s[at] < 0x80 {
             at += 1;
         } else {
-            let n = longer_length(s, at);
-            if n == 0 {
+            let Some(n) = longer_length(s, at) else {
                 return at;
-            }
+            };
             at += n;
         }
     }

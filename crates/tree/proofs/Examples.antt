@@ -1,4 +1,5 @@
 -- Worked examples of the image test: a small tree, and each rule broken once.
+use Rattle.std.specs.Prelude.{Ok, Err, Result, ⊤}
 use Prim.Native.Nat.{ℕ}
 use mathlib.Core.Path.{◌≡◌, refl}
 use mathlib.Core.Bool.{true}
@@ -12,8 +13,7 @@ use Rattle.image.specs.Reading.{span, perhaps_in, node_lengths, definition_lengt
 use Rattle.tree.specs.Images.{items_from, items, flat}
 use Rattle.tree.specs.Rules.{rises, follows, obeys, after, judge_items, check_tree}
 use Rattle.tree.specs.Forest.{Forest, bare, grown, flatten, options_in, flags_in, definitions_only, orderly}
-use Rattle.tree.specs.declared.check.Checked.{Checked}
-use Rattle.tree.specs.declared.check.Checked.TheVariants.{Good, BadFrame}
+use Rattle.tree.specs.declared.check.BadFrame.{BadFrame}
 
 -- a node with a name of one letter and nothing else
 plain : ℕ → ℕ → Frame
@@ -25,20 +25,20 @@ config = option 1 0x63 (0x63 ∷ 0x6f ∷ 0x6e ∷ []) (present (0x63 ∷ [])) [
 long : Frame
 long = flag 0x6c (0x6c ∷ []) absent []
 
-check : List Frame → Checked
+check : List Frame → Result ⊤ BadFrame
 check fs = check_tree (flat fs)
 
 -- the empty image; a, with a flag and an option, below it b (over a) and c, then d; then each rule broken: an option before any node, a depth two
 -- above, equal siblings, siblings that fall, a name before its prefix, bytes after the last frame that are none
 table :
-    (check [] ≡ Good)
-    × (check (plain 0 0x61 ∷ long ∷ config ∷ plain 1 0x62 ∷ plain 2 0x61 ∷ plain 1 0x63 ∷ plain 0 0x64 ∷ []) ≡ Good)
-    × (check (config ∷ []) ≡ BadFrame 0)
-    × (check (plain 0 0x61 ∷ long ∷ plain 2 0x62 ∷ []) ≡ BadFrame 2)
-    × (check (plain 0 0x61 ∷ plain 1 0x62 ∷ plain 0 0x61 ∷ []) ≡ BadFrame 2)
-    × (check (plain 0 0x62 ∷ plain 0 0x61 ∷ []) ≡ BadFrame 1)
-    × (check (node 0 0 (0x61 ∷ 0x62 ∷ []) [] absent ∷ plain 0 0x61 ∷ []) ≡ BadFrame 1)
-    × (check_tree (flat (plain 0 0x61 ∷ []) ++ (0x01 ∷ 0x00 ∷ [])) ≡ BadFrame 1)
+    (check [] ≡ Ok tt)
+    × (check (plain 0 0x61 ∷ long ∷ config ∷ plain 1 0x62 ∷ plain 2 0x61 ∷ plain 1 0x63 ∷ plain 0 0x64 ∷ []) ≡ Ok tt)
+    × (check (config ∷ []) ≡ Err (record { number = 0 }))
+    × (check (plain 0 0x61 ∷ long ∷ plain 2 0x62 ∷ []) ≡ Err (record { number = 2 }))
+    × (check (plain 0 0x61 ∷ plain 1 0x62 ∷ plain 0 0x61 ∷ []) ≡ Err (record { number = 2 }))
+    × (check (plain 0 0x62 ∷ plain 0 0x61 ∷ []) ≡ Err (record { number = 1 }))
+    × (check (node 0 0 (0x61 ∷ 0x62 ∷ []) [] absent ∷ plain 0 0x61 ∷ []) ≡ Err (record { number = 1 }))
+    × (check_tree (flat (plain 0 0x61 ∷ []) ++ (0x01 ∷ 0x00 ∷ [])) ≡ Err (record { number = 1 }))
 unfolding check plain config long check_tree judge_items flat items items_from encode_frame perhaps text text_of number_bytes read_first head_first node_first option_first flag_first node_lengths definition_lengths span node_in option_in flag_in perhaps_in fair definable is_short is_name is_note all_shown obeys follows after rises order
 table = (refl, refl, refl, refl, refl, refl, refl, refl)
 

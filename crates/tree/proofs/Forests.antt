@@ -1,4 +1,5 @@
 -- An image is well-formed exactly if it is the flattening of a forest whose siblings rise strictly, within the limits.
+use Rattle.std.specs.Prelude.{Ok}
 use Prim.Native.Nat.{ℕ, ◌≤◌}
 use mathlib.Core.Path.{◌≡◌, ap, ◌∙◌}
 use mathlib.Core.Bool.{true}
@@ -8,7 +9,6 @@ use Rattle.buffer.specs.Numbers.{Bytes}
 use Rattle.tree.specs.Images.{frames_of, flat}
 use Rattle.tree.specs.Rules.{check_tree}
 use Rattle.tree.specs.Forest.{Forest, flatten, nodes_in, orderly}
-use Rattle.tree.specs.declared.check.Checked.TheVariants.{Good}
 use Rattle.tree.proofs.WellFormedImages.{well_formed_good, good_well_formed}
 use Rattle.tree.proofs.Flattening.{forest_obeys}
 use Rattle.tree.proofs.Planting.{obeys_forest}
@@ -20,12 +20,12 @@ pub record StandsFor (image : List ℕ) (forest : Forest) : Type 0 where
   pub nodes : nodes_in forest ≤ 256
   pub short : length image ≤ 32768
 
-pub forest_good : (image : List ℕ) (forest : Forest) → StandsFor image forest → check_tree image ≡ Good
+pub forest_good : (image : List ℕ) (forest : Forest) → StandsFor image forest → check_tree image ≡ Ok tt
 forest_good image forest s =
     well_formed_good image (flatten 0 forest)
     (record { joined = s.joined; obey = forest_obeys forest s.rising s.nodes; short = s.short })
 
-pub good_forest : (image : List ℕ) → Bytes image → check_tree image ≡ Good → (forest : Forest) × StandsFor image forest
+pub good_forest : (image : List ℕ) → Bytes image → check_tree image ≡ Ok tt → (forest : Forest) × StandsFor image forest
 good_forest image b e =
     let w = good_well_formed image b e in
     let f = obeys_forest (frames_of image) w.obey in

@@ -1,4 +1,5 @@
 -- An image built frame by frame is well-formed at every step: where a walk stands in a buffer, and what one frame more makes of it.
+use Rattle.std.specs.Prelude.{Ok, Err, Option, Some, None}
 use Prim.Native.Nat.{ℕ, ◌+◌, ◌≤◌}
 use mathlib.Core.Path.{◌≡◌, refl, sym, ap, ◌∙◌}
 use mathlib.Core.Bool.{Bool, true, false, cond}
@@ -20,9 +21,7 @@ use Rattle.image.proofs.Fields.{both_first, both_second}
 use Rattle.tree.specs.Images.{items}
 use Rattle.tree.specs.Rules.{Seen, start, obeys, after, judge_items, check_tree}
 use Rattle.tree.specs.Steps.{seen_by, start_walk, passed, step_if, step_by}
-use Rattle.tree.specs.declared.check.Checked.TheVariants.{Good, BadFrame}
 use Rattle.tree.specs.declared.walk.Walk.{Walk}
-use Rattle.tree.specs.declared.walk.Step.{Step}
 use Rattle.tree.proofs.Items.{OnWay, goes_on_lem, sets_out, arrives, check_judged, items_none, judge_on, judge_stop, judge_none}
 use Rattle.tree.proofs.PassedFrames.{passes}
 use Rattle.tree.proofs.Walks.{passed_at}
@@ -38,7 +37,7 @@ pub record Passed (image : List ℕ) (walk : Walk) : Type 0 where
   pub seen : (rest : List ℕ) → seen_by (image ++ rest) walk ≡ seen_by image walk
 
 -- an image that was passed is well-formed
-pub passed_good : (image : List ℕ) (walk : Walk) → Passed image walk → check_tree image ≡ Good
+pub passed_good : (image : List ℕ) (walk : Walk) → Passed image walk → check_tree image ≡ Ok tt
 passed_good image walk p =
     let k = rw (append-nil image) at (p.way []) in
     sym (arrives image walk _ k (let e = p.place in omega arith) ∙ check_judged image p.short)
@@ -77,9 +76,7 @@ module _ (image : List ℕ) (walk : Walk) (p : Passed image walk) (frame : List 
     on : (rest : List ℕ) → OnWay (image ++ (frame ++ rest)) next (p.number + 1)
     unfolding step_by next
     on rest =
-        let step : Step = record { walk = next; ok = true } in
-        let is : step ≡ step_by (seen_by (image ++ (frame ++ rest)) walk) walk (read f (length frame)) = rw (obeyed rest) in
-        (goes_on_lem _ walk p.number (p.way (frame ++ rest)) step (read f (length frame)) (found rest) is refl).1
+        (goes_on_lem _ walk p.number (p.way (frame ++ rest)) (read f (length frame)) (found rest) next (rw (obeyed rest))).1
 
     sees : (rest : List ℕ) → seen_by (image ++ (frame ++ rest)) next ≡ after (seen_by image walk) f
     unfolding next
@@ -103,13 +100,13 @@ module _ (image : List ℕ) (walk : Walk) (p : Passed image walk) (frame : List 
         }
 
   -- and whether it obeys is whether the image with it is well-formed
-  judged : judge_items start 0 (items (image ++ frame)) ≡ cond (obeys (seen_by image walk) f) Good (BadFrame p.number)
+  judged : judge_items start 0 (items (image ++ frame)) ≡ cond (obeys (seen_by image walk) f) (Ok tt) (Err (record { number = p.number }))
   judged =
       let same = (p.way frame).same in
       let tail : drop walk.at (image ++ frame) ≡ frame = drop_at image frame walk.at (sym p.place) in
       sym same ∙ rw (tail, p.seen frame) (by (obeys (seen_by image walk) f) refl)
     where
-      by : (t : Bool) → obeys (seen_by image walk) f ≡ t → judge_items (seen_by image walk) p.number (items frame) ≡ cond t Good (BadFrame p.number)
+      by : (t : Bool) → obeys (seen_by image walk) f ≡ t → judge_items (seen_by image walk) p.number (items frame) ≡ cond t (Ok tt) (Err (record { number = p.number }))
       by true q = judge_on (seen_by image walk) p.number frame f (length frame) e q ∙ rw (drop-length frame, items_none) (judge_none _ _)
       by false q = judge_stop (seen_by image walk) p.number frame f (length frame) e q
 
@@ -120,7 +117,7 @@ module _ (image : List ℕ) (walk : Walk) (p : Passed image walk) (frame : List 
       rw (size, judged) (by (leb (walk.at + length frame) 32768) refl (obeys (seen_by image walk) f))
     where
       by : (t : Bool) → leb (walk.at + length frame) 32768 ≡ t → (u : Bool)
-          → is_good (cond (ltb 32768 (walk.at + length frame)) (BadFrame 0) (cond u Good (BadFrame p.number))) ≡ both t u
+          → is_good (cond (ltb 32768 (walk.at + length frame)) (Err (record { number = 0 })) (cond u (Ok tt) (Err (record { number = p.number })))) ≡ both t u
       by true q true = rw (le-ltb 32768 (walk.at + length frame) (leb-true _ _ q))
       by true q false = rw (le-ltb 32768 (walk.at + length frame) (leb-true _ _ q))
       by false q u = rw (lt-ltb 32768 (walk.at + length frame) (leb-false _ _ q))
@@ -156,11 +153,11 @@ module _ (image : List ℕ) (walk : Walk) (p : Passed image walk) (frame : List 
   admits_by broken q room = both_not (leb (walk.at + length frame) 32768) room false
   admits_by ended q room = both_not (leb (walk.at + length frame) 32768) room false
 
--- what one frame more makes of a buffer in which a walk stands
-pub record Growth (walk : Walk) (frame buffer : List ℕ) (r : Step) (left : List ℕ) : Type 0 where
-  pub ok : r.ok ≡ both (leb (walk.at + length frame) (length buffer)) (takes (take walk.at buffer) frame)
-  pub image : take r.walk.at left ≡ cond r.ok (take walk.at buffer ++ frame) (take walk.at buffer)
-  pub stands : Stands left r.walk
+-- what one frame more makes of a buffer in which a walk stands: the image takes it, and the walk after it stands; or the image does not
+abbrev pub Growth : Walk → List ℕ → List ℕ → Option Walk → List ℕ → Type 0
+Growth walk frame buffer (Some next) left =
+    (both (leb (walk.at + length frame) (length buffer)) (takes (take walk.at buffer) frame) ≡ true) × (take next.at left ≡ take walk.at buffer ++ frame) × Stands left next
+Growth walk frame buffer None left = (both (leb (walk.at + length frame) (length buffer)) (takes (take walk.at buffer) frame) ≡ false) × (left ≡ buffer)
 
 module _ (walk : Walk) (frame buffer : List ℕ) (stands : Stands buffer walk) (b : Bytes frame) where
   seen_is : seen_by buffer walk ≡ seen_by (take walk.at buffer) walk
@@ -181,7 +178,7 @@ module _ (walk : Walk) (frame buffer : List ℕ) (stands : Stands buffer walk) (
       ap (take (walk.at + length frame)) (sym (append_assoc (take walk.at buffer) frame rest)) ∙ take_at (take walk.at buffer ++ frame) rest (walk.at + length frame) size
 
   -- a frame that is added
-  grown : (x : Read) → read_first frame ≡ x → admits walk frame buffer ≡ true → Growth walk frame buffer (step_if true walk (passed_by walk x)) (over_at frame buffer walk.at)
+  grown : (x : Read) → read_first frame ≡ x → admits walk frame buffer ≡ true → Growth walk frame buffer (Some (passed_by walk x)) (over_at frame buffer walk.at)
   unfolding admits one_frame
   grown x q e =
       let room = room_told walk (length frame) (length buffer) (both_first (has_room walk (length frame) (length buffer)) _ e) in
@@ -191,31 +188,27 @@ module _ (walk : Walk) (frame buffer : List ℕ) (stands : Stands buffer walk) (
       by x q obeyed full room
     where
       by : (x : Read) → read_first frame ≡ x → obeys_by (seen_by buffer walk) x ≡ true → fills (length frame) x ≡ true → Roomy walk (length frame) (length buffer)
-          → Growth walk frame buffer (step_if true walk (passed_by walk x)) (over_at frame buffer walk.at)
+          → Growth walk frame buffer (Some (passed_by walk x)) (over_at frame buffer walk.at)
       by (read f n) q o k room =
           let size : n ≡ length frame = eqb-true n (length frame) k in
           let place : (passed walk f n).at ≡ walk.at + length frame = passed_at walk f n ∙ ap (λ (m : ℕ). walk.at + m) size in
           let image : take (passed walk f n).at (over_at frame buffer walk.at) ≡ take walk.at buffer ++ frame = rw place (written room.fits) in
           let more = passed_more (take walk.at buffer) walk stands.1 frame b f (q ∙ ap (read f) size) (sym (ap (λ (seen : Seen). obeys seen f) seen_is) ∙ o) in
           let short : length (take walk.at buffer ++ frame) ≤ 32768 = let l = length-append (take walk.at buffer) frame in let m = length-take-le walk.at buffer stands.0 in let h = room.short in omega arith in
-          record {
-            ok = sym e ∙ admits_is;
-            image = image;
-            stands = (rw (length_over_at frame buffer walk.at room.fits, place) room.fits, rw (image, size) (more short));
-          }
+          (sym admits_is ∙ e, image, (rw (length_over_at frame buffer walk.at room.fits, place) room.fits, rw (image, size) (more short)))
       by broken q o k room = absurd (true_is_not_false (sym o))
       by ended q o k room = absurd (true_is_not_false (sym o))
 
-  pub grows : (r : Step) (left : List ℕ) → Grows walk frame buffer r left → Growth walk frame buffer r left
+  pub grows : (r : Option Walk) (left : List ℕ) → Grows walk frame buffer r left → Growth walk frame buffer r left
   grows r left g = by (admits walk frame buffer) refl g.answer g.bytes
     where
-      by : (t : Bool) → admits walk frame buffer ≡ t → r ≡ step_if t walk (passed_by walk (read_first frame)) → left ≡ cond t (over_at frame buffer walk.at) buffer
+      by : (t : Bool) → admits walk frame buffer ≡ t → r ≡ step_if t (passed_by walk (read_first frame)) → left ≡ cond t (over_at frame buffer walk.at) buffer
           → Growth walk frame buffer r left
       by true e a w = rw (a, w) (grown (read_first frame) refl e)
-      by false e a w = rw (a, w) (record { ok = sym e ∙ admits_is; image = refl; stands = stands })
+      by false e a w = rw (a, w) (sym admits_is ∙ e, refl)
 
 -- what lies before the place of a walk that stands is well-formed
-pub stands_good : (buffer : List ℕ) (walk : Walk) → Stands buffer walk → check_tree (take walk.at buffer) ≡ Good
+pub stands_good : (buffer : List ℕ) (walk : Walk) → Stands buffer walk → check_tree (take walk.at buffer) ≡ Ok tt
 stands_good buffer walk stands = passed_good _ walk stands.1
 
 -- a buffer for the largest image has room for every frame that the image takes
@@ -223,13 +216,12 @@ takes_short : (image frame : List ℕ) → takes image frame ≡ true → length
 unfolding takes check_tree
 takes_short image frame e = by (ltb 32768 (length (image ++ frame))) refl (both_second (one_frame frame) _ e)
   where
-    by : (t : Bool) → ltb 32768 (length (image ++ frame)) ≡ t → is_good (cond t (BadFrame 0) (judge_items start 0 (items (image ++ frame)))) ≡ true → length image + length frame ≤ 32768
+    by : (t : Bool) → ltb 32768 (length (image ++ frame)) ≡ t → is_good (cond t (Err (record { number = 0 })) (judge_items start 0 (items (image ++ frame)))) ≡ true → length image + length frame ≤ 32768
     by true q k = absurd (true_is_not_false (sym k))
     by false q k = let h = ltb-false 32768 (length (image ++ frame)) q in let l = length-append image frame in omega arith
 
-pub grows_whole : (walk : Walk) (frame buffer : List ℕ) (r : Step) (left : List ℕ) → Stands buffer walk → 32768 ≤ length buffer → Growth walk frame buffer r left
-    → r.ok ≡ takes (take walk.at buffer) frame
-grows_whole walk frame buffer r left stands h g = g.ok ∙ by (takes (take walk.at buffer) frame) refl
+pub admits_whole : (walk : Walk) (frame buffer : List ℕ) → Stands buffer walk → Bytes frame → 32768 ≤ length buffer → admits walk frame buffer ≡ takes (take walk.at buffer) frame
+admits_whole walk frame buffer stands b h = admits_is walk frame buffer stands b ∙ by (takes (take walk.at buffer) frame) refl
   where
     by : (t : Bool) → takes (take walk.at buffer) frame ≡ t → both (leb (walk.at + length frame) (length buffer)) t ≡ t
     by true q =

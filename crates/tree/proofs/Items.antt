@@ -1,4 +1,5 @@
 -- Laws of an image as items: one frame, then the items of what stands after it.
+use Rattle.std.specs.Prelude.{Ok, Err, Some, None}
 use Prim.Native.Nat.{ℕ, zero, suc, ◌+◌, ◌-◌, ◌<◌, ◌≤◌}
 use mathlib.Core.Path.{◌≡◌, refl, sym, ap, ◌∙◌}
 use mathlib.Core.Bool.{true, false}
@@ -8,7 +9,6 @@ use lib.ListN.{length, drop, length-drop}
 use lib.Seq.{drop-drop}
 use borrow.Author.Tests.{lt-ltb, le-ltb}
 use Rattle.buffer.proofs.Lists.{drop_end}
-use Rattle.buffer.proofs.Choices.{then_is, true_is_not_false}
 use Rattle.image.specs.Frames.{Frame}
 use Rattle.image.specs.Reading.{head_first, Read, read, broken, ended, read_first}
 use Rattle.image.proofs.Encoding.{read_within, read_ended}
@@ -16,8 +16,7 @@ use Rattle.tree.specs.Images.{Item, whole, torn, items_from, items, frames_in, f
 use Rattle.tree.specs.Rules.{Seen, start, obeys, after, judge_items, check_tree}
 use Rattle.tree.specs.Steps.{start_walk, seen_by, Sound, passed, step_by}
 use Rattle.tree.specs.declared.walk.Walk.{Walk}
-use Rattle.tree.specs.declared.walk.Step.{Step}
-use Rattle.tree.specs.declared.check.Checked.TheVariants.{Good, BadFrame}
+use Rattle.tree.proofs.Walks.{none_taken, one_taken}
 use Rattle.tree.proofs.PassedFrames.{passes}
 
 items_skip : (s : List ℕ) (j : ℕ) → items_from s j ≡ items_from (drop j s) 0
@@ -66,15 +65,15 @@ module _ (seen : Seen) (n : ℕ) (s : List ℕ) where
   unfolding judge_items
   judge_on f k e o = rw (items_read s f k e, o)
 
-  pub judge_stop : (f : Frame) (k : ℕ) → read_first s ≡ read f k → obeys seen f ≡ false → judge_items seen n (items s) ≡ BadFrame n
+  pub judge_stop : (f : Frame) (k : ℕ) → read_first s ≡ read f k → obeys seen f ≡ false → judge_items seen n (items s) ≡ Err (record { number = n })
   unfolding judge_items
   judge_stop f k e o = rw (items_read s f k e, o)
 
-  pub judge_torn : read_first s ≡ broken → judge_items seen n (items s) ≡ BadFrame n
+  pub judge_torn : read_first s ≡ broken → judge_items seen n (items s) ≡ Err (record { number = n })
   unfolding judge_items
   judge_torn e = rw (items_broken s e)
 
-pub judge_none : (seen : Seen) (n : ℕ) → judge_items seen n [] ≡ Good
+pub judge_none : (seen : Seen) (n : ℕ) → judge_items seen n [] ≡ Ok tt
 unfolding judge_items
 judge_none seen n = refl
 
@@ -85,41 +84,42 @@ pub record OnWay (image : List ℕ) (walk : Walk) (n : ℕ) : Type 0 where
   pub count : n ≤ walk.at
   pub same : judge_items (seen_by image walk) n (items (drop walk.at image)) ≡ judge_items start 0 (items image)
 
-module _ (image : List ℕ) (walk : Walk) (n : ℕ) (way : OnWay image walk n) (r : Step) where
+module _ (image : List ℕ) (walk : Walk) (n : ℕ) (way : OnWay image walk n) where
   -- a turn
-  pub goes_on_lem : (x : Read) → read_first (drop walk.at image) ≡ x → r ≡ step_by (seen_by image walk) walk x → r.ok ≡ true → (walk.at < r.walk.at) × OnWay image r.walk (n + 1)
+  pub goes_on_lem : (x : Read) → read_first (drop walk.at image) ≡ x → (next : Walk) → Some next ≡ step_by (seen_by image walk) walk x → (walk.at < next.at) × OnWay image next (n + 1)
   unfolding step_by
-  goes_on_lem (read f k) e s o =
-      let obeyed : obeys (seen_by image walk) f ≡ true = sym (ap (λ (step : Step). step.ok) s) ∙ o in
-      let next : r.walk ≡ passed walk f k = ap (λ (step : Step). step.walk) s ∙ then_is _ _ _ obeyed in
+  goes_on_lem (read f k) e next s =
+      let t = one_taken (obeys (seen_by image walk) f) (passed walk f k) next s in
+      let obeyed = t.0 in
+      let is = t.1 in
       let p = passes image walk way.sound f k e obeyed in
       let h = read_within (drop walk.at image) f k e in
       let l = length-drop walk.at image in
       let w = way.within in
       let c = way.count in
-      let place : r.walk.at ≡ walk.at + k = rw next p.place in
-      let more : walk.at < r.walk.at = omega arith in
-      let rest : items (drop k (drop walk.at image)) ≡ items (drop r.walk.at image) = ap items (drop-drop k walk.at image ∙ ap (λ (m : ℕ). drop m image) (sym place)) in
+      let place : next.at ≡ walk.at + k = rw is p.place in
+      let more : walk.at < next.at = omega arith in
+      let rest : items (drop k (drop walk.at image)) ≡ items (drop next.at image) = ap items (drop-drop k walk.at image ∙ ap (λ (m : ℕ). drop m image) (sym place)) in
       let on = judge_on (seen_by image walk) n (drop walk.at image) f k e obeyed in
-      let seen : seen_by image r.walk ≡ after (seen_by image walk) f = rw next p.seen in (
+      let seen : seen_by image next ≡ after (seen_by image walk) f = rw is p.seen in (
         more,
         record {
-          sound = rw next p.sound;
+          sound = rw is p.sound;
           within = omega arith;
           count = omega arith;
           same = rw (seen, ← rest) (sym on ∙ way.same);
         },
       )
-  goes_on_lem broken e s o = absurd (true_is_not_false (sym o ∙ ap (λ (step : Step). step.ok) s))
-  goes_on_lem ended e s o = absurd (true_is_not_false (sym o ∙ ap (λ (step : Step). step.ok) s))
+  goes_on_lem broken e next s = absurd (let z : ◌≡◌ {A = ℕ} 0 1 = cc in omega arith)
+  goes_on_lem ended e next s = absurd (let z : ◌≡◌ {A = ℕ} 0 1 = cc in omega arith)
 
   -- the frame that breaks a rule
-  pub stops : (x : Read) → read_first (drop walk.at image) ≡ x → r ≡ step_by (seen_by image walk) walk x → r.ok ≡ false → walk.at < length image
-      → BadFrame n ≡ judge_items start 0 (items image)
+  pub stops : (x : Read) → read_first (drop walk.at image) ≡ x → None ≡ step_by (seen_by image walk) walk x → walk.at < length image
+      → Err (record { number = n }) ≡ judge_items start 0 (items image)
   unfolding step_by
-  stops (read f k) e s o h = sym (judge_stop (seen_by image walk) n (drop walk.at image) f k e (sym (ap (λ (step : Step). step.ok) s) ∙ o)) ∙ way.same
-  stops broken e s o h = sym (judge_torn (seen_by image walk) n (drop walk.at image) e) ∙ way.same
-  stops ended e s o h = absurd (let k = length-drop walk.at image in let z = ap length (read_ended (drop walk.at image) e) in omega arith)
+  stops (read f k) e s h = sym (judge_stop (seen_by image walk) n (drop walk.at image) f k e (none_taken (obeys (seen_by image walk) f) (passed walk f k) s)) ∙ way.same
+  stops broken e s h = sym (judge_torn (seen_by image walk) n (drop walk.at image) e) ∙ way.same
+  stops ended e s h = absurd (let k = length-drop walk.at image in let z = ap length (read_ended (drop walk.at image) e) in omega arith)
 
 -- the start, the end and the byte limit
 pub sets_out : (image : List ℕ) (walk : Walk) → walk ≡ start_walk → OnWay image walk 0
@@ -127,10 +127,10 @@ unfolding seen_by
 sets_out image walk e =
     rw e (record { sound = record { deep = omega arith; names = refl }; within = omega arith; count = omega arith; same = refl })
 
-pub arrives : (image : List ℕ) (walk : Walk) (n : ℕ) → OnWay image walk n → length image ≤ walk.at → Good ≡ judge_items start 0 (items image)
+pub arrives : (image : List ℕ) (walk : Walk) (n : ℕ) → OnWay image walk n → length image ≤ walk.at → Ok tt ≡ judge_items start 0 (items image)
 arrives image walk n way h = sym (judge_none (seen_by image walk) n) ∙ rw (← items_end image walk.at h) way.same
 
-pub check_long : (image : List ℕ) → 32768 < length image → BadFrame 0 ≡ check_tree image
+pub check_long : (image : List ℕ) → 32768 < length image → Err (record { number = 0 }) ≡ check_tree image
 unfolding check_tree
 check_long image h = rw (lt-ltb 32768 (length image))
 

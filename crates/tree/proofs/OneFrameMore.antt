@@ -1,21 +1,21 @@
 -- Laws of one frame more: how the tests decide, and what is left.
+use Rattle.std.specs.Prelude.{Option, Some, None}
 use Prim.Native.Nat.{ℕ, ◌+◌, ◌<◌, ◌≤◌}
 use mathlib.Core.Path.{◌≡◌, refl, sym, ap, ◌∙◌}
-use mathlib.Core.Bool.{Bool, true, false}
+use mathlib.Core.Bool.{true, false}
 use mathlib.Core.List.{List, map}
 use native.Mathlib.Omega.{arith}
 use lib.Dec.{leb}
 use lib.ListN.{length, length-map}
 use borrow.Author.Tests.{le-leb, lt-leb, leb-true, eq-eqb, ne_eqb}
 use Rattle.buffer.specs.Write.{over_at}
-use Rattle.buffer.proofs.Choices.{then_is, true_is_not_false}
+use Rattle.buffer.proofs.Choices.{true_is_not_false}
 use Rattle.image.specs.Reading.{Read, read, broken, ended, read_first}
 use Rattle.image.proofs.Fields.{both_first, both_second}
 use Rattle.tree.specs.Rules.{Seen}
 use Rattle.tree.specs.Steps.{Sound, seen_by, step_if, step_by}
 use Rattle.tree.specs.declared.walk.Walk.{Walk}
-use Rattle.tree.proofs.Walks.{passed_at}
-use Rattle.tree.specs.declared.walk.Step.{Step}
+use Rattle.tree.proofs.Walks.{passed_at, none_taken, one_taken}
 use Rattle.tree.specs.Growth.{fills, one_frame, has_room, obeys_by, admits, passed_by, Grows}
 
 -- how the tests for room decide, in the order of the code
@@ -54,7 +54,7 @@ walk_sound walk h k = record { deep = k; names = sym (length-map walk.names (λ 
 
 -- a step over what was read: its answer, and where it ends
 module _ (seen : Seen) (walk : Walk) where
-  step_told : (x : Read) → step_by seen walk x ≡ step_if (obeys_by seen x) walk (passed_by walk x)
+  step_told : (x : Read) → step_by seen walk x ≡ step_if (obeys_by seen x) (passed_by walk x)
   unfolding step_by
   step_told (read f n) = refl
   step_told broken = refl
@@ -72,45 +72,36 @@ module _ (seen : Seen) (walk : Walk) where
 
 -- the answers of the code
 module _ (walk : Walk) (frame buffer : List ℕ) where
-  refuses : admits walk frame buffer ≡ false → Grows walk frame buffer (record { walk = walk; ok = false }) buffer
+  refuses : admits walk frame buffer ≡ false → Grows walk frame buffer None buffer
   refuses e = record { answer = rw e; bytes = rw e }
 
-  pub refused_room : has_room walk (length frame) (length buffer) ≡ false → Grows walk frame buffer (record { walk = walk; ok = false }) buffer
+  pub refused_room : has_room walk (length frame) (length buffer) ≡ false → Grows walk frame buffer None buffer
   unfolding admits
   refused_room e = refuses (rw e)
 
-  module _ (room : has_room walk (length frame) (length buffer) ≡ true) (r : Step) (s : r ≡ step_by (seen_by buffer walk) walk (read_first frame)) where
-    answered : obeys_by (seen_by buffer walk) (read_first frame) ≡ r.ok
-    answered = sym (ap (λ (x : Step). x.ok) (s ∙ step_told (seen_by buffer walk) walk (read_first frame)))
-
-    pub refused_rule : r.ok ≡ false → Grows walk frame buffer r buffer
+  module _ (room : has_room walk (length frame) (length buffer) ≡ true) where
+    pub refused_rule : None ≡ step_by (seen_by buffer walk) walk (read_first frame) → Grows walk frame buffer None buffer
     unfolding admits
-    refused_rule o =
-        let k : r ≡ step_if false walk (passed_by walk (read_first frame)) =
-        s ∙ step_told (seen_by buffer walk) walk (read_first frame) ∙ ap (λ (t : Bool). step_if t walk (passed_by walk (read_first frame))) (answered ∙ o)
-        in
-        rw k (refuses (rw (room, answered, o)))
+    refused_rule s =
+        let o = none_taken (obeys_by (seen_by buffer walk) (read_first frame)) _ (s ∙ step_told (seen_by buffer walk) walk (read_first frame)) in
+        refuses (rw (room, o))
 
-    next_is : r.ok ≡ true → r.walk ≡ passed_by walk (read_first frame)
-    next_is o = ap (λ (x : Step). x.walk) (s ∙ step_told (seen_by buffer walk) walk (read_first frame)) ∙ then_is _ _ _ (answered ∙ o)
+    module _ (next : Walk) (s : Some next ≡ step_by (seen_by buffer walk) walk (read_first frame)) where
+      taken : (obeys_by (seen_by buffer walk) (read_first frame) ≡ true) × (next ≡ passed_by walk (read_first frame))
+      taken = one_taken _ _ next (s ∙ step_told (seen_by buffer walk) walk (read_first frame))
 
-    pub refused_end : r.ok ≡ true → (r.walk.at ≡ walk.at + length frame → ⊥) → Grows walk frame buffer (record { walk = walk; ok = false }) buffer
-    unfolding admits one_frame
-    refused_end o e =
-        refuses
-        (rw
-        (room, answered, o, ends_not (seen_by buffer walk) walk (read_first frame) (length frame) (λ q. e (ap (λ (x : Walk). x.at) (next_is o) ∙ q))))
+      pub refused_end : (next.at ≡ walk.at + length frame → ⊥) → Grows walk frame buffer None buffer
+      unfolding admits one_frame
+      refused_end e =
+          refuses (rw (room, taken.0, ends_not (seen_by buffer walk) walk (read_first frame) (length frame) (λ q. e (ap (λ (x : Walk). x.at) taken.1 ∙ q))))
 
-    pub added : r.ok ≡ true → r.walk.at ≡ walk.at + length frame → (left : List ℕ) → left ≡ over_at frame buffer walk.at → Grows walk frame buffer r left
-    unfolding admits one_frame
-    added o e left w =
-        let full = ends (seen_by buffer walk) walk (read_first frame) (length frame) (answered ∙ o) (sym (ap (λ (x : Walk). x.at) (next_is o)) ∙ e) in
-        let yes-all : admits walk frame buffer ≡ true = rw (room, answered ∙ o, full) in
-        let k : r ≡ step_if true walk (passed_by walk (read_first frame)) =
-        s ∙ step_told (seen_by buffer walk) walk (read_first frame) ∙ ap (λ (t : Bool). step_if t walk (passed_by walk (read_first frame))) (answered ∙ o)
-        in
-        record { answer = k ∙ rw yes-all; bytes = w ∙ rw yes-all }
+      pub added : next.at ≡ walk.at + length frame → (left : List ℕ) → left ≡ over_at frame buffer walk.at → Grows walk frame buffer (Some next) left
+      unfolding admits one_frame
+      added e left w =
+          let full = ends (seen_by buffer walk) walk (read_first frame) (length frame) taken.0 (sym (ap (λ (x : Walk). x.at) taken.1) ∙ e) in
+          let yes-all : admits walk frame buffer ≡ true = rw (room, taken.0, full) in
+          record { answer = ap Some taken.1 ∙ rw yes-all; bytes = w ∙ rw yes-all }
 
 -- no second answer
-pub one_answer : (walk : Walk) (frame buffer left other : List ℕ) (r q : Step) → Grows walk frame buffer r left → Grows walk frame buffer q other → (r ≡ q) × (left ≡ other)
+pub one_answer : (walk : Walk) (frame buffer left other : List ℕ) (r q : Option Walk) → Grows walk frame buffer r left → Grows walk frame buffer q other → (r ≡ q) × (left ≡ other)
 one_answer walk frame buffer left other r q a b = (a.answer ∙ sym b.answer, a.bytes ∙ sym b.bytes)

@@ -1,4 +1,5 @@
 -- What an answer of `frame_at` tells of the first frame of bytes, and what a walk after that frame knows.
+use Rattle.std.specs.Prelude.{Option, None}
 use Prim.Native.Nat.{ℕ, ◌+◌, ◌≤◌}
 use mathlib.Core.Path.{◌≡◌, refl, sym, ap, ◌∙◌}
 use mathlib.Core.Bool.{Bool, true, false}
@@ -16,14 +17,13 @@ use Rattle.image.specs.Limits.{fair}
 use Rattle.image.specs.Reading.{node_lengths, head_first, strict_first, Read, read, broken, ended, read_by, read_first, node_in, option_in, flag_in}
 use Rattle.image.specs.declared.head.Lengths.{Lengths}
 use Rattle.image.specs.declared.head.Head.{Head}
-use Rattle.image.specs.declared.head.Head.TheVariants.{Node, Option, Flag, Bad, End}
+use Rattle.image.specs.declared.head.Head.TheVariants.{Node, Option as OptionHead, Flag, Bad, End}
 use Rattle.image.proofs.Fields.{both_first, both_second}
 use Rattle.image.proofs.HeadBytes.{view, strict_head}
 use Rattle.image.proofs.Encoding.{read_within, read_fairly, strict_told, fairly}
 use Rattle.tree.specs.Rules.{Seen, follows, obeys}
 use Rattle.tree.specs.Steps.{name_at, text_first, seen_by, Sound, after_node, after_option, after_flag, passed, step_if, step_by}
 use Rattle.tree.specs.declared.walk.Walk.{Walk}
-use Rattle.tree.specs.declared.walk.Step.{Step}
 use Rattle.tree.proofs.Walks.{KnownAfter, path_length, after_node_lem, after_option_lem, after_flag_lem}
 
 -- a frame that is there, whole and within the limits
@@ -68,7 +68,7 @@ module _ (image : List ℕ) (at : ℕ) where
     where
       by : (x : Head) → head_first (drop at image) ≡ x → read_by (drop at image) x ≡ read (node d h n ds u) size → n ≡ name_at image (at + 4)
       by (Node g i t) q r = let k : take t.name (drop 5 (drop at image)) ≡ n = cc in sym k ∙ name_lies t (view (drop at image) _ q).texts
-      by (Option a c t) q r = cc
+      by (OptionHead a c t) q r = cc
       by (Flag c t) q r = cc
       by Bad q r = cc
       by End q r = cc
@@ -94,43 +94,43 @@ unfolding obeys
 obeys_fair seen f e = rw e
 
 -- how a step of each kind is one of the first frame
-module _ (seen : Seen) (walk : Walk) (s : List ℕ) (r : Step) where
-  by_read : (f : Frame) (size : ℕ) → FrameTold s f size → r ≡ step_if (follows seen f) walk (passed walk f size) → r ≡ step_by seen walk (read_first s)
+module _ (seen : Seen) (walk : Walk) (s : List ℕ) (r : Option Walk) where
+  by_read : (f : Frame) (size : ℕ) → FrameTold s f size → r ≡ step_if (follows seen f) (passed walk f size) → r ≡ step_by seen walk (read_first s)
   unfolding step_by
   by_read f size told e = rw (told.found, ← obeys_fair seen f told.good) e
 
   pub by_node : (d h : ℕ) (t : Lengths) → Node d h t ≡ strict_first s → (name : List ℕ) → name ≡ take t.name (drop 5 s)
-      → ((h : ℕ) (ds : List ℕ) (u : Perhaps) → r ≡ step_if (follows seen (node d h name ds u)) walk (after_node walk d t.size))
+      → ((h : ℕ) (ds : List ℕ) (u : Perhaps) → r ≡ step_if (follows seen (node d h name ds u)) (after_node walk d t.size))
       → r ≡ step_by seen walk (read_first s)
   unfolding node_in
   by_node d h t e name l k = by_read _ _ (frame_told s (Node d h t) _ _ e refl) (rw (← l) (k h _ _))
 
-  pub by_option : (q c : ℕ) (t : Lengths) → Option q c t ≡ strict_first s
-      → ((n : List ℕ) (l : Perhaps) (ds : List ℕ) → r ≡ step_if (follows seen (option q c n l ds)) walk (after_option walk t.size))
+  pub by_option : (q c : ℕ) (t : Lengths) → OptionHead q c t ≡ strict_first s
+      → ((n : List ℕ) (l : Perhaps) (ds : List ℕ) → r ≡ step_if (follows seen (option q c n l ds)) (after_option walk t.size))
       → r ≡ step_by seen walk (read_first s)
   unfolding option_in
-  by_option q c t e k = by_read _ _ (frame_told s (Option q c t) _ _ e refl) (k _ _ _)
+  by_option q c t e k = by_read _ _ (frame_told s (OptionHead q c t) _ _ e refl) (k _ _ _)
 
   pub by_flag : (c : ℕ) (t : Lengths) → Flag c t ≡ strict_first s
-      → ((n : List ℕ) (l : Perhaps) (ds : List ℕ) → r ≡ step_if (follows seen (flag c n l ds)) walk (after_flag walk t.size))
+      → ((n : List ℕ) (l : Perhaps) (ds : List ℕ) → r ≡ step_if (follows seen (flag c n l ds)) (after_flag walk t.size))
       → r ≡ step_by seen walk (read_first s)
   unfolding flag_in
   by_flag c t e k = by_read _ _ (frame_told s (Flag c t) _ _ e refl) (k _ _ _)
 
   -- where there is no frame that keeps its limits
-  unread : (x : Read) → ((f : Frame) (n : ℕ) → fairly x ≡ read f n → ⊥) → r ≡ step_if false walk walk → r ≡ step_by seen walk x
+  unread : (x : Read) → ((f : Frame) (n : ℕ) → fairly x ≡ read f n → ⊥) → r ≡ None → r ≡ step_by seen walk x
   unfolding step_by obeys
   unread (read f n) no-frame k = by (fair f) refl
     where
-      by : (g : Bool) → fair f ≡ g → r ≡ step_if (obeys seen f) walk (passed walk f n)
+      by : (g : Bool) → fair f ≡ g → r ≡ step_if (obeys seen f) (passed walk f n)
       by true e = absurd (no-frame f n (rw e))
       by false e = k ∙ rw e
   unread broken no-frame k = k
   unread ended no-frame k = k
 
-  pub by_nothing : (head : Head) → head ≡ strict_first s → OneOf (3 ∷ 4 ∷ []) (tag_of the_type head) → r ≡ step_if false walk walk → r ≡ step_by seen walk (read_first s)
+  pub by_nothing : (head : Head) → head ≡ strict_first s → OneOf (3 ∷ 4 ∷ []) (tag_of the_type head) → r ≡ None → r ≡ step_by seen walk (read_first s)
   by_nothing (Node d h t) e o k = absurd (miss (3 ∷ 4 ∷ []) 0 tt o)
-  by_nothing (Option q c t) e o k = absurd (miss (3 ∷ 4 ∷ []) 1 tt o)
+  by_nothing (OptionHead q c t) e o k = absurd (miss (3 ∷ 4 ∷ []) 1 tt o)
   by_nothing (Flag c t) e o k = absurd (miss (3 ∷ 4 ∷ []) 2 tt o)
   by_nothing Bad e o k = unread (read_first s) (λ f n q. let p = read_fairly s in let z : ◌≡◌ {A = ℕ} 0 1 = cc (ap (read_by s) e) in omega arith) k
   by_nothing End e o k = unread (read_first s) (λ f n q. let p = read_fairly s in let z : ◌≡◌ {A = ℕ} 0 1 = cc (ap (read_by s) e) in omega arith) k

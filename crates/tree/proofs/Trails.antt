@@ -24,7 +24,7 @@ use Rattle.image.specs.Frames.{Perhaps, text, perhaps, Frame, node, option, flag
 use Rattle.image.specs.Limits.{both, is_name, fair}
 use Rattle.image.specs.Reading.{head_first, read_by, Read, read, broken, ended, read_first, node_in, option_in, flag_in}
 use Rattle.image.specs.declared.head.Head.{Head}
-use Rattle.image.specs.declared.head.Head.TheVariants.{Node, Option, Flag, Bad, End}
+use Rattle.image.specs.declared.head.Head.TheVariants.{Node, Option as OptionHead, Flag, Bad, End}
 use Rattle.image.proofs.Encoding.{text_is, read_back, read_within, fair_fits}
 use Rattle.image.proofs.Fields.{both_first, both_second, both_true}
 use Rattle.tree.specs.Images.{frames_of, flat}
@@ -35,17 +35,12 @@ use Rattle.tree.specs.Commands.{Reached, on_subtree, descend, reached_by}
 use Rattle.tree.specs.Trails.{image_part, Descended, Leads, Finding}
 use Rattle.tree.specs.Inner.{all_fair, next_in, Ahead, found_by, start_trail, is_above, Inside, Trailed, inside, beyond, Passing}
 use Rattle.tree.specs.declared.walk.Walk.{Walk}
-use Rattle.tree.specs.declared.walk.Step.{Step}
 use Rattle.tree.specs.declared.command.Place.{Place}
 use Rattle.tree.specs.declared.command.Trail.{Trail}
-use Rattle.tree.specs.declared.command.Found.{Found}
-use Rattle.tree.specs.declared.command.Found.TheVariants.{At, Nowhere}
-use Rattle.tree.specs.declared.command.Next.TheVariants.{Word, End as NoMore}
-use Rattle.tree.specs.declared.check.Checked.TheVariants.{Good, BadFrame}
-use Rattle.tree.specs.declared.check.Tested.{Tested}
+use Rattle.std.specs.Prelude.{Some, None, Ok, Option}
 use Rattle.tree.proofs.Items.{frames_read, frames_end}
 use Rattle.tree.proofs.PassedFrames.{head_name}
-use Rattle.tree.proofs.Walks.{passed_at}
+use Rattle.tree.proofs.Walks.{passed_at, one_taken}
 use Rattle.tree.proofs.WellFormedImages.{AllFit, flat_append, frames_flat}
 
 -- FRAMES UP TO A TEST, and from one on
@@ -106,7 +101,7 @@ read_name image at d h name ds u n e = by (head_first (drop at image)) refl e
   where
     by : (x : Head) → head_first (drop at image) ≡ x → read_by (drop at image) x ≡ read (node d h name ds u) n → name_at image (at + 4) ≡ name
     by (Node d₂ h₂ t) q r = let k : take t.name (drop 5 (drop at image)) ≡ name = cc in sym (head_name image at d₂ h₂ t (sym q)) ∙ k
-    by (Option a c t) q r = cc
+    by (OptionHead a c t) q r = cc
     by (Flag c t) q r = cc
     by Bad q r = cc
     by End q r = cc
@@ -268,7 +263,7 @@ module _ (words image : List ℕ) (b : Bytes image) (at n : ℕ) (f : Frame) (e 
         }
 
     -- it is above: the subtree is passed
-    pub closes : is_above t.depth f ≡ true → (t.depth ≡ 0 → ⊥) → Leads words image (At (record { start = t.place.start; end = at; at = t.place.at })) (reached_by image words)
+    pub closes : is_above t.depth f ≡ true → (t.depth ≡ 0 → ⊥) → Leads words image (Some (record { start = t.place.start; end = at; at = t.place.at })) (reached_by image words)
     closes a k = let d = settles words image at t passed o (up_here (is_above t.depth) a) at refl in (d, λ z. k (o.none (d.path ∙ z)))
 
     -- it is the child that is named next
@@ -325,12 +320,12 @@ module _ (words image : List ℕ) (b : Bytes image) (at n : ℕ) (f : Frame) (e 
           }
 
 -- THE NEXT WORD
-pub next_framed : (d : Frames) (n : ℕ) → Word n ≡ next_in d → (kind : ℕ) × (d ≡ Framed kind n)
+pub next_framed : (d : Frames) (n : ℕ) → Some n ≡ next_in d → (kind : ℕ) × (d ≡ Framed kind n)
 next_framed (Framed kind m) n e = let k : m ≡ n = cc in (kind, ap (Framed kind) k)
 next_framed Broken n e = absurd (let z : ◌≡◌ {A = ℕ} 0 1 = cc in omega arith)
 next_framed Ended n e = absurd (let z : ◌≡◌ {A = ℕ} 0 1 = cc in omega arith)
 
-next_none : (words : List ℕ) (at : ℕ) (w : List ℕ) (l : List (List ℕ)) (d : Frames) → frame_first (drop at words) ≡ d → NoMore ≡ next_in d → texts_in (drop at words) ≡ w ∷ l → ⊥
+next_none : (words : List ℕ) (at : ℕ) (w : List ℕ) (l : List (List ℕ)) (d : Frames) → frame_first (drop at words) ≡ d → None ≡ next_in d → texts_in (drop at words) ≡ w ∷ l → ⊥
 next_none words at w l (Framed kind n) e k q = let z : ◌≡◌ {A = ℕ} 0 1 = cc in omega arith
 next_none words at w l Broken e k q = let z = texts_stop (drop at words) Broken e (hit (1 ∷ 2 ∷ []) 1 tt) in let y : ◌≡◌ {A = ℕ} 0 1 = cc in omega arith
 next_none words at w l Ended e k q = let z = texts_stop (drop at words) Ended e (hit (1 ∷ 2 ∷ []) 2 tt) in let y : ◌≡◌ {A = ℕ} 0 1 = cc in omega arith
@@ -397,7 +392,7 @@ module _ (words image : List ℕ) (b : Bytes image) (at : ℕ) (h : at < length 
           (λ w l q. ap (λ (d : ℕ). is_named d w f) (sym deep) ∙ x.named w ∙ not_same (name_at image (at + 4)) w (k f n e g w l q)))
       after_unlike k f n e g (beyond z y d) = absurd (omega arith)
 
-      pub after_no_word : Ahead words t → t.next ≡ NoMore → Passing words image at t t
+      pub after_no_word : Ahead words t → t.next ≡ None → Passing words image at t t
       after_no_word a k = after_unlike (λ f n e g w l q z. next_none words t.place.at w l (frame_first (drop t.place.at words)) refl (sym k ∙ a) q)
 
       module _ (framed m : ℕ) (q : frame_first (drop t.place.at words) ≡ Framed framed m) where
@@ -462,28 +457,24 @@ unfolding up_to
 follows_end words image at t h (inside passed o) =
     by (eqb t.depth 0) refl (settles words image at t passed o (ap (up_to (is_above t.depth)) (frames_end image at h)) t.place.end (let a = o.end in let b = o.within in omega arith))
   where
-    by : (x : Bool) → eqb t.depth 0 ≡ x → Descended words image t.place (reached_by image words) → Leads words image (cond x Nowhere (At t.place)) (reached_by image words)
+    by : (x : Bool) → eqb t.depth 0 ≡ x → Descended words image t.place (reached_by image words) → Leads words image (cond x None (Some t.place)) (reached_by image words)
     by true e d = sym d.path ∙ o.top (eqb-true t.depth 0 e)
     by false e d = (d, λ z. eqb-false t.depth 0 e (o.none (d.path ∙ z)))
 follows_end words image at t h (beyond z y d) = rw (ne_eqb t.depth 0 y) d
 
 -- one turn of the walk
-pub follows_turn : (words image : List ℕ) (walk : Walk) (r : Step) (t u : Trail) (x : Read) → read_first (drop walk.at image) ≡ x → r ≡ step_by (seen_by image walk) walk x → r.ok ≡ true
-    → Passing words image walk.at t u → Trailed words image walk.at t → Trailed words image r.walk.at u
+pub follows_turn : (words image : List ℕ) (walk next : Walk) (t u : Trail) (x : Read) → read_first (drop walk.at image) ≡ x → Some next ≡ step_by (seen_by image walk) walk x
+    → Passing words image walk.at t u → Trailed words image walk.at t → Trailed words image next.at u
 unfolding step_by obeys
-follows_turn words image walk r t u (read f n) e st o turn i =
-    let obeyed : obeys (seen_by image walk) f ≡ true = sym (ap (λ (step : Step). step.ok) st) ∙ o in
-    let next : r.walk ≡ walked walk f n = ap (λ (step : Step). step.walk) st ∙ then_is _ _ _ obeyed in
-    rw (ap (λ (w : Walk). w.at) next ∙ passed_at walk f n) (turn f n e (both_first (fair f) _ obeyed) i)
-follows_turn words image walk r t u broken e st o turn i = absurd (true_is_not_false (sym o ∙ ap (λ (step : Step). step.ok) st))
-follows_turn words image walk r t u ended e st o turn i = absurd (true_is_not_false (sym o ∙ ap (λ (step : Step). step.ok) st))
+follows_turn words image walk next t u (read f n) e st turn i =
+    let taken = one_taken (obeys (seen_by image walk) f) (walked walk f n) next st in
+    rw (ap (λ (w : Walk). w.at) taken.1 ∙ passed_at walk f n) (turn f n e (both_first (fair f) _ taken.0) i)
+follows_turn words image walk next t u broken e st turn i = absurd (let z : ◌≡◌ {A = ℕ} 0 1 = cc in omega arith)
+follows_turn words image walk next t u ended e st turn i = absurd (let z : ◌≡◌ {A = ℕ} 0 1 = cc in omega arith)
 
 pub part_most : (image : List ℕ) (place : Place) → length (image_part image place) ≤ place.end - place.start
 part_most image place = rw length-take (omega arith)
 
 -- THE ANSWER
-pub found_bad : (words image : List ℕ) (r : Tested) (n : ℕ) → r.checked ≡ BadFrame n → BadFrame n ≡ check_tree image → Finding words image r
-found_bad words image r n e q = record { checked = e ∙ q; found = λ g. absurd (let z : ◌≡◌ {A = ℕ} 0 1 = cc in omega arith) }
-
-pub found_good : (words image : List ℕ) (t : Trail) (x : Found) → x ≡ found_by t → Good ≡ check_tree image → Leads words image (found_by t) (reached_by image words) → Finding words image (record { checked = Good; found = x })
-found_good words image t x q e d = record { checked = e; found = λ g. rw q d }
+pub found_good : (words image : List ℕ) (t : Trail) (x : Option Place) → x ≡ found_by t → Ok tt ≡ check_tree image → Leads words image (found_by t) (reached_by image words) → Finding words image (Ok x)
+found_good words image t x q e d = (sym e, rw q d)

@@ -1,7 +1,7 @@
 -- Laws of a walk: what its places say of the path, and how each frame's tests decide.
 use Prim.Native.Nat.{ℕ, zero, suc, ◌+◌, ◌<◌, ◌≤◌}
 use mathlib.Core.Path.{◌≡◌, refl, sym, ap, ◌∙◌}
-use mathlib.Core.Bool.{Bool, true, false}
+use mathlib.Core.Bool.{Bool, true, false, cond}
 use mathlib.Core.List.{List, [], ◌∷◌, ◌++◌, map}
 use native.Mathlib.Omega.{arith}
 use native.Mathlib.Numerals.{add-one}
@@ -10,12 +10,16 @@ use lib.ListN.{length, get_or, take, drop, set, length-set, length-map}
 use lib.Seq.{length-take-le, get_or-take, take-take, take-suc-set}
 use borrow.Author.Tests.{le-leb, lt-leb, lt-ltb, le-ltb}
 use Rattle.buffer.specs.Compare.{order}
-use Rattle.buffer.specs.declared.order.Order.{Order}
+use Rattle.std.specs.Ordering.{is_lt}
+use Rattle.std.specs.declared.cmp.Ordering.{Ordering}
+use Rattle.std.specs.declared.cmp.Ordering.TheVariants.{Less, Equal, Greater}
 use Rattle.image.specs.Frames.{Perhaps, Frame, node, option, flag}
 use Rattle.tree.specs.Rules.{is_less, rises, follows, after}
+use Rattle.std.specs.Prelude.{Some, None}
+use Rattle.image.specs.Limits.{both}
+use Rattle.tree.specs.Inner.{one_more}
 use Rattle.tree.specs.Steps.{name_at, text_first, seen_by, Sound, after_node, after_option, after_flag, passed, step_if}
 use Rattle.tree.specs.declared.walk.Walk.{Walk}
-use Rattle.tree.specs.declared.walk.Step.{Step}
 
 -- a walk that has passed a frame of that size
 pub record KnownAfter (image : List ℕ) (walk : Walk) (f : Frame) (size : ℕ) (next : Walk) : Type 0 where
@@ -108,39 +112,74 @@ module _ (image : List ℕ) (walk : Walk) (sound : Sound walk) where
 
   -- options and flags: a node must stand before them, and there is a limit of each
   module _ (q c : ℕ) (n : List ℕ) (l : Perhaps) (ds : List ℕ) where
-    pub option_orphan : walk.deep ≡ 0 → follows (seen_by image walk) (option q c n l ds) ≡ false
-    unfolding follows
-    option_orphan e = rw (path_length, e)
-
-    pub option_decides : (walk.deep ≡ 0 → ⊥) → (t : Bool) → ltb walk.options 32 ≡ t → follows (seen_by image walk) (option q c n l ds) ≡ t
+    pub option_rule : follows (seen_by image walk) (option q c n l ds) ≡ both (ltb 0 walk.deep) (ltb walk.options 32)
     unfolding follows seen_by
-    option_decides e t k = rw (path_length, lt-ltb 0 walk.deep (omega arith)) k
+    option_rule = rw path_length
 
   module _ (c : ℕ) (n : List ℕ) (l : Perhaps) (ds : List ℕ) where
-    pub flag_orphan : walk.deep ≡ 0 → follows (seen_by image walk) (flag c n l ds) ≡ false
-    unfolding follows
-    flag_orphan e = rw (path_length, e)
-
-    pub flag_decides : (walk.deep ≡ 0 → ⊥) → (t : Bool) → ltb walk.flags 32 ≡ t → follows (seen_by image walk) (flag c n l ds) ≡ t
+    pub flag_rule : follows (seen_by image walk) (flag c n l ds) ≡ both (ltb 0 walk.deep) (ltb walk.flags 32)
     unfolding follows seen_by
-    flag_decides e t k = rw (path_length, lt-ltb 0 walk.deep (omega arith)) k
+    flag_rule = rw path_length
+
+-- one more of them, or none
+module _ (walk : Walk) (listed : ℕ) where
+  pub none_more : None ≡ one_more walk listed → both (ltb 0 walk.deep) (ltb listed 32) ≡ false
+  unfolding one_more
+  none_more e = by (both (ltb 0 walk.deep) (ltb listed 32)) e
+    where
+      by : (t : Bool) → None ≡ cond t (Some (listed + 1)) None → t ≡ false
+      by true q = cc
+      by false q = refl
+
+  pub some_more : (n : ℕ) → Some n ≡ one_more walk listed → (both (ltb 0 walk.deep) (ltb listed 32) ≡ true) × (n ≡ listed + 1)
+  unfolding one_more
+  some_more n e = by (both (ltb 0 walk.deep) (ltb listed 32)) e
+    where
+      by : (t : Bool) → Some n ≡ cond t (Some (listed + 1)) None → (t ≡ true) × (n ≡ listed + 1)
+      by true q = (refl, cc)
+      by false q = (cc, cc)
+
+pub option_more : (walk : Walk) (size n : ℕ) → n ≡ walk.options + 1
+    → ◌≡◌ {A = Walk} (record { at = walk.at + size; names = walk.names; deep = walk.deep; nodes = walk.nodes; options = n; flags = walk.flags }) (after_option walk size)
+unfolding after_option
+option_more walk size n e = rw e
+
+pub flag_more : (walk : Walk) (size n : ℕ) → n ≡ walk.flags + 1
+    → ◌≡◌ {A = Walk} (record { at = walk.at + size; names = walk.names; deep = walk.deep; nodes = walk.nodes; options = walk.options; flags = n }) (after_flag walk size)
+unfolding after_flag
+flag_more walk size n e = rw e
 
 -- a step that is refused, and one that is taken
-module _ (rule : Bool) (walk next : Walk) where
-  pub step_refused : (r : Step) → r ≡ step_if false walk walk → rule ≡ false → r ≡ step_if rule walk next
-  step_refused r e k = e ∙ rw k
+module _ (rule : Bool) (next : Walk) where
+  pub step_refused : rule ≡ false → None ≡ step_if rule next
+  step_refused k = rw k
 
-  pub step_taken : (after : Walk) → after ≡ next → rule ≡ true → record { walk = after; ok = true } ≡ step_if rule walk next
+  pub step_taken : (after : Walk) → after ≡ next → rule ≡ true → Some after ≡ step_if rule next
   step_taken after e k = rw (k, e)
+
+-- and what each tells
+pub none_taken : (rule : Bool) (next : Walk) → None ≡ step_if rule next → rule ≡ false
+none_taken true next e = cc
+none_taken false next e = refl
+
+pub one_taken : (rule : Bool) (next after : Walk) → Some after ≡ step_if rule next → (rule ≡ true) × (after ≡ next)
+one_taken true next after e = (refl, cc)
+one_taken false next after e = (cc, cc)
 
 -- a text that was lent in three steps: the rest of the image, its first byte, and as many bytes after that
 pub name_lent : (image tail r : List ℕ) (p n : ℕ) → tail ≡ drop p image → n ≡ get_or tail 0 0 → r ≡ take n (drop 1 tail) → r ≡ name_at image p
 unfolding text_first
 name_lent image tail r p n a b d = d ∙ rw (b, a)
 
+-- the test of the library for less is ours
+less : (o : Ordering) → is_lt o ≡ is_less o
+less Less = refl
+less Equal = refl
+less Greater = refl
+
 -- a lent name compared
-pub compared : (r : Bool) (o : Order) (x y a : List ℕ) → r ≡ is_less o → o ≡ order x y → x ≡ a → r ≡ is_less (order a y)
-compared r o x y a e f g = cc
+pub compared : (r : Bool) (o : Ordering) (x y a : List ℕ) → r ≡ is_lt o → o ≡ order x y → x ≡ a → r ≡ is_less (order a y)
+compared r o x y a e f g = let l = less o in cc
 
 -- where the walk after a frame stands
 pub passed_at : (walk : Walk) (f : Frame) (n : ℕ) → (passed walk f n).at ≡ walk.at + n

@@ -1,4 +1,5 @@
 -- An image is well-formed exactly if it is frames, joined, that all obey, within the byte limit; and so is each prefix of its frames.
+use Rattle.std.specs.Prelude.{Ok, Err}
 use Prim.Native.Nat.{ℕ, zero, suc, ◌+◌, ◌≤◌}
 use mathlib.Core.Path.{◌≡◌, refl, sym, ap, ◌∙◌}
 use mathlib.Core.Bool.{Bool, true, false, cond}
@@ -17,7 +18,6 @@ use Rattle.image.proofs.Fields.{both_first, both_second, both_true}
 use Rattle.image.proofs.Encoding.{Fits, fair_fits, frame_read, read_back, read_ended}
 use Rattle.tree.specs.Images.{Item, whole, torn, items, frames_in, frames_of, flat}
 use Rattle.tree.specs.Rules.{Seen, start, follows, obeys, after, judge_items, obey_all, check_tree}
-use Rattle.tree.specs.declared.check.Checked.TheVariants.{Good, BadFrame}
 use Rattle.tree.proofs.Items.{items_read, items_broken, items_none}
 
 abbrev pub AllFit : List Frame → Type 0
@@ -68,7 +68,7 @@ flat_back (f ∷ l) s b e = by (read_first s) refl (λ n. flat_back l (drop n s)
     by ended q more = let z : items s ≡ [] = ap items (read_ended s q) ∙ items_none in cc
 
 -- judged good is to be frames that all obey
-pub judge_good : (fs : List Frame) (seen : Seen) (n : ℕ) → obey_all seen fs ≡ true → judge_items seen n (map whole fs) ≡ Good
+pub judge_good : (fs : List Frame) (seen : Seen) (n : ℕ) → obey_all seen fs ≡ true → judge_items seen n (map whole fs) ≡ Ok tt
 unfolding judge_items obey_all
 judge_good [] seen n e = refl
 judge_good (f ∷ l) seen n e = rw (both_first (obeys seen f) _ e) (judge_good l (after seen f) (n + 1) (both_second (obeys seen f) _ e))
@@ -77,13 +77,13 @@ pub record GoodItems (seen : Seen) (l : List Item) : Type 0 where
   pub wholes : l ≡ map whole (frames_in l)
   pub obey : obey_all seen (frames_in l) ≡ true
 
-pub good_judged : (l : List Item) (seen : Seen) (n : ℕ) → judge_items seen n l ≡ Good → GoodItems seen l
+pub good_judged : (l : List Item) (seen : Seen) (n : ℕ) → judge_items seen n l ≡ Ok tt → GoodItems seen l
 unfolding judge_items obey_all frames_in
 good_judged [] seen n e = record { wholes = refl; obey = refl }
 good_judged (whole f ∷ l) seen n e = by (obeys seen f) refl e (good_judged l (after seen f) (n + 1))
   where
-    by : (t : Bool) → obeys seen f ≡ t → cond t (judge_items (after seen f) (n + 1) l) (BadFrame n) ≡ Good
-        → (judge_items (after seen f) (n + 1) l ≡ Good → GoodItems (after seen f) l) → GoodItems seen (whole f ∷ l)
+    by : (t : Bool) → obeys seen f ≡ t → cond t (judge_items (after seen f) (n + 1) l) (Err (record { number = n })) ≡ Ok tt
+        → (judge_items (after seen f) (n + 1) l ≡ Ok tt → GoodItems (after seen f) l) → GoodItems seen (whole f ∷ l)
     by true q r more =
         let g = more r in
         record { wholes = ap (λ (m : List Item). whole f ∷ m) g.wholes; obey = both_true (obeys seen f) _ q g.obey }
@@ -103,7 +103,7 @@ pub record WellFormed (image : List ℕ) (fs : List Frame) : Type 0 where
   pub obey : obey_all start fs ≡ true
   pub short : length image ≤ 32768
 
-pub well_formed_good : (image : List ℕ) (fs : List Frame) → WellFormed image fs → check_tree image ≡ Good
+pub well_formed_good : (image : List ℕ) (fs : List Frame) → WellFormed image fs → check_tree image ≡ Ok tt
 unfolding check_tree
 well_formed_good image fs w =
     rw (le-ltb 32768 (length image) w.short)
@@ -111,11 +111,11 @@ well_formed_good image fs w =
     ∙ ap (judge_items start 0) (items_flat fs (obey_fit fs start w.obey))
     ∙ judge_good fs start 0 w.obey)
 
-pub good_well_formed : (image : List ℕ) → Bytes image → check_tree image ≡ Good → WellFormed image (frames_of image)
+pub good_well_formed : (image : List ℕ) → Bytes image → check_tree image ≡ Ok tt → WellFormed image (frames_of image)
 unfolding check_tree frames_of
 good_well_formed image b e = by (ltb 32768 (length image)) refl e
   where
-    by : (t : Bool) → ltb 32768 (length image) ≡ t → cond t (BadFrame 0) (judge_items start 0 (items image)) ≡ Good → WellFormed image (frames_in (items image))
+    by : (t : Bool) → ltb 32768 (length image) ≡ t → cond t (Err (record { number = 0 })) (judge_items start 0 (items image)) ≡ Ok tt → WellFormed image (frames_in (items image))
     by true q r = absurd (let z : ◌≡◌ {A = ℕ} 0 1 = cc in omega arith)
     by false q r =
         let g = good_judged (items image) start 0 r in
@@ -141,7 +141,7 @@ flat_shorter (suc n) (f ∷ l) =
     rw (length-append (encode_frame f) (flat (take n l)), length-append (encode_frame f) (flat l)) (omega arith)
 
 -- the first n frames of a well-formed image are a well-formed image
-pub prefix_good : (image : List ℕ) (n : ℕ) → Bytes image → check_tree image ≡ Good → check_tree (flat (take n (frames_of image))) ≡ Good
+pub prefix_good : (image : List ℕ) (n : ℕ) → Bytes image → check_tree image ≡ Ok tt → check_tree (flat (take n (frames_of image))) ≡ Ok tt
 prefix_good image n b e =
     let w = good_well_formed image b e in
     let l : length (flat (frames_of image)) ≤ 32768 = rw w.joined at w.short in

@@ -1,14 +1,12 @@
 -- An image that grows by one frame at a time (STANDARD 6 and 11).
-use Rattle.std.specs.Prelude.{ℕ, ◌+◌, ◌≡◌, Bool, true, false, cond, List, ◌++◌, leb, eqb, length}
+use Rattle.std.specs.Prelude.{ℕ, ◌+◌, ◌≡◌, Bool, true, false, cond, List, ◌++◌, leb, eqb, length, Ok, Err, Result, ⊤, Option}
 use Rattle.buffer.specs.Write.{over_at}
 use Rattle.image.specs.Limits.{both}
 use Rattle.image.specs.Reading.{Read, read, broken, ended, read_first}
 use Rattle.tree.specs.Rules.{Seen, obeys, check_tree, image_limit}
 use Rattle.tree.specs.Steps.{seen_by, passed, step_if}
-use Rattle.tree.specs.declared.check.Checked.{Checked}
-use Rattle.tree.specs.declared.check.Checked.TheVariants.{Good, BadFrame}
+use Rattle.tree.specs.declared.check.BadFrame.{BadFrame}
 use Rattle.tree.specs.declared.walk.Walk.{Walk}
-use Rattle.tree.specs.declared.walk.Step.{Step}
 
 -- bytes that are one frame and nothing else
 abbrev pub fills : ℕ → Read → Bool
@@ -20,9 +18,9 @@ fills size ended = false
 unfoldable pub one_frame : List ℕ → Bool
 one_frame bytes = fills (length bytes) (read_first bytes)
 
-abbrev pub is_good : Checked → Bool
-is_good Good = true
-is_good (BadFrame n) = false
+abbrev pub is_good : Result ⊤ BadFrame → Bool
+is_good (Ok u) = true
+is_good (Err refusal) = false
 
 -- whether an image takes these bytes: they are one frame, and with it the image is well-formed (6.21, 11.9)
 unfoldable pub takes : List ℕ → List ℕ → Bool
@@ -48,9 +46,9 @@ passed_by walk (read f n) = passed walk f n
 passed_by walk broken = walk
 passed_by walk ended = walk
 
--- One frame more, or all as it was. The answer says no more than whether it was taken: a frame that comes by itself has no number in the table of the standard. In a session the line that
+-- One frame more: the walk after it. A refusal leaves the buffer as it was. The answer says no more than whether it was taken: a frame that comes by itself has no number in the table of the standard. In a session the line that
 -- held it is the console's to answer, by a frame 2F with the line's number; an image that is lent whole is refused by 1 with the frame's number.
 -- (6.21)
-pub record Grows (walk : Walk) (frame buffer : List ℕ) (r : Step) (left : List ℕ) : Type 0 where
-  pub answer : r ≡ step_if (admits walk frame buffer) walk (passed_by walk (read_first frame))
+pub record Grows (walk : Walk) (frame buffer : List ℕ) (r : Option Walk) (left : List ℕ) : Type 0 where
+  pub answer : r ≡ step_if (admits walk frame buffer) (passed_by walk (read_first frame))
   pub bytes : left ≡ cond (admits walk frame buffer) (over_at frame buffer walk.at) buffer

@@ -1,10 +1,10 @@
 -- What only contracts of inner functions cite: one frame of each kind passed, and how words are followed while the frames of the image are passed.
-use Rattle.std.specs.Prelude.{ℕ, zero, suc, ◌+◌, ◌-◌, ◌<◌, ◌≤◌, ◌≡◌, List, [], ◌∷◌, ◌++◌, Bool, true, false, cond, eqb, length, take, drop, get_or}
+use Rattle.tree.specs.declared.command.Place.{Place}
+use Rattle.std.specs.Prelude.{ℕ, zero, suc, ◌+◌, ◌-◌, ◌<◌, ◌≤◌, ◌≡◌, List, [], ◌∷◌, ◌++◌, Bool, true, false, cond, eqb, ltb, length, take, drop, get_or, Option, Some, None}
 use Rattle.frame.specs.Limits.{frames_limit}
 use Rattle.image.specs.Frames.{Perhaps, node, option, flag, Frame}
 use Rattle.tree.specs.Rules.{follows, image_limit}
 use Rattle.tree.specs.declared.walk.Walk.{Walk}
-use Rattle.tree.specs.declared.walk.Step.{Step}
 use Rattle.tree.specs.Steps.{seen_by, after_node, after_option, after_flag, step_if}
 use Rattle.frame.specs.Framed.{frame_first}
 use Rattle.frame.specs.Series.{texts_in, Whole}
@@ -15,36 +15,36 @@ use Rattle.image.specs.Limits.{both, fair}
 use Rattle.tree.specs.Images.{frames_of, flat}
 use Rattle.tree.specs.Subtrees.{is_named, is_upper, up_to, on_from}
 use Rattle.tree.specs.Commands.{descend, reached_by}
-use Rattle.tree.specs.declared.command.Found.{Found}
-use Rattle.tree.specs.declared.command.Found.TheVariants.{At, Nowhere}
-use Rattle.tree.specs.declared.command.Next.{Next}
-use Rattle.tree.specs.declared.command.Next.TheVariants.{Word, End}
 use Rattle.tree.specs.declared.command.Trail.{Trail}
 use Rattle.tree.specs.Trails.{Leads}
 
 -- one frame passed, of each kind, of which only what the rules ask counts
-abbrev pub NodeStepped : List ℕ → Walk → ℕ → List ℕ → ℕ → Step → Type 0
+abbrev pub NodeStepped : List ℕ → Walk → ℕ → List ℕ → ℕ → Option Walk → Type 0
 NodeStepped image walk depth name size r =
-    (h : ℕ) (ds : List ℕ) (u : Perhaps) → r ≡ step_if (follows (seen_by image walk) (node depth h name ds u)) walk (after_node walk depth size)
+    (h : ℕ) (ds : List ℕ) (u : Perhaps) → r ≡ step_if (follows (seen_by image walk) (node depth h name ds u)) (after_node walk depth size)
 
-abbrev pub OptionStepped : List ℕ → Walk → ℕ → Step → Type 0
+abbrev pub OptionStepped : List ℕ → Walk → ℕ → Option Walk → Type 0
 OptionStepped image walk size r =
-    (q c : ℕ) (n : List ℕ) (l : Perhaps) (ds : List ℕ) → r ≡ step_if (follows (seen_by image walk) (option q c n l ds)) walk (after_option walk size)
+    (q c : ℕ) (n : List ℕ) (l : Perhaps) (ds : List ℕ) → r ≡ step_if (follows (seen_by image walk) (option q c n l ds)) (after_option walk size)
 
-abbrev pub FlagStepped : List ℕ → Walk → ℕ → Step → Type 0
+abbrev pub FlagStepped : List ℕ → Walk → ℕ → Option Walk → Type 0
 FlagStepped image walk size r =
-    (c : ℕ) (n : List ℕ) (l : Perhaps) (ds : List ℕ) → r ≡ step_if (follows (seen_by image walk) (flag c n l ds)) walk (after_flag walk size)
+    (c : ℕ) (n : List ℕ) (l : Perhaps) (ds : List ℕ) → r ≡ step_if (follows (seen_by image walk) (flag c n l ds)) (after_flag walk size)
+
+-- so many options, or flags, of the last node and one more, if there is a node and it may have that many
+unfoldable pub one_more : Walk → ℕ → Option ℕ
+one_more walk listed = cond (both (ltb 0 walk.deep) (ltb listed 32)) (Some (listed + 1)) None
 
 -- frames within their limits
 unfoldable pub all_fair : List Frame → Bool
 all_fair [] = true
 all_fair (f ∷ l) = both (fair f) (all_fair l)
 
--- the next word
-abbrev pub next_in : Framed → Next
-next_in (Text kind n) = Word n
-next_in Broken = End
-next_in Ended = End
+-- the length of the next word
+abbrev pub next_in : Framed → Option ℕ
+next_in (Text kind n) = Some n
+next_in Broken = None
+next_in Ended = None
 
 abbrev pub Ahead : List ℕ → Trail → Type 0
 Ahead words t = t.next ≡ next_in (frame_first (drop t.place.at words))
@@ -58,8 +58,8 @@ abbrev pub AtChild : List ℕ → ℕ → Trail → Type 0
 AtChild image at t = (get_or image at 0 ≡ 1) × (get_or image (at + 1) 0 ≡ t.depth) × (length image ≤ t.place.end) × (t.depth < 256)
 
 -- what a trail has found when all frames are passed: at depth 0 no command
-abbrev pub found_by : Trail → Found
-found_by t = cond (eqb t.depth 0) Nowhere (At t.place)
+abbrev pub found_by : Trail → Option Place
+found_by t = cond (eqb t.depth 0) None (Some t.place)
 
 -- no frame is passed
 abbrev pub start_trail : List ℕ → List ℕ → Trail
@@ -88,7 +88,7 @@ pub record Inside (words image : List ℕ) (at : ℕ) (t : Trail) (passed : List
 -- what is known when the bytes before a place are passed: the place is inside the subtree of the last node named, or beyond it, and nothing more is named
 pub data Trailed (words image : List ℕ) (at : ℕ) (t : Trail) : Type 0 where
   inside : (passed : List Frame) → Inside words image at t passed → Trailed words image at t
-  beyond : t.place.end < length image → (t.depth ≡ 0 → ⊥) → Leads words image (At t.place) (reached_by image words) → Trailed words image at t
+  beyond : t.place.end < length image → (t.depth ≡ 0 → ⊥) → Leads words image (Some t.place) (reached_by image words) → Trailed words image at t
 
 -- one frame more, which keeps its limits
 abbrev pub Passing : List ℕ → List ℕ → ℕ → Trail → Trail → Type 0

@@ -1,13 +1,12 @@
 -- The rules over a list of frames, and the number of the first frame that breaks one (STANDARD 6.4, 6.12 to 6.17, 10.10).
-use Rattle.std.specs.Prelude.{ℕ, ◌+◌, Bool, true, false, cond, List, [], ◌∷◌, ◌++◌, ltb, leb, length, take, get_or}
+use Rattle.std.specs.Prelude.{ℕ, ◌+◌, Bool, true, false, cond, List, [], ◌∷◌, ◌++◌, ltb, leb, length, take, get_or, Ok, Err, Result, ⊤}
 use Rattle.buffer.specs.Compare.{order}
-use Rattle.buffer.specs.declared.order.Order.{Order}
-use Rattle.buffer.specs.declared.order.Order.TheVariants.{Less, Equal, Greater}
+use Rattle.std.specs.declared.cmp.Ordering.{Ordering}
+use Rattle.std.specs.declared.cmp.Ordering.TheVariants.{Less, Equal, Greater}
 use Rattle.image.specs.Frames.{Frame, node, option, flag}
 use Rattle.image.specs.Limits.{both, fair}
 use Rattle.tree.specs.Images.{Item, whole, torn, items}
-use Rattle.tree.specs.declared.check.Checked.{Checked}
-use Rattle.tree.specs.declared.check.Checked.TheVariants.{Good, BadFrame}
+use Rattle.tree.specs.declared.check.BadFrame.{BadFrame}
 
 -- what the frames before tell: the names from depth 0 down to the last node, how many nodes, how many options and flags of the last node
 pub record Seen : Type 0 where
@@ -19,7 +18,7 @@ pub record Seen : Type 0 where
 abbrev pub start : Seen
 start = record { path = []; nodes = 0; options = 0; flags = 0 }
 
-abbrev pub is_less : Order → Bool
+abbrev pub is_less : Ordering → Bool
 is_less Less = true
 is_less Equal = false
 is_less Greater = false
@@ -49,10 +48,10 @@ after seen (flag c name long description) =
     record { path = seen.path; nodes = seen.nodes; options = seen.options; flags = seen.flags + 1 }
 
 -- the number of the first frame that breaks a rule, n frames being passed (6.15, 6.16)
-unfoldable pub judge_items : Seen → ℕ → List Item → Checked
-judge_items seen n [] = Good
-judge_items seen n (whole f ∷ l) = cond (obeys seen f) (judge_items (after seen f) (n + 1) l) (BadFrame n)
-judge_items seen n (torn ∷ l) = BadFrame n
+unfoldable pub judge_items : Seen → ℕ → List Item → Result ⊤ BadFrame
+judge_items seen n [] = Ok tt
+judge_items seen n (whole f ∷ l) = cond (obeys seen f) (judge_items (after seen f) (n + 1) l) (Err (record { number = n }))
+judge_items seen n (torn ∷ l) = Err (record { number = n })
 
 -- whether every frame of a list obeys (6.15)
 unfoldable pub obey_all : Seen → List Frame → Bool
@@ -64,5 +63,5 @@ abbrev pub image_limit : ℕ
 image_limit = 32768
 
 -- the byte limit is tested first and gives 0 (6.4, 6.16, 6.17, 10.10)
-unfoldable pub check_tree : List ℕ → Checked
-check_tree image = cond (ltb image_limit (length image)) (BadFrame 0) (judge_items start 0 (items image))
+unfoldable pub check_tree : List ℕ → Result ⊤ BadFrame
+check_tree image = cond (ltb image_limit (length image)) (Err (record { number = 0 })) (judge_items start 0 (items image))

@@ -1,10 +1,9 @@
 -- The steps by which the code goes through an image: where it stands, and what one frame makes of that.
-use Rattle.std.specs.Prelude.{ℕ, ◌+◌, ◌≤◌, ◌≡◌, Bool, false, cond, List, map, length, take, drop, get_or, set, replicate}
+use Rattle.std.specs.Prelude.{ℕ, ◌+◌, ◌≤◌, ◌≡◌, Bool, cond, Option, Some, None, List, map, length, take, drop, get_or, set, replicate}
 use Rattle.image.specs.Frames.{Frame, node, option, flag}
 use Rattle.image.specs.Reading.{Read, read, broken, ended}
 use Rattle.tree.specs.Rules.{Seen, obeys}
 use Rattle.tree.specs.declared.walk.Walk.{Walk}
-use Rattle.tree.specs.declared.walk.Step.{Step}
 
 -- the text after the length byte at the front
 unfoldable pub text_first : List ℕ → List ℕ
@@ -44,12 +43,12 @@ passed walk (node d h name description usage) size = after_node walk d size
 passed walk (option r c name long description) size = after_option walk size
 passed walk (flag c name long description) size = after_flag walk size
 
--- a frame that keeps the rules is passed; another leaves the walk as it is
-abbrev pub step_if : Bool → Walk → Walk → Step
-step_if rule walk next = record { walk = cond rule next walk; ok = rule }
+-- a frame that keeps the rules is passed
+abbrev pub step_if : Bool → Walk → Option Walk
+step_if rule next = cond rule (Some next) None
 
 -- one frame more, after what was seen
-unfoldable pub step_by : Seen → Walk → Read → Step
-step_by seen walk (read f n) = step_if (obeys seen f) walk (passed walk f n)
-step_by seen walk broken = step_if false walk walk
-step_by seen walk ended = step_if false walk walk
+unfoldable pub step_by : Seen → Walk → Read → Option Walk
+step_by seen walk (read f n) = step_if (obeys seen f) (passed walk f n)
+step_by seen walk broken = None
+step_by seen walk ended = None

@@ -1,14 +1,11 @@
 -- Where words have led in an image: a part of it, and the place in the words after the path.
-use Rattle.std.specs.Prelude.{ℕ, ◌-◌, ◌≤◌, ◌≡◌, List, [], length, take, drop}
+use Rattle.std.specs.Prelude.{ℕ, ◌-◌, ◌≤◌, ◌≡◌, List, [], length, take, drop, Ok, Err, Result, Some, None, Option}
 use Rattle.frame.specs.Series.{texts_in}
 use Rattle.tree.specs.Images.{frames_of}
 use Rattle.tree.specs.Rules.{check_tree}
 use Rattle.tree.specs.Commands.{Reached, reached_by}
-use Rattle.tree.specs.declared.check.Checked.TheVariants.{Good}
-use Rattle.tree.specs.declared.check.Tested.{Tested}
+use Rattle.tree.specs.declared.check.BadFrame.{BadFrame}
 use Rattle.tree.specs.declared.command.Place.{Place}
-use Rattle.tree.specs.declared.command.Found.{Found}
-use Rattle.tree.specs.declared.command.Found.TheVariants.{At, Nowhere}
 
 -- a part of the image
 abbrev pub image_part : List ℕ → Place → List ℕ
@@ -28,11 +25,11 @@ pub record Descended (words image : List ℕ) (place : Place) (r : Reached) : Ty
   pub within : Within words image place
 
 -- the command that words name, which their path leads to; nowhere if the path is empty
-abbrev pub Leads : List ℕ → List ℕ → Found → Reached → Type 0
-Leads words image (At place) r = Descended words image place r × (r.path ≡ [] → ⊥)
-Leads words image Nowhere r = r.path ≡ []
+abbrev pub Leads : List ℕ → List ℕ → Option Place → Reached → Type 0
+Leads words image (Some place) r = Descended words image place r × (r.path ≡ [] → ⊥)
+Leads words image None r = r.path ≡ []
 
--- an image tested, and where the words lead in it
-pub record Finding (words image : List ℕ) (r : Tested) : Type 0 where
-  pub checked : r.checked ≡ check_tree image
-  pub found : check_tree image ≡ Good → Leads words image r.found (reached_by image words)
+-- an image tested, and where the words lead in a good one
+abbrev pub Finding : List ℕ → List ℕ → Result (Option Place) BadFrame → Type 0
+Finding words image (Ok found) = (check_tree image ≡ Ok tt) × Leads words image found (reached_by image words)
+Finding words image (Err refusal) = check_tree image ≡ Err refusal

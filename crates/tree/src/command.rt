@@ -1,8 +1,7 @@
 // Words followed down an image, while its frames are passed: where the command is that they name.
-ghost use Rattle.std.specs.Prelude.{◌≡◌, ◌+◌, ◌<◌, length, drop};
+ghost use Rattle.std.specs.Prelude.{◌≡◌, ◌+◌, ◌<◌, length, drop, Some};
 ghost use Rattle.frame.specs.Framed.{frame_first};
 ghost use Rattle.tree.specs.Inner.{next_in, found_by, Ahead, start_trail, Passing, AtFrame, AtChild};
-ghost use Rattle.tree.specs.declared.command.Next.TheVariants.{Word};
 
 use super::walk::name_at;
 use buffer::{byte_at, part, same};
@@ -16,38 +15,22 @@ pub struct Place {
     pub at: usize,
 }
 
-// The command that words name.
-#[derive(Clone, Copy)]
-pub enum Found {
-    At(Place),
-    // The first word names none.
-    Nowhere,
-}
-
-// The word that comes next: its length, or that there is none.
-#[derive(Clone, Copy)]
-pub enum Next {
-    Word(usize),
-    End,
-}
-
-// Where words have led so far, the depth of a child there, and the next word. The part ends with the image until a node comes that is not below;
+// Where words have led so far, the depth of a child there, and the length of the next word, if there is one. The part ends with the image until a node comes that is not below;
 // at depth 0 it is the whole image, and no word is passed.
 #[derive(Clone, Copy)]
 pub struct Trail {
     pub place: Place,
     pub depth: usize,
-    pub next: Next,
+    pub next: Option<usize>,
 }
 
-// The word at a place.
-fn next_word(words: &[u8], at: usize) -> Next
+// The length of the word at a place.
+fn next_word(words: &[u8], at: usize) -> Option<usize>
     ensures { result ≡ next_in (frame_first (drop at words.now)) }
 {
     match read_frame(words, at) {
-        Framed::Frame { kind: _, length } => Next::Word(length),
-        Framed::Broken => Next::End,
-        Framed::End => Next::End,
+        Framed::Frame { length, .. } => Some(length),
+        Framed::Broken | Framed::End => None,
     }
 }
 
@@ -68,14 +51,13 @@ impl Trail {
     }
 
     // Where the words have led, once all frames are passed.
-    pub fn found(self) -> Found
+    pub fn found(self) -> Option<Place>
         ensures { result ≡ found_by self }
     {
         if self.depth == 0 {
-            return Found::Nowhere;
+            return None;
         }
-        let place = self.place;
-        Found::At(place)
+        Some(self.place)
     }
 
     // The child at a place of the image is passed, and a word of that length is next: the child is followed if that is its name. Names of one
@@ -83,7 +65,7 @@ impl Trail {
     fn after_name(self, words: &[u8], image: &[u8], at: usize, bytes: usize) -> Trail
         requires at_frame { AtFrame words.now image.now at self }
         requires at_child { AtChild image.now at self }
-        requires next_value { self.next ≡ Word bytes }
+        requires next_value { self.next ≡ Some bytes }
         ensures { Passing words.now image.now at self result × Ahead words.now result }
     {
         if byte_at(image, at + 4) != bytes {
@@ -114,10 +96,9 @@ impl Trail {
         requires at_child { AtChild image.now at self }
         ensures { Passing words.now image.now at self result × Ahead words.now result }
     {
-        let next = self.next;
-        match next {
-            Next::Word(length) => self.after_name(words, image, at, length),
-            Next::End => self,
+        match self.next {
+            Some(length) => self.after_name(words, image, at, length),
+            None => self,
         }
     }
 
@@ -139,15 +120,12 @@ impl Trail {
         if depth == self.depth {
             return self.after_child(words, image, at);
         }
-        let next = self.next;
         Trail {
             place: Place {
-                start: self.place.start,
                 end: at,
-                at: self.place.at,
+                ..self.place
             },
-            depth: self.depth,
-            next,
+            ..self
         }
     }
 }

@@ -3,7 +3,7 @@ ghost use Rattle.std.specs.Prelude.{◌≡◌};
 ghost use Rattle.tree.specs.Growth.{has_room, Grows};
 
 use super::check::IMAGE_LIMIT;
-use super::walk::{Step, Walk, step_over};
+use super::walk::{Walk, step_over};
 use buffer::push;
 
 // Whether the walk's numbers are in range and so many bytes have room after its place: in the buffer, and in an image.
@@ -22,23 +22,19 @@ fn has_room(walk: Walk, size: usize, room: usize) -> bool
     walk.at + size <= room
 }
 
-// Appends bytes to the image that the walk has passed, if they are one frame and nothing else, which keeps all rules after the frames before.
-// A refusal leaves walk and buffer as they are.
-pub fn add_frame(walk: Walk, bytes: &[u8], buffer: &mut [u8]) -> Step
+// Appends bytes to the image that the walk has passed, if they are one frame and nothing else, which keeps all rules after the frames before: the walk
+// after it. A refusal leaves the buffer as it is, and the walk is still where it stands.
+pub fn add_frame(walk: Walk, bytes: &[u8], buffer: &mut [u8]) -> Option<Walk>
     ensures { Grows walk bytes.now buffer.old result buffer.new }
 {
     if !has_room(walk, bytes.len(), buffer.len()) {
-        return Step { walk, ok: false };
+        return None;
     }
-    let step = step_over(buffer, walk, bytes);
-    if !step.ok {
-        return step;
-    }
-    let next = step.walk;
+    let next = step_over(buffer, walk, bytes)?;
     let at = walk.at;
     if next.at != at + bytes.len() {
-        return Step { walk, ok: false };
+        return None;
     }
     push(bytes, buffer, at);
-    step
+    Some(next)
 }

@@ -7,7 +7,7 @@ mod command;
 mod growing;
 mod walk;
 
-pub use check::{Checked, IMAGE_LIMIT, Tested, check_tree, find_command};
-pub use command::{Found, Place};
+pub use check::{BadFrame, IMAGE_LIMIT, check_tree, find_command};
+pub use command::Place;
 pub use growing::add_frame;
-pub use walk::{Step, Walk, step_over};
+pub use walk::{Walk, step_over};

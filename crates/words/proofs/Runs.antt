@@ -1,4 +1,5 @@
 -- What a step reads: a single character, or a run of characters that are all taken.
+use Rattle.std.specs.Prelude.{Some, None}
 use Prim.Native.Nat.{ℕ, ◌+◌, ◌-◌, ◌≤◌, ◌<◌}
 use mathlib.Core.Path.{◌≡◌, refl, sym, ap, ◌∙◌}
 use mathlib.Core.Bool.{Bool, true, false, cond, not}
@@ -8,7 +9,7 @@ use lib.Dec.{leb, eqb}
 use borrow.Author.Tests.{leb-false, ne_eqb, not-true}
 use Rattle.text.proofs.TableRows.{decode_ascii}
 use Rattle.text.proofs.Spaces.{all_below, below_passes}
-use Rattle.text.proofs.Letters.{Letter, letter_told}
+use Rattle.text.proofs.Letters.{Letter, letter_told, none_is_not_some}
 use Rattle.text.proofs.Encoding.{below_or_not}
 use mathlib.Core.Logic.{⊎_elim}
 use Rattle.buffer.proofs.Lists.{drop_step, drop_end}
@@ -25,10 +26,8 @@ use Rattle.words.specs.declared.role.Role.{Role}
 use Rattle.words.specs.declared.role.Role.TheVariants.{Take, Escape, Toggle, Gap}
 use Rattle.words.specs.declared.counting.Scan.{Scan}
 use Rattle.words.specs.Tokens.{backslash, quote, role_of, tokens_from}
-use Rattle.words.specs.Inner.{done_by, is_take, run_first, Reading, StepOf, Run, WholeRun}
+use Rattle.words.specs.Inner.{done_by, is_take, run_first, Reading, Run, WholeRun}
 use Rattle.words.specs.Ordinary.{ordinary, ordinary_first}
-use Rattle.words.specs.declared.step.Step.{Step}
-use Rattle.words.specs.declared.step.Step.TheVariants.{Go, IllFormed}
 
 codes_on : (line : List ℕ) (at code n : ℕ) → decode_first (drop at line) ≡ Character code n → codes_in (drop at line) ≡ code ∷ codes_in (drop (at + n) line)
 codes_on line at code n d = codes_step (drop at line) code n d ∙ ap (λ (l : List ℕ). code ∷ codes_in l) (drop-drop n at line)
@@ -252,20 +251,20 @@ ordinary_letter s n l =
     }
 
 -- the ordinary character at a place
-pub ordinary_end : (s : List ℕ) (at : ℕ) → length s ≤ at → ordinary_first (drop at s) ≡ 0
+pub ordinary_end : (s : List ℕ) (at : ℕ) → length s ≤ at → ordinary_first (drop at s) ≡ None
 unfolding ordinary_first
 ordinary_end s at h = rw (drop_end s at h)
 
-pub ordinary_is : (s : List ℕ) (at : ℕ) (t : Bool) → at < length s → ordinary (get_or s at 0) ≡ t → ordinary_first (drop at s) ≡ cond t 1 (letter_first (drop at s))
+pub ordinary_is : (s : List ℕ) (at : ℕ) (t : Bool) → at < length s → ordinary (get_or s at 0) ≡ t → ordinary_first (drop at s) ≡ cond t (Some 1) (letter_first (drop at s))
 unfolding ordinary_first
 ordinary_is s at t h e = rw (drop_step s at 0 h, e)
 
-pub ordinary_told : (s : List ℕ) (at n : ℕ) → n ≡ ordinary_first (drop at s) → (n ≡ 0 → ⊥) → Ordinary (drop at s) n
-ordinary_told s at n e some = ⊎_elim (λ (h : at < length s). by h (ordinary (get_or s at 0)) refl) (λ (h : length s ≤ at). absurd (some (e ∙ ordinary_end s at h))) (below_or_not at (length s))
+pub ordinary_told : (s : List ℕ) (at n : ℕ) → Some n ≡ ordinary_first (drop at s) → Ordinary (drop at s) n
+ordinary_told s at n e = ⊎_elim (λ (h : at < length s). by h (ordinary (get_or s at 0)) refl) (λ (h : length s ≤ at). absurd (none_is_not_some n (sym (e ∙ ordinary_end s at h)))) (below_or_not at (length s))
   where
     by : at < length s → (t : Bool) → ordinary (get_or s at 0) ≡ t → Ordinary (drop at s) n
-    by h true k = rw (e ∙ ordinary_is s at true h k) (ordinary_byte s at h k)
-    by h false k = ordinary_letter (drop at s) n (letter_told (drop at s) n (sym (e ∙ ordinary_is s at false h k)) some)
+    by h true k = let one : Some n ≡ Some 1 = e ∙ ordinary_is s at true h k in let same : n ≡ 1 = cc in rw same (ordinary_byte s at h k)
+    by h false k = ordinary_letter (drop at s) n (letter_told (drop at s) n (sym (e ∙ ordinary_is s at false h k)))
 
 -- it is taken, inside quotes or not
 takes : (quotes : Bool) (s : List ℕ) (n : ℕ) (o : Ordinary s n) → role_of quotes false o.code ≡ Take
@@ -277,12 +276,8 @@ pub run_ordinary : (line : List ℕ) (start : ℕ) (quotes : Bool) (at n : ℕ) 
 run_ordinary line start quotes at n r o =
     run_on line start quotes at (at + n) r (run_one line quotes at o.code n o.decodes (takes quotes (drop at line) n o))
 
-pub ordinary_fits : (line : List ℕ) (at n : ℕ) → n ≡ ordinary_first (drop at line) → (n ≡ 0 → ⊥) → at + n ≤ length line
-ordinary_fits line at n e some = let o = ordinary_told line at n e some in character_fits line at o.code n o.decodes
+pub ordinary_fits : (line : List ℕ) (at n : ℕ) → Some n ≡ ordinary_first (drop at line) → at + n ≤ length line
+ordinary_fits line at n e = let o = ordinary_told line at n e in character_fits line at o.code n o.decodes
 
--- what a step found, by its answer
-pub step_goes : (line : List ℕ) (s : Scan) (r : Step) (t : Role) (n : ℕ) → StepOf line s r → r ≡ Go t n → Reading line s t n
-step_goes line s r t n h e = rw e at h
-
-pub step_stops : (line : List ℕ) (s : Scan) (r : Step) → StepOf line s r → r ≡ IllFormed → codes_in (drop s.at line) ≡ []
-step_stops line s r h e = rw e at h
+pub ordinary_some : (line : List ℕ) (at n : ℕ) → Some n ≡ ordinary_first (drop at line) → 0 < n
+ordinary_some line at n e = let o = ordinary_told line at n e in character_some (drop at line) o.code n o.decodes

@@ -19,7 +19,7 @@ use Rattle.words.specs.declared.counting.Scan.{Scan}
 use Rattle.words.specs.Tokens.{role_of, on_role, tokens_from, tokens, words_of, word_frames}
 use Rattle.words.specs.Answer.{written}
 use Rattle.words.specs.Inner.{closed_at, closed_by, advanced, measured, done_by, Reading}
-use Rattle.words.specs.declared.tokenizer.Measured.TheVariants.{Needs, IllFormed}
+use Rattle.std.specs.Prelude.{Ok, Err}
 use Rattle.buffer.proofs.Choices.{then_is, else_is}
 use borrow.Author.Tests.{lt-ltb, le-ltb}
 use mathlib.Core.Logic.{⊎_elim}
@@ -193,11 +193,11 @@ module _ (line : List ℕ) (s : Scan) (h : Standing line s) (end : length line �
       let z = prefix_none (drop s.at line) (codes_end line s.at end) in
       omega arith
 
-  pub measured_whole : measured line ≡ Needs (closed_by s)
+  pub measured_whole : measured line ≡ Ok (closed_by s)
   unfolding measured
   measured_whole =
       let w = well_formed_ended in
-      else_is _ _ _ (le-ltb (well_formed_length line) (length line) (omega arith)) ∙ ap Needs length_ended
+      else_is _ _ _ (le-ltb (well_formed_length line) (length line) (omega arith)) ∙ ap Ok length_ended
 
 -- no character follows, and the line goes on
 module _ (line : List ℕ) (s : Scan) (h : Standing line s) (on : s.at < length line) (stop : codes_in (drop s.at line) ≡ []) where
@@ -207,11 +207,11 @@ module _ (line : List ℕ) (s : Scan) (h : Standing line s) (on : s.at < length 
       let z = prefix_none (drop s.at line) stop in
       omega arith
 
-  pub measured_broken : measured line ≡ IllFormed s.at
+  pub measured_broken : (place : ℕ) → place ≡ s.at → measured line ≡ Err place
   unfolding measured
-  measured_broken =
+  measured_broken place e =
       let w = prefix_ends in
-      then_is _ _ _ (lt-ltb (well_formed_length line) (length line) (omega arith)) ∙ ap IllFormed w
+      then_is _ _ _ (lt-ltb (well_formed_length line) (length line) (omega arith)) ∙ ap Err (w ∙ sym e)
 
 -- what comes takes at least what the open word takes once it ends
 longer_word : (word : List ℕ) (code : ℕ) → length (shown (unless_empty word [])) ≤ length (shown (unless_empty (word ++ (code ∷ [])) []))

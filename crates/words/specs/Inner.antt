@@ -1,5 +1,5 @@
 -- What only contracts of inner functions cite: how the code goes through a line, twice by the same steps: what a step does to its numbers, and to the buffer.
-use Rattle.std.specs.Prelude.{ℕ, zero, suc, ◌+◌, ◌-◌, ◌≤◌, ◌<◌, ◌≡◌, Bool, true, false, cond, not, List, [], ◌∷◌, ◌++◌, length, take, drop}
+use Rattle.std.specs.Prelude.{ℕ, zero, suc, ◌+◌, ◌-◌, ◌≤◌, ◌<◌, ◌≡◌, Bool, true, false, cond, not, List, [], ◌∷◌, ◌++◌, length, take, drop, Result, Ok, Err}
 use Rattle.buffer.specs.Write.{over_at}
 use Rattle.buffer.specs.Numbers.{number_bytes}
 use Rattle.text.specs.Decoding.{codes_in, well_formed_length, is_ill_formed}
@@ -7,10 +7,7 @@ use Rattle.words.specs.Answer.{written}
 use Rattle.words.specs.declared.role.Role.{Role}
 use Rattle.words.specs.declared.role.Role.TheVariants.{Take, Escape, Toggle, Gap}
 use Rattle.words.specs.declared.counting.Scan.{Scan}
-use Rattle.words.specs.declared.tokenizer.Measured.{Measured}
-use Rattle.words.specs.declared.tokenizer.Measured.TheVariants.{Needs, IllFormed as Broken}
 use Rattle.words.specs.declared.step.Step.{Step}
-use Rattle.words.specs.declared.step.Step.TheVariants.{Go, IllFormed}
 use Rattle.text.specs.Unicode.{encode_all}
 use Rattle.text.specs.Apart.{unless_empty}
 use Rattle.words.specs.Tokens.{role_of, tokens_from}
@@ -59,9 +56,9 @@ pub record Reading (line : List ℕ) (s : Scan) (role : Role) (n : ℕ) : Type 0
   pub does : (word rest : List ℕ) → tokens_from word s.quotes s.escaped (run ++ rest) ≡ done_by role s.quotes word run rest
 
 -- a step reads characters, or stands where the line is ill-formed
-abbrev pub StepOf : List ℕ → Scan → Step → Type 0
-StepOf line s (Go role n) = Reading line s role n
-StepOf line s IllFormed = codes_in (drop s.at line) ≡ []
+abbrev pub StepOf : List ℕ → Scan → Result Step ℕ → Type 0
+StepOf line s (Ok step) = Reading line s step.role step.length
+StepOf line s (Err place) = (place ≡ s.at) × (codes_in (drop s.at line) ≡ [])
 
 -- a run: the characters from a place to another that are all taken, whatever stood before them, up to one that is not
 pub record Run (line : List ℕ) (start : ℕ) (quotes : Bool) (at : ℕ) : Type 0 where
@@ -89,6 +86,6 @@ put_by line s Escape n out = out
 put_by line s Toggle n out = out
 put_by line s Gap n out = headed s.done s.word out
 
--- what measuring a line finds
-unfoldable pub measured : List ℕ → Measured
-measured line = cond (is_ill_formed line) (Broken (well_formed_length line)) (Needs (length (written line)))
+-- what measuring a line finds: the length of its frames, or where it is ill-formed
+unfoldable pub measured : List ℕ → Result ℕ ℕ
+measured line = cond (is_ill_formed line) (Err (well_formed_length line)) (Ok (length (written line)))

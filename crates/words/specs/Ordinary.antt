@@ -1,5 +1,5 @@
 -- Ordinary characters: those that are taken anywhere in a line.
-use Rattle.std.specs.Prelude.{ℕ, Bool, false, cond, not, List, [], ◌∷◌, eqb, leb}
+use Rattle.std.specs.Prelude.{ℕ, Bool, false, cond, not, List, [], ◌∷◌, eqb, leb, Some, None, Option}
 use Rattle.text.specs.Decoding.{letter_first}
 use Rattle.words.specs.Tokens.{backslash, quote}
 
@@ -7,7 +7,7 @@ use Rattle.words.specs.Tokens.{backslash, quote}
 unfoldable pub ordinary : ℕ → Bool
 ordinary b = cond (leb b 0x20) false (cond (leb 0x7F b) false (cond (eqb b quote) false (not (eqb b backslash))))
 
--- the length of the ordinary character that a text begins with, an ASCII character or a letter; 0 if it begins with any other
-unfoldable pub ordinary_first : List ℕ → ℕ
-ordinary_first [] = 0
-ordinary_first (a ∷ s) = cond (ordinary a) 1 (letter_first (a ∷ s))
+-- the length of the ordinary character that a text begins with, an ASCII character or a letter; none if it begins with any other
+unfoldable pub ordinary_first : List ℕ → Option ℕ
+ordinary_first [] = None
+ordinary_first (a ∷ s) = cond (ordinary a) (Some 1) (letter_first (a ∷ s))

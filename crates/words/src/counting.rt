@@ -44,38 +44,28 @@ impl Scan {
         requires { (closed_by self ≤ 4 * self.at) × (self.at + n ≤ line_limit) }
         ensures { result ≡ advanced self role n }
     {
-        let at = self.at + n;
-        let done = self.done;
-        let word = self.word;
-        let quotes = self.quotes;
+        let next = Scan {
+            at: self.at + n,
+            escaped: false,
+            ..self
+        };
         match role {
             Role::Take => Scan {
-                at,
-                done,
-                word: word + n,
-                quotes,
-                escaped: false,
+                word: self.word + n,
+                ..next
             },
             Role::Escape => Scan {
-                at,
-                done,
-                word,
-                quotes,
                 escaped: true,
+                ..next
             },
             Role::Toggle => Scan {
-                at,
-                done,
-                word,
-                quotes: !quotes,
-                escaped: false,
+                quotes: !self.quotes,
+                ..next
             },
             Role::Gap => Scan {
-                at,
-                done: closed(done, word),
+                done: closed(self.done, self.word),
                 word: 0,
-                quotes,
-                escaped: false,
+                ..next
             },
         }
     }

@@ -7,4 +7,4 @@ mod step;
 mod tokenizer;
 
 pub use step::ordinary_at;
-pub use tokenizer::{Tokens, tokenize};
+pub use tokenizer::{TokenizeRefusal, tokenize};

@@ -15,6 +15,7 @@ pub enum Role {
 }
 
 // What a character does inside quotes or not, after `\` or not.
+#[tactic(auto, unfolding(crate::specs::Tokens::role_of))]
 pub fn role_of(quotes: bool, escaped: bool, code: u32) -> Role
     ensures { result ≡ role_of quotes escaped code }
 {

@@ -7,39 +7,30 @@ use super::counting::Scan;
 use super::role::{Role, role_of};
 use text::{Decoded, decode, letter_at};
 
-// What a step finds: characters that fill a length and together do one thing, or no character.
+// What a step finds: characters that fill a length and together do one thing.
 #[derive(Clone, Copy)]
-pub enum Step {
-    Go { role: Role, length: usize },
-    IllFormed,
+pub struct Step {
+    pub role: Role,
+    pub length: usize,
 }
 
 // Whether a byte is an ASCII character that is taken anywhere: neither white space nor a control nor `"` nor `\`.
 fn is_ordinary(byte: u8) -> bool
     ensures { result ≡ ordinary byte }
 {
-    if byte <= 0x20 {
-        return false;
-    }
-    if 0x7F <= byte {
-        return false;
-    }
-    if byte == 0x22 {
-        return false;
-    }
-    byte != 0x5C
+    !matches!(byte, 0..=0x20 | 0x22 | 0x5C | 0x7F..)
 }
 
 // The length of the character at a place if it is taken anywhere, as far as its bytes show it without a decoder: an ordinary
-// ASCII character or a letter. 0 for any other.
-pub fn ordinary_at(line: &[u8], at: usize) -> usize
+// ASCII character or a letter.
+pub fn ordinary_at(line: &[u8], at: usize) -> Option<usize>
     ensures { result ≡ ordinary_first (drop at line.now) }
 {
     if line.len() <= at {
-        return 0;
+        return None;
     }
     if is_ordinary(line[at]) {
-        return 1;
+        return Some(1);
     }
     letter_at(line, at)
 }
@@ -50,11 +41,7 @@ fn ordinary_end(line: &[u8], start: usize) -> usize
     ensures { (quotes : Bool) → Run line.now start quotes result }
 {
     let mut at = start;
-    while at < line.len() {
-        let n = ordinary_at(line, at);
-        if n == 0 {
-            return at;
-        }
+    while let Some(n) = ordinary_at(line, at) {
         at += n;
     }
     at
@@ -78,21 +65,22 @@ fn run_end(line: &[u8], start: usize, quotes: bool) -> usize
     at
 }
 
-// The step from where a scan stands in its line: what a character does, and those after it that are taken with it.
-pub fn step_of(line: &[u8], scan: Scan) -> Step
+// The step from where a scan stands in its line: what a character does, and those after it that are taken with it. `Err` with
+// the place if no character stands there.
+pub fn step_of(line: &[u8], scan: Scan) -> Result<Step, usize>
     requires { scan.at < length line.now }
     ensures { StepOf line.now scan result }
 {
     let at = scan.at;
     let Decoded::Character { code, length } = decode(line, at) else {
-        return Step::IllFormed;
+        return Err(at);
     };
     let role = role_of(scan.quotes, scan.escaped, code);
     let Role::Take = role else {
-        return Step::Go { role, length };
+        return Ok(Step { role, length });
     };
-    Step::Go {
+    Ok(Step {
         role,
         length: run_end(line, at + length, scan.quotes) - at,
-    }
+    })
 }

@@ -8,16 +8,14 @@ ghost use Rattle.frame.specs.Limits.{frames_limit, line_limit};
 
 use super::counting::{Scan, closed};
 use super::role::Role;
-use super::step::{Step, step_of};
+use super::step::step_of;
 use buffer::{push, push_byte};
 use frame::{LINE_LIMIT, told_length};
 use text::well_formed_prefix;
 
-// What tokenizing a line answers.
+// Why a line is not split into words.
 #[derive(Clone, Copy)]
-pub enum Tokens {
-    // The frames of its words, so many bytes.
-    Words(usize),
+pub enum TokenizeRefusal {
     // It has over 1,024 bytes: its length, 65,535 if more.
     LineTooLong(usize),
     // It is ill-formed: the length of its longest well-formed prefix.
@@ -26,25 +24,17 @@ pub enum Tokens {
     NoRoom(usize),
 }
 
-// What measuring a line finds: the length of its frames, or where it is ill-formed.
-#[derive(Clone, Copy)]
-enum Measured {
-    Needs(usize),
-    IllFormed(usize),
-}
-
-fn measure(line: &[u8]) -> Measured
+// The length of a line's frames, or `Err` with where it is ill-formed.
+fn measure(line: &[u8]) -> Result<usize, usize>
     requires { length line.now ≤ line_limit }
     ensures { result ≡ measured line.now }
 {
     let mut scan = Scan::start();
     while scan.at < line.len() {
-        let Step::Go { role, length } = step_of(line, scan) else {
-            return Measured::IllFormed(scan.at);
-        };
-        scan = scan.advance(role, length);
+        let step = step_of(line, scan)?;
+        scan = scan.advance(step.role, step.length);
     }
-    Measured::Needs(closed(scan.done, scan.word))
+    Ok(closed(scan.done, scan.word))
 }
 
 // Writes the head of a word's frame in front of its bytes; an empty word has none.
@@ -73,8 +63,7 @@ fn put(line: &[u8], scan: Scan, role: Role, n: usize, out: &mut [u8])
             push(&line[from..end], out, scan.done + 3 + scan.word);
         }
         Role::Gap => end_word(scan.done, scan.word, out),
-        Role::Escape => {}
-        Role::Toggle => {}
+        Role::Escape | Role::Toggle => {}
     }
 }
 
@@ -87,50 +76,50 @@ fn write(line: &[u8], out: &mut [u8]) -> usize
 {
     let mut scan = Scan::start();
     while scan.at < line.len() {
-        let Step::Go { role, length } = step_of(line, scan) else {
+        let Ok(step) = step_of(line, scan) else {
             return scan.done;
         };
-        put(line, scan, role, length, out);
-        scan = scan.advance(role, length);
+        put(line, scan, step.role, step.length, out);
+        scan = scan.advance(step.role, step.length);
     }
     end_word(scan.done, scan.word, out);
     closed(scan.done, scan.word)
 }
 
 // The words of a line whose buffer may be too short for them: measured first.
-fn split_measured(line: &[u8], out: &mut [u8]) -> Tokens
+fn split_measured(line: &[u8], out: &mut [u8]) -> Result<usize, TokenizeRefusal>
     requires { length line.now ≤ line_limit }
     ensures { Tokenized line.now out.old result out.new }
 {
     match measure(line) {
-        Measured::IllFormed(place) => Tokens::IllFormed(place),
-        Measured::Needs(needed) => {
+        Err(place) => Err(TokenizeRefusal::IllFormed(place)),
+        Ok(needed) => {
             if out.len() < needed {
-                return Tokens::NoRoom(needed);
+                return Err(TokenizeRefusal::NoRoom(needed));
             }
-            Tokens::Words(write(line, out))
+            Ok(write(line, out))
         }
     }
 }
 
 // The words of a line whose buffer has room for the words of any such line: one pass fewer.
-fn split_roomy(line: &[u8], out: &mut [u8]) -> Tokens
+fn split_roomy(line: &[u8], out: &mut [u8]) -> Result<usize, TokenizeRefusal>
     requires { (length line.now ≤ line_limit) × (4 * length line.now ≤ length out.old) }
     ensures { Tokenized line.now out.old result out.new }
 {
     let place = well_formed_prefix(line);
     if place < line.len() {
-        return Tokens::IllFormed(place);
+        return Err(TokenizeRefusal::IllFormed(place));
     }
-    Tokens::Words(write(line, out))
+    Ok(write(line, out))
 }
 
 // The words of a line as frames of kind 14, at the front of out.
-pub fn tokenize(line: &[u8], out: &mut [u8]) -> Tokens
+pub fn tokenize(line: &[u8], out: &mut [u8]) -> Result<usize, TokenizeRefusal>
     ensures { Tokenized line.now out.old result out.new }
 {
     if LINE_LIMIT < line.len() {
-        return Tokens::LineTooLong(told_length(line.len()));
+        return Err(TokenizeRefusal::LineTooLong(told_length(line.len())));
     }
     if 4 * line.len() <= out.len() {
         return split_roomy(line, out);

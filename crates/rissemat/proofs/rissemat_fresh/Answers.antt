@@ -3,4 +3,4 @@ use Rattle.rissemat.proofs.rissemat_fresh.Goals as goal
 
 pub returns : goal.returns
 returns c =
-    rw c.profile_number.ensures at c.rissemat_fresh_with.ensures
+    rw c.from.ensures at c.rissemat_fresh_with.ensures

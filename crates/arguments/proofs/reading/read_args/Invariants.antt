@@ -8,7 +8,7 @@ use Rattle.arguments.proofs.reading.read_args.Given as goal
 
 abbrev pub invariant-loop-at : goal.invariant-loop-at
 invariant-loop-at l =
-    ArgsAt l.words l.image (definitions_at l.image l.from) l.start l.initial.rest l.rest (held l.options l.flags l.stage) l.at × Fit l.stage.options l.options × Fit l.stage.flags l.flags
+    ArgsAt l.node.words.now l.node.image.now (definitions_at l.node.image.now l.node.from) l.start l.initial.rest l.rest (held l.options l.flags l.stage) l.at × Fit l.stage.options l.options × Fit l.stage.flags l.flags
 
 abbrev pub decreases-loop-at : goal.decreases-loop-at
-decreases-loop-at l = length l.words - l.at
+decreases-loop-at l = length l.node.words.now - l.at

@@ -1,4 +1,4 @@
--- `buffer::scan::most` meets its contract. The whole blocks and the last 32 bytes cover the part.
+-- `buffer::maximum::greatest_byte` meets its contract. The whole blocks and the last 32 bytes cover the part.
 use native.Mathlib.Omega.{arith}
 use Prim.Native.Nat.{ℕ, ◌-◌, ◌*◌, ◌/◌, ◌≤◌}
 use mathlib.Core.List.{List}
@@ -20,4 +20,4 @@ returns c =
     let k : length s - 32 ≤ length s / 32 * 32 = omega arith in
     let l = rest_lent s (length s - 32) in
     let m = greatest_covered s (length s / 32 * 32) (length s - 32) k in
-    c.greater.ensures ∙ cc (pass2.ensures, c.pass-3.ensures)
+    c.max.ensures ∙ cc (pass2.ensures, c.pass-3.ensures)

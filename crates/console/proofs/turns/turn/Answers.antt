@@ -17,16 +17,8 @@ pub returns-then-not-write_out : goal.returns-then-not-write_out
 returns-then-not-write_out c =
     turn_stops _ _ _ _ _ _ c.requires _ (c.rest-piece.ensures ∙ ap (drop c.args.console.at) c.part.ensures) _ _ _ _ _ c.step-made.ensures _ c.stopped.ensures
 
-pub returns-then-stream : goal.returns-then-stream
-returns-then-stream c =
-    turn_stops _ _ _ _ _ _ c.requires _ (c.rest-piece.ensures ∙ ap (drop c.args.console.at) c.part.ensures) _ _ _ _ _ c.step-made.ensures _ c.stopped-then-stream.ensures
-
 pub returns-then-next-end : goal.returns-then-next-end
 returns-then-next-end c =
-    turn_goes _ _ _ _ _ _ c.requires _ (c.rest-piece.ensures ∙ ap (drop c.args.console.at) c.part.ensures) _ _ _ _ _ c.step-made.ensures
-
-pub returns-then-is_busy : goal.returns-then-is_busy
-returns-then-is_busy c =
     turn_goes _ _ _ _ _ _ c.requires _ (c.rest-piece.ensures ∙ ap (drop c.args.console.at) c.part.ensures) _ _ _ _ _ c.step-made.ensures
 
 pub read_on-requires : goal.read_on-requires

@@ -7,21 +7,17 @@ use mathlib.Core.Path.{sym}
 use lib.Seq.{length-take-le}
 use Rattle.editor.proofs.drawing.redraw.Goals as goal
 
-pub slice_bounds-line-end : goal.slice_bounds-line-end
-slice_bounds-line-end c =
-    omega (arith, c.requires.0, c.requires.1)
-
 pub slice_bounds-shown_part-end : goal.slice_bounds-shown_part-end
 slice_bounds-shown_part-end c =
     sym (length-take-le _ c.args.goes.line (omega (arith, c.requires.0, c.requires.1)))
 
-pub returns-in-Shown : goal.returns-in-Shown
+pub returns-in-Ok : goal.returns-in-Ok
 unfolding line_of
-returns-in-Shown c =
-    redraw_fits c.args.prompt.now (content (line_of c.args.goes)) _ _ _ _ _ c.args.screen.now _ _ (told_as c.args.prompt.now _ (content (line_of c.args.goes)) _ c.args.screen.now _ _ _ c.shown_part.ensures c.in-Shown.is c.clear_line_and_redraw.ensures)
+returns-in-Ok c =
+    rw c.answers.ensures (redraw_fits c.args.prompt.now (content (line_of c.args.goes)) _ c.args.stays c.args.before c.args.goes c.args.history c.args.screen.now _ _ (told_as c.args.prompt.now _ (content (line_of c.args.goes)) _ c.args.screen.now _ _ _ c.shown_part-shown.ensures c.in-Ok.is c.clear_line_and_redraw.ensures))
 
-pub returns-in-NoRoom : goal.returns-in-NoRoom
+pub returns-in-Err : goal.returns-in-Err
 unfolding line_of
-returns-in-NoRoom c =
+returns-in-Err c =
     let h = line_short c.args.goes 255 (within_limit _ c.requires.0) in
-    redraw_short c.args.prompt.now (content (line_of c.args.goes)) _ _ _ _ _ c.args.screen.now _ _ (omega (arith, c.requires.2)) (told_as c.args.prompt.now _ (content (line_of c.args.goes)) _ c.args.screen.now _ _ _ c.shown_part.ensures c.in-NoRoom.is c.clear_line_and_redraw.ensures)
+    rw c.answers-in-Err.ensures (redraw_short c.args.prompt.now (content (line_of c.args.goes)) _ c.args.stays c.args.before c.args.goes c.args.history c.args.screen.now _ _ (omega (arith, c.requires.2)) (told_as c.args.prompt.now _ (content (line_of c.args.goes)) _ c.args.screen.now _ _ _ c.shown_part-shown.ensures c.in-Err.is c.clear_line_and_redraw.ensures))

@@ -7,8 +7,8 @@ use Rattle.editor.proofs.drawing.show_arrow.Goals as goal
 
 pub returns-then-screen-lt3 : goal.returns-then-screen-lt3
 returns-then-screen-lt3 c =
-    shows_short (arrow c.args.byte) _ _ _ _ c.args.screen.now _ c.if-screen-lt3.true refl
+    rw c.answers.ensures (shows_short (arrow c.args.byte) c.args.stays c.args.history c.args.goes c.args.history c.args.screen.now _ c.if-screen-lt3.true refl)
 
 pub returns : goal.returns
 returns c =
-    shows_fits (arrow c.args.byte) _ _ _ _ c.args.screen.now _ c.if-screen-lt3.false (c.push.ensures.bytes ∙ over_at_front _ _)
+    rw c.answers-2.ensures (shows_fits (arrow c.args.byte) c.args.stays c.args.history c.args.goes c.args.history c.args.screen.now _ c.if-screen-lt3.false (c.push.ensures.bytes ∙ over_at_front _ _))

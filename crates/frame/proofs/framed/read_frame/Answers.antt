@@ -12,4 +12,4 @@ returns-in_default c =
 
 pub returns : goal.returns
 returns c =
-    sym (first_at c.args.s.now c.args.at _ c.if-s-at.false (sym c.in-Sized.ensures))
+    sym (first_at c.args.s.now c.args.at _ c.if-s-at.false (sym c.in-Some.ensures))

@@ -4,23 +4,14 @@ use Rattle.frame.specs.Hex.{hex_of}
 use Rattle.buffer.proofs.Lending.{copy_end}
 use native.Mathlib.Omega.{arith}
 use Prim.Native.Nat.{ℕ, ◌*◌}
-use mathlib.Core.Path.{refl, ◌∙◌}
+use mathlib.Core.Path.{◌∙◌}
 use mathlib.Core.List.{List}
 use lib.ListN.{length-set}
 use Rattle.frame.proofs.hex.hex_into.Goals as goal
 
-pub loop-i-init : goal.loop-i-init
-loop-i-init c = (omega arith, refl, refl)
-
-pub hex_digit-requires : goal.hex_digit-requires
-hex_digit-requires c = omega (arith, c.shared_slice_known-in-loop-i-1.given c.loop-i.i)
-
 pub bounds-out-i : goal.bounds-out-i
 bounds-out-i c =
     omega (arith, c.requires, length_hex_of c.args.bytes.now)
-
-pub hex_digit-requires-in-loop-i : goal.hex_digit-requires-in-loop-i
-hex_digit-requires-in-loop-i c = omega (arith, c.shared_slice_known-in-loop-i-2-1.given c.loop-i.i)
 
 pub bounds-out-i-in-loop-i : goal.bounds-out-i-in-loop-i
 bounds-out-i-in-loop-i c =
@@ -28,8 +19,8 @@ bounds-out-i-in-loop-i c =
 
 pub loop-i-preserved : goal.loop-i-preserved
 loop-i-preserved c =
-    let turn = hex_step c.args.bytes.now c.args.out.now c.loop-i.i _ _ c.loop-i-test.true c.requires c.hex_digit.ensures c.hex_digit-in-loop-i.ensures in
-    (omega arith, simp length-set c.loop-i.invariant.1, rw c.loop-i.invariant.2 turn)
+    let turn = hex_step c.args.bytes.now c.args.out.now c.loop-i.i _ _ (omega arith) c.requires c.hex_digit.ensures c.hex_digit-in-loop-i.ensures in
+    (simp length-set c.loop-i.invariant.0, rw c.loop-i.invariant.1 turn)
 
 pub returns : goal.returns
 returns c =
@@ -37,5 +28,5 @@ returns c =
     let l = length_hex_of b in
     record {
       count = omega arith;
-      bytes = c.loop-i.invariant.2 ∙ copy_end (hex_of b) _ (2 * c.loop-i.i) (omega arith) (omega arith);
+      bytes = c.loop-i.invariant.1 ∙ copy_end (hex_of b) _ (2 * c.loop-i.i) (omega arith) (omega arith);
     }

@@ -4,8 +4,8 @@ use Prim.Native.Nat.{◌-◌}
 use lib.ListN.{length}
 use Rattle.help.proofs.path.follow.Given as goal
 
-abbrev pub invariant-loop-place : goal.invariant-loop-place
-invariant-loop-place l = OnPath l.image l.line l.start l.end l.depth l.place
+abbrev pub invariant-loop-word : goal.invariant-loop-word
+invariant-loop-word l = OnPath l.image l.line l.reached.start l.reached.end l.depth l.place
 
-abbrev pub decreases-loop-place : goal.decreases-loop-place
-decreases-loop-place l = length l.line - l.place
+abbrev pub decreases-loop-word : goal.decreases-loop-word
+decreases-loop-word l = length l.line - l.place

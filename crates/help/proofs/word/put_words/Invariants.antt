@@ -4,8 +4,8 @@ use Prim.Native.Nat.{◌-◌}
 use lib.ListN.{length}
 use Rattle.help.proofs.word.put_words.Given as goal
 
-abbrev pub invariant-loop-place : goal.invariant-loop-place
-invariant-loop-place l = OnLine l.line l.initial.out l.at l.out l.place l.end
+abbrev pub invariant-loop-word : goal.invariant-loop-word
+invariant-loop-word l = OnLine l.line l.initial.out l.at l.out l.place l.end
 
-abbrev pub decreases-loop-place : goal.decreases-loop-place
-decreases-loop-place l = length l.line - l.place
+abbrev pub decreases-loop-word : goal.decreases-loop-word
+decreases-loop-word l = length l.line - l.place

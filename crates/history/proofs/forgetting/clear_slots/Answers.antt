@@ -12,7 +12,7 @@ use Rattle.history.proofs.forgetting.clear_slots.Goals as goal
 
 pub loop-i-init : goal.loop-i-init
 loop-i-init c =
-    (omega arith, c.requires.2, refl, none_cleared (256 * (c.args.start - c.args.start)) (turned c.args.first c.args.slots.now) (256 * c.args.start) (omega arith))
+    none_cleared (256 * (c.args.start - c.args.start)) (turned c.args.first c.args.slots.now) (256 * c.args.start) (omega arith)
 
 pub overflow_add-next : goal.overflow_add-next
 overflow_add-next c =
@@ -26,9 +26,9 @@ clear-requires c =
 
 pub loop-i-preserved : goal.loop-i-preserved
 loop-i-preserved c =
-    (omega arith, omega arith, c.clear.auto.out ∙ c.loop-i.invariant.2, wipe_turn c.args.first (turned c.args.first c.args.slots.now) c.requires.1 (length_turned c.args.first c.args.slots.now ∙ c.requires.0) c.loop-i.slots _ c.args.start c.loop-i.i c.place_of-at.result _ (c.loop-i.invariant.2 ∙ c.requires.0) c.loop-i.invariant.0 (omega arith) c.place_of-at.ensures refl c.loop-i.invariant.3 c.clear.ensures)
+    wipe_turn c.args.first (turned c.args.first c.args.slots.now) c.requires.1 (length_turned c.args.first c.args.slots.now ∙ c.requires.0) c.loop-i.slots _ c.args.start c.loop-i.i c.place_of-at.result _ (c.loop-i.auto.slots ∙ c.requires.0) c.loop-i.auto.i (omega arith) c.place_of-at.ensures refl c.loop-i.invariant c.clear.ensures
 
 pub returns : goal.returns
 returns c =
     let e : c.loop-i.i ≡ c.args.end = omega arith in
-    c.loop-i.invariant.3 ∙ ap (λ (n : ℕ). over_at (zeros (256 * (n - c.args.start))) (turned c.args.first c.args.slots.now) (256 * c.args.start)) e
+    c.loop-i.invariant ∙ ap (λ (n : ℕ). over_at (zeros (256 * (n - c.args.start))) (turned c.args.first c.args.slots.now) (256 * c.args.start)) e

@@ -12,13 +12,13 @@ use Rattle.history.proofs.forgetting.total_of.Goals as goal
 
 pub loop-i-init : goal.loop-i-init
 loop-i-init c =
-    (omega arith, c.requires.1, total_none (journal_of c.args.history c.args.slots.now).entries c.args.start)
+    total_none (journal_of c.args.history c.args.slots.now).entries c.args.start
 
 pub overflow_add-sum : goal.overflow_add-sum
 overflow_add-sum c =
     let j = journal_of c.args.history c.args.slots.now in
     let g = good_total c.args.history c.args.slots.now c.requires.0 in
-    let t = total_cut c.args.start c.loop-i.i j.entries c.loop-i.invariant.0 in
+    let t = total_cut c.args.start c.loop-i.i j.entries c.loop-i.auto.i in
     let e = ap length c.recall.ensures in
     let f = fair_short j c.loop-i.i (good_fair c.args.history c.args.slots.now c.requires.0) in
     omega arith
@@ -26,11 +26,11 @@ overflow_add-sum c =
 pub loop-i-preserved : goal.loop-i-preserved
 loop-i-preserved c =
     let n = count_held c.args.history c.args.slots.now in
-    let on = total_on (journal_of c.args.history c.args.slots.now).entries c.args.start c.loop-i.i c.loop-i.invariant.0 (omega arith) in
+    let on = total_on (journal_of c.args.history c.args.slots.now).entries c.args.start c.loop-i.i c.loop-i.auto.i (omega arith) in
     let e = ap length c.recall.ensures in
-    (omega arith, omega arith, omega arith)
+    omega arith
 
 pub returns : goal.returns
 returns c =
     let e : c.loop-i.i ≡ c.args.end = omega arith in
-    c.loop-i.invariant.2 ∙ ap (λ (n : ℕ). total (take (n - c.args.start) (drop c.args.start (journal_of c.args.history c.args.slots.now).entries))) e
+    c.loop-i.invariant ∙ ap (λ (n : ℕ). total (take (n - c.args.start) (drop c.args.start (journal_of c.args.history c.args.slots.now).entries))) e

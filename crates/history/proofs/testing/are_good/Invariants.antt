@@ -6,7 +6,4 @@ use Rattle.history.proofs.Passing.{Judges, Tallies}
 use Rattle.history.proofs.testing.are_good.Given as goal
 
 abbrev pub invariant-loop-k : goal.invariant-loop-k
-invariant-loop-k l = (l.k ≤ l.count) × (l.at ≡ 256 * slot_after l.first l.k) × (l.before ≡ 256 * slot_after l.first (l.k - 1)) × Judges l.first l.slots l.count l.k × (l.sum ≤ 255 * l.k) × Tallies l.first l.slots l.count l.k l.sum
-
-abbrev pub decreases-loop-k : goal.decreases-loop-k
-decreases-loop-k l = l.count - l.k
+invariant-loop-k l = (l.at ≡ 256 * slot_after l.first l.k) × (l.before ≡ 256 * slot_after l.first (l.k - 1)) × Judges l.first l.slots l.count l.k × (l.sum ≤ 255 * l.k) × Tallies l.first l.slots l.count l.k l.sum

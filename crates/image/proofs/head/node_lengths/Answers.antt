@@ -4,8 +4,8 @@ use native.Mathlib.Omega.{arith}
 use Rattle.image.proofs.head.node_lengths.Goals as goal
 
 pub overflow_add-result-3 : goal.overflow_add-result-3
-overflow_add-result-3 c = omega (arith, span_least c.byte_at-other.result)
+overflow_add-result-3 c = omega (arith, rw (← c.other_of-other.ensures) at (span_least c.byte_at-usage.result))
 
 pub returns : goal.returns
 returns c =
-    node_lengths_are _ _ _ _ _ c.byte_at-name.ensures.byte c.byte_at-description.ensures.byte c.byte_at-other.ensures.byte c.span_of.ensures
+    node_lengths_are _ _ _ _ _ _ c.byte_at-name.ensures.byte c.byte_at-description.ensures.byte c.byte_at-usage.ensures.byte c.other_of-other.ensures c.span_of.ensures

@@ -1,15 +1,12 @@
--- `image::limits::each_shown` meets its contract: the worst so far and the worst of what is left give the worst of the text.
-use Rattle.image.proofs.Blocks.{strangest_step, block_decides}
-use native.Mathlib.Omega.{arith}
-use mathlib.Core.Path.{◌∙◌}
+-- `image::limits::each_shown` meets its contract: the fold over the text.
+use Rattle.std.proofs.Common.{rules, tests, ◌∙◌, ◌&&◌, Bool}
+use Rattle.std.proofs.lemmas.Iterator.{YieldsList-from_slice}
+use Rattle.std.proofs.lemmas.Iterator.Consumers.{fold_from_yields_List}
+use Rattle.image.specs.Limits.{is_shown}
+use Rattle.image.proofs.Blocks.{folded_shown}
 use Rattle.image.proofs.limits.each_shown.Goals as goal
 
-pub loop-i-init : goal.loop-i-init
-loop-i-init c = (omega arith, omega arith)
-
-pub loop-i-preserved : goal.loop-i-preserved
-loop-i-preserved c =
-    (omega arith, rw (c.worse-worst.ensures, c.outside.ensures) (strangest_step _ _ _ _ c.loop-i-test.true ∙ c.loop-i.invariant.1))
-
 pub returns : goal.returns
-returns c = block_decides _ _ _ _ c.loop-i-test.false c.loop-i.invariant.1
+returns c =
+    fold_from_yields_List _ (λ (x : Bool) b. x && is_shown c.args.low b) _ _ c.fold.ensures.ran (YieldsList-from_slice c.args.t.now cc) (λ a x b q k. search (rules, tests))
+    ∙ folded_shown c.args.low c.args.t.now

@@ -16,10 +16,10 @@ overflow_add-later c =
 
 pub returns-in_default-seek : goal.returns-in_default-seek
 returns-in_default-seek c =
-    let e = end_by_lem c.args.image.now c.args.start c.args.depth _ _ _ (sym c.in-Node.is ∙ c.head_at.ensures) _ _ c.part.ensures c.seek.ensures in
+    let e = end_by_lem c.args.image.now c.args.start c.args.depth _ _ _ (sym c.in-Node.is ∙ c.head_at.ensures) _ c.seek.ensures in
     sym (ap (or_end c.args.image.now) c.in_default-seek.is) ∙ e
 
 pub returns : goal.returns
 returns c =
-    let e = end_by_lem c.args.image.now c.args.start c.args.depth _ _ _ (sym c.in-Node.is ∙ c.head_at.ensures) _ _ c.part.ensures c.seek.ensures in
-    sym (ap (or_end c.args.image.now) c.in-At.is) ∙ e
+    let e = end_by_lem c.args.image.now c.args.start c.args.depth _ _ _ (sym c.in-Node.is ∙ c.head_at.ensures) _ c.seek.ensures in
+    sym (ap (or_end c.args.image.now) c.in-Some.is) ∙ e

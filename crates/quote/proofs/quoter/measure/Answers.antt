@@ -2,15 +2,21 @@
 use Rattle.quote.proofs.Listing.{item_told}
 use Rattle.quote.proofs.Counting.{gap_most, word_within, counted_start, counted_cost, counted_turn, counted_bad, counted_end}
 use native.Mathlib.Omega.{arith}
-use mathlib.Core.Path.{sym}
+use Rattle.std.proofs.lemmas.Result.{err_from_is_err_and}
+use mathlib.Core.Path.{◌≡◌, sym, ◌∙◌}
 use Rattle.quote.proofs.quoter.measure.Goals as goal
 
 pub loop-at-init : goal.loop-at-init
 loop-at-init c = counted_start _
 
-pub returns-in_default : goal.returns-in_default
-returns-in_default c =
-    sym (counted_bad c.args.words.now _ _ c.loop-at.at c.loop-at.invariant c.loop-at-test.true (sym c.in_default.ensures))
+pub returns-in_err-word : goal.returns-in_err-word
+returns-in_err-word c =
+    let p = err_from_is_err_and c.from_residual.result c.from_residual.ensures.1 in
+    let e = c.in_err-word.ensures in
+    let stop = counted_bad c.args.words.now _ _ c.loop-at.at c.loop-at.invariant c.loop-at-test.true (sym c.word_at.ensures ∙ e.ok_part) in
+    let told = rw e.ok_part at e.value in
+    let same : c.in_err-word.field-0.0 ≡ c.loop-at.n = cc in
+    rw (p.1, p.2, same) (sym stop)
 
 pub overflow_add-size : goal.overflow_add-size
 overflow_add-size c =
@@ -18,9 +24,9 @@ overflow_add-size c =
 
 pub overflow_add-size-in-loop-at : goal.overflow_add-size-in-loop-at
 overflow_add-size-in-loop-at c =
-    let i = item_told _ _ _ (sym c.in-Word.ensures) in
+    let i = item_told _ _ (sym c.word_at.ensures ∙ c.in_ok-word.ensures.ok_part) in
     let f = word_within c.args.words.now c.loop-at.at _ i.word in
-    let k = counted_cost c.args.words.now _ _ c.loop-at.at c.loop-at.invariant _ _ _ i c.gap_size.ensures in
+    let k = counted_cost c.args.words.now _ _ c.loop-at.at c.loop-at.invariant _ _ i c.gap_size.ensures in
     omega arith
 
 pub overflow_add-n : goal.overflow_add-n
@@ -32,15 +38,15 @@ overflow_add-at c = omega (arith, c.loop-at-test.true)
 
 pub overflow_add-at-in-loop-at : goal.overflow_add-at-in-loop-at
 overflow_add-at-in-loop-at c =
-    let f = word_within c.args.words.now c.loop-at.at _ (item_told _ _ _ (sym c.in-Word.ensures)).word in omega arith
+    let f = word_within c.args.words.now c.loop-at.at _ (item_told _ _ (sym c.word_at.ensures ∙ c.in_ok-word.ensures.ok_part)).word in omega arith
 
 pub loop-at-smaller : goal.loop-at-smaller
 loop-at-smaller c =
-    let f = word_within c.args.words.now c.loop-at.at _ (item_told _ _ _ (sym c.in-Word.ensures)).word in omega (arith, f, c.loop-at-test.true)
+    let f = word_within c.args.words.now c.loop-at.at _ (item_told _ _ (sym c.word_at.ensures ∙ c.in_ok-word.ensures.ok_part)).word in omega (arith, f, c.loop-at-test.true)
 
 pub loop-at-preserved : goal.loop-at-preserved
 loop-at-preserved c =
-    counted_turn c.args.words.now _ _ c.loop-at.at c.loop-at.invariant _ _ _ (item_told _ _ _ (sym c.in-Word.ensures)) c.gap_size.ensures
+    counted_turn c.args.words.now _ _ c.loop-at.at c.loop-at.invariant _ _ (item_told _ _ (sym c.word_at.ensures ∙ c.in_ok-word.ensures.ok_part)) c.gap_size.ensures
 
 pub returns : goal.returns
 returns c =

@@ -5,12 +5,12 @@ use mathlib.Core.Path.{sym, ◌∙◌}
 use Rattle.text.proofs.Prefix.{no_character}
 use Rattle.quote.proofs.word.quiet_at.Goals as goal
 
-pub returns-then-n-ne0 : goal.returns-then-n-ne0
-returns-then-n-ne0 c =
-    quiet_ordinary c.args.word.now c.args.at _ c.ordinary_at-n.ensures c.if-n-ne0.true
+pub returns-in-Some : goal.returns-in-Some
+returns-in-Some c =
+    quiet_ordinary c.args.word.now c.args.at _ c.in-Some.ensures
 
-pub returns-in_default : goal.returns-in_default
-returns-in_default c = sym (quiet_stop _ _ (sym c.decode.ensures) (no_character _ c.in_default.not-Character))
+pub returns-in_default-decode : goal.returns-in_default-decode
+returns-in_default-decode c = sym (quiet_stop _ _ (sym c.decode.ensures) (no_character _ c.in_default-decode.not-Character))
 
 pub returns-then-calls_for_quotes : goal.returns-then-calls_for_quotes
 returns-then-calls_for_quotes c =

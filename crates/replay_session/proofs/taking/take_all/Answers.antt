@@ -6,24 +6,17 @@ use mathlib.Core.Path.{refl}
 use Rattle.std.proofs.Common.{rules}
 use Rattle.replay_session.proofs.taking.take_all.Goals as goal
 
-pub loop-at-init : goal.loop-at-init
-loop-at-init c = let r = begins _ _ _ _ c.requires.0 c.requires.1 c.requires.2 in (rw c.start.ensures r, omega arith, refl, refl, r.ready.slot)
+pub loop-piece-init : goal.loop-piece-init
+loop-piece-init c = let r = begins _ _ _ _ c.requires.0 c.requires.1 c.requires.2 in (rw c.start.ensures r, refl, refl, r.ready.slot)
 
 pub take_piece-told-requires : goal.take_piece-told-requires
 take_piece-told-requires c =
-    (c.loop-at.invariant.0, omega arith)
+    (c.loop-piece.invariant.0, omega arith)
 
-pub beyond-at-requires : goal.beyond-at-requires
-beyond-at-requires c =
-    (c.loop-at-test.true, c.requires.3)
-
-pub loop-at-smaller : goal.loop-at-smaller
-loop-at-smaller c = omega arith
-
-pub loop-at-preserved : goal.loop-at-preserved
-loop-at-preserved c =
-    (c.take_piece-told.ensures, c.beyond-at.ensures.1, search rules, search rules, c.loop-at.invariant.4)
+pub loop-piece-preserved : goal.loop-piece-preserved
+loop-piece-preserved c =
+    (c.take_piece-told.ensures, search rules, search rules, c.loop-piece.invariant.3)
 
 pub end-requires : goal.end-requires
 end-requires c =
-    (λ e. let r = reads_so _ e in c.loop-at.invariant.0.early r.0 r.1, omega arith)
+    (λ e. let r = reads_so _ e in c.loop-piece.invariant.0.early r.0 r.1, omega arith)

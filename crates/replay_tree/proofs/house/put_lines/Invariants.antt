@@ -1,11 +1,10 @@
 -- `house::put_lines` is safe and ends: each turn passes a frame of one byte or more.
 use Prim.Native.Nat.{◌≤◌, ◌-◌}
-use mathlib.Core.Path.{◌≡◌}
 use lib.ListN.{length}
 use Rattle.replay_tree.proofs.house.put_lines.Given as goal
 
 abbrev pub invariant-loop-at : goal.invariant-loop-at
-invariant-loop-at l = (l.at ≤ length l.image) × (length l.lines ≡ length l.initial.lines)
+invariant-loop-at g l = l.at ≤ length l.image
 
 abbrev pub decreases-loop-at : goal.decreases-loop-at
-decreases-loop-at l = length l.image - l.at
+decreases-loop-at g l = length l.image - l.at

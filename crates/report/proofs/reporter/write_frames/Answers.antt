@@ -3,80 +3,80 @@ use Rattle.report.proofs.Reports.{report_length, path_written, options_lent, opt
 use native.Mathlib.Omega.{arith}
 use Rattle.report.proofs.reporter.write_frames.Goals as goal
 
-pub write_path-at-requires : goal.write_path-at-requires
-write_path-at-requires c =
+pub write_words-at-requires : goal.write_words-at-requires
+write_words-at-requires c =
     (omega (arith, report_length c.args.words.now c.args.image.now c.args.path.now c.args.options c.args.flags c.args.rest.now, c.requires.0), c.requires.1)
 
-pub slice_bounds-write_options-count : goal.slice_bounds-write_options-count
-slice_bounds-write_options-count c =
-    let s = path_written c.args.words.now c.args.image.now c.args.path.now c.args.options c.args.flags c.args.rest.now c.args.out.now c.requires.0 _ _ c.write_path-at.ensures in
+pub slice_bounds-write_pairs-count : goal.slice_bounds-write_pairs-count
+slice_bounds-write_pairs-count c =
+    let s = path_written c.args.words.now c.args.image.now c.args.path.now c.args.options c.args.flags c.args.rest.now c.args.out.now c.requires.0 _ _ c.write_words-at.ensures in
     omega (arith, s.count, s.same, c.requires.0)
 
-pub slice_bounds-write_options-start : goal.slice_bounds-write_options-start
-slice_bounds-write_options-start c =
-    let s = path_written c.args.words.now c.args.image.now c.args.path.now c.args.options c.args.flags c.args.rest.now c.args.out.now c.requires.0 _ _ c.write_path-at.ensures in
+pub slice_bounds-write_pairs-start : goal.slice_bounds-write_pairs-start
+slice_bounds-write_pairs-start c =
+    let s = path_written c.args.words.now c.args.image.now c.args.path.now c.args.options c.args.flags c.args.rest.now c.args.out.now c.requires.0 _ _ c.write_words-at.ensures in
     omega (arith, s.count, s.same, c.requires.0)
 
-pub write_options-at-requires : goal.write_options-at-requires
-write_options-at-requires c =
-    let s = path_written c.args.words.now c.args.image.now c.args.path.now c.args.options c.args.flags c.args.rest.now c.args.out.now c.requires.0 _ _ c.write_path-at.ensures in
+pub write_pairs-at-requires : goal.write_pairs-at-requires
+write_pairs-at-requires c =
+    let s = path_written c.args.words.now c.args.image.now c.args.path.now c.args.options c.args.flags c.args.rest.now c.args.out.now c.requires.0 _ _ c.write_words-at.ensures in
     options_lent c.args.words.now c.args.image.now c.args.path.now c.args.options c.args.flags c.args.rest.now c.args.out.now c.requires.0 _ _ s
 
 pub overflow_add-at : goal.overflow_add-at
 overflow_add-at c =
-    let s = path_written c.args.words.now c.args.image.now c.args.path.now c.args.options c.args.flags c.args.rest.now c.args.out.now c.requires.0 _ _ c.write_path-at.ensures in
-    let t = options_written c.args.words.now c.args.image.now c.args.path.now c.args.options c.args.flags c.args.rest.now c.args.out.now c.requires.0 _ _ s _ _ c.write_options-at.ensures in
+    let s = path_written c.args.words.now c.args.image.now c.args.path.now c.args.options c.args.flags c.args.rest.now c.args.out.now c.requires.0 _ _ c.write_words-at.ensures in
+    let t = options_written c.args.words.now c.args.image.now c.args.path.now c.args.options c.args.flags c.args.rest.now c.args.out.now c.requires.0 _ _ s _ _ c.write_pairs-at.ensures in
     omega (arith, t.count, t.same, c.requires.0)
 
-pub slice_bounds-write_flags-count : goal.slice_bounds-write_flags-count
-slice_bounds-write_flags-count c =
-    let s = path_written c.args.words.now c.args.image.now c.args.path.now c.args.options c.args.flags c.args.rest.now c.args.out.now c.requires.0 _ _ c.write_path-at.ensures in
-    let t = options_written c.args.words.now c.args.image.now c.args.path.now c.args.options c.args.flags c.args.rest.now c.args.out.now c.requires.0 _ _ s _ _ c.write_options-at.ensures in
+pub slice_bounds-write_pairs-count-2 : goal.slice_bounds-write_pairs-count-2
+slice_bounds-write_pairs-count-2 c =
+    let s = path_written c.args.words.now c.args.image.now c.args.path.now c.args.options c.args.flags c.args.rest.now c.args.out.now c.requires.0 _ _ c.write_words-at.ensures in
+    let t = options_written c.args.words.now c.args.image.now c.args.path.now c.args.options c.args.flags c.args.rest.now c.args.out.now c.requires.0 _ _ s _ _ c.write_pairs-at.ensures in
     omega (arith, t.count, t.same, c.requires.0)
 
-pub slice_bounds-write_flags-start : goal.slice_bounds-write_flags-start
-slice_bounds-write_flags-start c =
-    let s = path_written c.args.words.now c.args.image.now c.args.path.now c.args.options c.args.flags c.args.rest.now c.args.out.now c.requires.0 _ _ c.write_path-at.ensures in
-    let t = options_written c.args.words.now c.args.image.now c.args.path.now c.args.options c.args.flags c.args.rest.now c.args.out.now c.requires.0 _ _ s _ _ c.write_options-at.ensures in
+pub slice_bounds-write_pairs-start-2 : goal.slice_bounds-write_pairs-start-2
+slice_bounds-write_pairs-start-2 c =
+    let s = path_written c.args.words.now c.args.image.now c.args.path.now c.args.options c.args.flags c.args.rest.now c.args.out.now c.requires.0 _ _ c.write_words-at.ensures in
+    let t = options_written c.args.words.now c.args.image.now c.args.path.now c.args.options c.args.flags c.args.rest.now c.args.out.now c.requires.0 _ _ s _ _ c.write_pairs-at.ensures in
     omega (arith, t.count, t.same, c.requires.0)
 
-pub write_flags-at-requires : goal.write_flags-at-requires
-write_flags-at-requires c =
-    let s = path_written c.args.words.now c.args.image.now c.args.path.now c.args.options c.args.flags c.args.rest.now c.args.out.now c.requires.0 _ _ c.write_path-at.ensures in
-    let t = options_written c.args.words.now c.args.image.now c.args.path.now c.args.options c.args.flags c.args.rest.now c.args.out.now c.requires.0 _ _ s _ _ c.write_options-at.ensures in
+pub write_pairs-at-requires-2 : goal.write_pairs-at-requires-2
+write_pairs-at-requires-2 c =
+    let s = path_written c.args.words.now c.args.image.now c.args.path.now c.args.options c.args.flags c.args.rest.now c.args.out.now c.requires.0 _ _ c.write_words-at.ensures in
+    let t = options_written c.args.words.now c.args.image.now c.args.path.now c.args.options c.args.flags c.args.rest.now c.args.out.now c.requires.0 _ _ s _ _ c.write_pairs-at.ensures in
     flags_lent c.args.words.now c.args.image.now c.args.path.now c.args.options c.args.flags c.args.rest.now c.args.out.now c.requires.0 _ _ t
 
 pub overflow_add-at-2 : goal.overflow_add-at-2
 overflow_add-at-2 c =
-    let s = path_written c.args.words.now c.args.image.now c.args.path.now c.args.options c.args.flags c.args.rest.now c.args.out.now c.requires.0 _ _ c.write_path-at.ensures in
-    let t = options_written c.args.words.now c.args.image.now c.args.path.now c.args.options c.args.flags c.args.rest.now c.args.out.now c.requires.0 _ _ s _ _ c.write_options-at.ensures in
-    let u = flags_written c.args.words.now c.args.image.now c.args.path.now c.args.options c.args.flags c.args.rest.now c.args.out.now c.requires.0 _ _ t _ _ c.write_flags-at.ensures in
+    let s = path_written c.args.words.now c.args.image.now c.args.path.now c.args.options c.args.flags c.args.rest.now c.args.out.now c.requires.0 _ _ c.write_words-at.ensures in
+    let t = options_written c.args.words.now c.args.image.now c.args.path.now c.args.options c.args.flags c.args.rest.now c.args.out.now c.requires.0 _ _ s _ _ c.write_pairs-at.ensures in
+    let u = flags_written c.args.words.now c.args.image.now c.args.path.now c.args.options c.args.flags c.args.rest.now c.args.out.now c.requires.0 _ _ t _ _ c.write_pairs-at-2.ensures in
     omega (arith, u.count, u.same, c.requires.0)
 
-pub slice_bounds-write_positionals-count : goal.slice_bounds-write_positionals-count
-slice_bounds-write_positionals-count c =
-    let s = path_written c.args.words.now c.args.image.now c.args.path.now c.args.options c.args.flags c.args.rest.now c.args.out.now c.requires.0 _ _ c.write_path-at.ensures in
-    let t = options_written c.args.words.now c.args.image.now c.args.path.now c.args.options c.args.flags c.args.rest.now c.args.out.now c.requires.0 _ _ s _ _ c.write_options-at.ensures in
-    let u = flags_written c.args.words.now c.args.image.now c.args.path.now c.args.options c.args.flags c.args.rest.now c.args.out.now c.requires.0 _ _ t _ _ c.write_flags-at.ensures in
+pub slice_bounds-write_words-count : goal.slice_bounds-write_words-count
+slice_bounds-write_words-count c =
+    let s = path_written c.args.words.now c.args.image.now c.args.path.now c.args.options c.args.flags c.args.rest.now c.args.out.now c.requires.0 _ _ c.write_words-at.ensures in
+    let t = options_written c.args.words.now c.args.image.now c.args.path.now c.args.options c.args.flags c.args.rest.now c.args.out.now c.requires.0 _ _ s _ _ c.write_pairs-at.ensures in
+    let u = flags_written c.args.words.now c.args.image.now c.args.path.now c.args.options c.args.flags c.args.rest.now c.args.out.now c.requires.0 _ _ t _ _ c.write_pairs-at-2.ensures in
     omega (arith, u.count, u.same, c.requires.0)
 
-pub slice_bounds-write_positionals-start : goal.slice_bounds-write_positionals-start
-slice_bounds-write_positionals-start c =
-    let s = path_written c.args.words.now c.args.image.now c.args.path.now c.args.options c.args.flags c.args.rest.now c.args.out.now c.requires.0 _ _ c.write_path-at.ensures in
-    let t = options_written c.args.words.now c.args.image.now c.args.path.now c.args.options c.args.flags c.args.rest.now c.args.out.now c.requires.0 _ _ s _ _ c.write_options-at.ensures in
-    let u = flags_written c.args.words.now c.args.image.now c.args.path.now c.args.options c.args.flags c.args.rest.now c.args.out.now c.requires.0 _ _ t _ _ c.write_flags-at.ensures in
+pub slice_bounds-write_words-start : goal.slice_bounds-write_words-start
+slice_bounds-write_words-start c =
+    let s = path_written c.args.words.now c.args.image.now c.args.path.now c.args.options c.args.flags c.args.rest.now c.args.out.now c.requires.0 _ _ c.write_words-at.ensures in
+    let t = options_written c.args.words.now c.args.image.now c.args.path.now c.args.options c.args.flags c.args.rest.now c.args.out.now c.requires.0 _ _ s _ _ c.write_pairs-at.ensures in
+    let u = flags_written c.args.words.now c.args.image.now c.args.path.now c.args.options c.args.flags c.args.rest.now c.args.out.now c.requires.0 _ _ t _ _ c.write_pairs-at-2.ensures in
     omega (arith, u.count, u.same, c.requires.0)
 
-pub write_positionals-requires : goal.write_positionals-requires
-write_positionals-requires c =
-    let s = path_written c.args.words.now c.args.image.now c.args.path.now c.args.options c.args.flags c.args.rest.now c.args.out.now c.requires.0 _ _ c.write_path-at.ensures in
-    let t = options_written c.args.words.now c.args.image.now c.args.path.now c.args.options c.args.flags c.args.rest.now c.args.out.now c.requires.0 _ _ s _ _ c.write_options-at.ensures in
-    let u = flags_written c.args.words.now c.args.image.now c.args.path.now c.args.options c.args.flags c.args.rest.now c.args.out.now c.requires.0 _ _ t _ _ c.write_flags-at.ensures in
+pub write_words-requires : goal.write_words-requires
+write_words-requires c =
+    let s = path_written c.args.words.now c.args.image.now c.args.path.now c.args.options c.args.flags c.args.rest.now c.args.out.now c.requires.0 _ _ c.write_words-at.ensures in
+    let t = options_written c.args.words.now c.args.image.now c.args.path.now c.args.options c.args.flags c.args.rest.now c.args.out.now c.requires.0 _ _ s _ _ c.write_pairs-at.ensures in
+    let u = flags_written c.args.words.now c.args.image.now c.args.path.now c.args.options c.args.flags c.args.rest.now c.args.out.now c.requires.0 _ _ t _ _ c.write_pairs-at-2.ensures in
     (rest_lent c.args.words.now c.args.image.now c.args.path.now c.args.options c.args.flags c.args.rest.now c.args.out.now c.requires.0 _ _ u, c.requires.2)
 
 pub returns : goal.returns
 returns c =
-    let s = path_written c.args.words.now c.args.image.now c.args.path.now c.args.options c.args.flags c.args.rest.now c.args.out.now c.requires.0 _ _ c.write_path-at.ensures in
-    let t = options_written c.args.words.now c.args.image.now c.args.path.now c.args.options c.args.flags c.args.rest.now c.args.out.now c.requires.0 _ _ s _ _ c.write_options-at.ensures in
-    let u = flags_written c.args.words.now c.args.image.now c.args.path.now c.args.options c.args.flags c.args.rest.now c.args.out.now c.requires.0 _ _ t _ _ c.write_flags-at.ensures in
-    rest_written c.args.words.now c.args.image.now c.args.path.now c.args.options c.args.flags c.args.rest.now c.args.out.now c.requires.0 _ _ u _ _ c.write_positionals.ensures
+    let s = path_written c.args.words.now c.args.image.now c.args.path.now c.args.options c.args.flags c.args.rest.now c.args.out.now c.requires.0 _ _ c.write_words-at.ensures in
+    let t = options_written c.args.words.now c.args.image.now c.args.path.now c.args.options c.args.flags c.args.rest.now c.args.out.now c.requires.0 _ _ s _ _ c.write_pairs-at.ensures in
+    let u = flags_written c.args.words.now c.args.image.now c.args.path.now c.args.options c.args.flags c.args.rest.now c.args.out.now c.requires.0 _ _ t _ _ c.write_pairs-at-2.ensures in
+    rest_written c.args.words.now c.args.image.now c.args.path.now c.args.options c.args.flags c.args.rest.now c.args.out.now c.requires.0 _ _ u _ _ c.write_words.ensures

@@ -18,13 +18,12 @@ returns-else-node_ends c =
 pub returns-in-Option : goal.returns-in-Option
 unfolding option_in
 returns-in-Option c =
-    size_read_lem c.args.listing c.args.s.now _ _ _ false (sym c.in-Option.is ∙ c.head_of.ensures) refl (definition_goes_on c.args.listing _ _ _ _ _).0
+    size_read_lem c.args.listing c.args.s.now _ _ _ false c.in-Option.ensures refl (definition_goes_on c.args.listing _ _ _ _ _).0
 
-pub returns-in-Flag : goal.returns-in-Flag
+pub returns-in-Option-2 : goal.returns-in-Option-2
 unfolding flag_in
-returns-in-Flag c =
-    size_read_lem c.args.listing c.args.s.now _ _ _ false (sym c.in-Flag.is ∙ c.head_of.ensures) refl (definition_goes_on c.args.listing 0 _ _ _ _).1
+returns-in-Option-2 c =
+    size_read_lem c.args.listing c.args.s.now _ _ _ false c.in-Option.ensures refl (definition_goes_on c.args.listing 0 _ _ _ _).1
 
-pub returns-in_default : goal.returns-in_default
-returns-in_default c =
-    size_none c.args.listing c.args.s.now _ c.head_of.ensures c.in_default.in_default-own.keys4
+pub returns-in-Bad : goal.returns-in-Bad
+returns-in-Bad c = size_none c.args.listing c.args.s.now _ c.head_of.ensures c.in-Bad.is

@@ -8,9 +8,9 @@ pub returns-then-out-lt-KEY_ROOM : goal.returns-then-out-lt-KEY_ROOM
 returns-then-out-lt-KEY_ROOM c =
     press_short c.args.session c.args.image.now c.args.slots.now c.args.byte c.args.out.now c.if-out-lt-KEY_ROOM.true
 
-pub returns-in-BadFrame : goal.returns-in-BadFrame
-returns-in-BadFrame c =
-    press_refused c.args.session c.args.image.now c.args.slots.now c.args.byte c.args.out.now _ c.part.ensures _ _ c.check_before.ensures c.in-BadFrame.is c.if-out-lt-KEY_ROOM.false
+pub returns-in-Err : goal.returns-in-Err
+returns-in-Err c =
+    press_refused c.args.session c.args.image.now c.args.slots.now c.args.byte c.args.out.now _ c.part.ensures _ _ c.check_before.ensures c.in-Err.is c.if-out-lt-KEY_ROOM.false
 
 pub press_with-requires : goal.press_with-requires
 press_with-requires c =

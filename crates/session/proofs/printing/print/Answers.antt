@@ -9,8 +9,8 @@ returns-in_default c =
 
 pub overflow_add-result : goal.overflow_add-result
 overflow_add-result c =
-    let e = print_count c.args.frame.now c.args.out.now _ c.args.at _ _ (c.requires) c.write_line.ensures c.in-Written.is in search rules
+    let e = print_count c.args.frame.now c.args.out.now _ c.args.at _ _ (c.requires) c.write_line.ensures c.in-Ok.is in search rules
 
 pub returns : goal.returns
 returns c =
-    print_told c.args.frame.now c.args.out.now _ c.args.at _ _ (c.requires) c.write_line.ensures c.in-Written.is
+    print_told c.args.frame.now c.args.out.now _ c.args.at _ _ (c.requires) c.write_line.ensures c.in-Ok.is

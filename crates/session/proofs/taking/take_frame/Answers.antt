@@ -1,5 +1,4 @@
 -- `session::taking::take_frame` meets its contract.
-use borrow.Author.Tests.{not-true, not-false}
 use Rattle.session.proofs.Takings.{takes_keys, takes_late, takes_refused, takes_tree}
 use Rattle.session.proofs.taking.take_frame.Goals as goal
 
@@ -11,10 +10,10 @@ pub returns-then-session : goal.returns-then-session
 returns-then-session c =
     takes_late c.args.session c.args.image.now c.args.bytes.now c.requires.1 c.if-bytes-eq32.false _ c.if-session.true c.refused.ensures
 
-pub returns-then-not-step : goal.returns-then-not-step
-returns-then-not-step c =
-    takes_refused c.args.session c.args.image.now c.args.bytes.now c.requires.1 c.if-bytes-eq32.false c.if-session.false _ _ c.add_frame-step.ensures _ (not-true c.add_frame-step.result.ok c.if-not-step.true) c.refused-then-not-step.ensures
+pub returns-in_default : goal.returns-in_default
+returns-in_default c =
+    takes_refused c.args.session c.args.image.now c.args.bytes.now c.requires.1 c.if-bytes-eq32.false c.if-session.false _ _ c.in_default.ensures c.refused-in_default.ensures
 
 pub returns : goal.returns
 returns c =
-    takes_tree c.args.session c.args.image.now c.args.bytes.now c.requires.1 c.if-bytes-eq32.false c.if-session.false _ _ c.add_frame-step.ensures _ (not-false c.add_frame-step.result.ok c.if-not-step.false) c.with_walk.ensures
+    takes_tree c.args.session c.args.image.now c.args.bytes.now c.requires.1 c.if-bytes-eq32.false c.if-session.false _ _ _ c.in-Some.ensures c.with_walk.ensures

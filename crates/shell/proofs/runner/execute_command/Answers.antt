@@ -1,5 +1,5 @@
 -- `shell::runner::execute_command` meets its contract: what is told is what was judged, with the handler of the node reached.
-use mathlib.Core.Path.{refl, sym, ap, ◌∙◌}
+use mathlib.Core.Path.{refl, ap, ◌∙◌}
 use mathlib.Core.List.{List}
 use native.Mathlib.Omega.{arith}
 use Rattle.buffer.specs.Numbers.{Bytes}
@@ -14,17 +14,16 @@ use Rattle.shell.proofs.runner.execute_command.Goals as goal
 pub tell_fault-requires : goal.tell_fault-requires
 unfolding Bytes
 tell_fault-requires c =
-    (c.judge-judged.ensures.within, c.requires.0, good_short c.args.image.now (λ i. (c.type_inv.image i).fits) c.requires.1, λ q. c.if-number_of-ne0.true (c.number_of.ensures ∙ q))
+    (c.judge-judged.ensures.within, c.requires.0, good_short c.args.image.now (λ i. (c.type_inv.image i).fits) c.requires.1, c.in-Err.is)
 
-pub returns-then-number_of-ne0 : goal.returns-then-number_of-ne0
-returns-then-number_of-ne0 c =
+pub returns-in-Err : goal.returns-in-Err
+returns-in-Err c =
     said_same _ _ _ _ _ (words_carried c.args.words.now c.args.image.now _ _ _ c.judge-judged.ensures.outcome refl) (c.tell_fault.ensures _ _)
 
 pub tell_command-requires : goal.tell_command-requires
 tell_command-requires c =
-    let n = sym c.number_of.ensures ∙ c.if-number_of-ne0.false in
-    (c.judge-judged.ensures.within, c.judge-judged.ensures.kept, omega arith, c.requires.0, n, c.judge-judged.ensures.lent n)
+    (c.judge-judged.ensures.within, c.judge-judged.ensures.kept, omega arith, c.requires.0, c.in-Ok.is, c.judge-judged.ensures.lent c.in-Ok.is)
 
-pub returns : goal.returns
-returns c =
-    let h = c.handler_of-handler.ensures ∙ ap (λ (fs : List Frame). handler_by (handler_of fs)) (c.judge-judged.ensures.command (sym c.number_of.ensures ∙ c.if-number_of-ne0.false)) in said_same _ _ _ _ _ (words_carried c.args.words.now c.args.image.now _ _ _ c.judge-judged.ensures.outcome refl) (c.tell_command.ensures _ h)
+pub returns-in-Ok : goal.returns-in-Ok
+returns-in-Ok c =
+    let h = c.handler_of-handler.ensures ∙ ap (λ (fs : List Frame). handler_by (handler_of fs)) (c.judge-judged.ensures.command c.in-Ok.is) in said_same _ _ _ _ _ (words_carried c.args.words.now c.args.image.now _ _ _ c.judge-judged.ensures.outcome refl) (c.tell_command.ensures _ h)

@@ -1,30 +1,35 @@
 -- `state::calls::begin` meets its contract.
+use Rattle.std.proofs.lemmas.Result.{err_from_is_err_and}
 use Rattle.state.proofs.Answering.{no_profile, short_state, long_state, short_slots, long_slots, begin_ready, fresh_bytes}
+use Rattle.keys.proofs.Modes.{profile_told, profile_lacks}
 use Rattle.state.proofs.Savings.{as_size}
 use Rattle.editor.specs.Line.{fresh_editor}
 use native.Mathlib.Omega.{arith}
+use mathlib.Core.Logic.{inl, inr}
 use mathlib.Core.Path.{sym, ap, ◌∙◌}
 use Rattle.state.proofs.calls.begin.Goals as goal
 
-pub returns-then-not-is_profile : goal.returns-then-not-is_profile
-returns-then-not-is_profile c =
-    no_profile c.args.profile c.args.state.now c.args.slots.now (sym c.is_profile.ensures ∙ c.if-not-is_profile.true)
+pub returns-in_default : goal.returns-in_default
+returns-in_default c =
+    no_profile c.args.profile c.args.state.now c.args.slots.now (profile_lacks c.args.profile (λ p e. c.in_default.not-Ok p (c.try_from.ensures ∙ e)))
 
-pub returns-then-state-lt-SIZE : goal.returns-then-state-lt-SIZE
-returns-then-state-lt-SIZE c =
-    short_state c.args.profile c.args.state.now c.args.slots.now (sym c.is_profile.ensures ∙ c.if-not-is_profile.false) c.if-state-lt-SIZE.true
+pub returns-in_err-misfit : goal.returns-in_err-misfit
+returns-in_err-misfit c =
+    let p = err_from_is_err_and c.from_residual.result c.from_residual.ensures.1 in
+    let known = (profile_told c.args.profile _ (sym c.try_from.ensures ∙ c.in-Ok.is)).0 in
+    rw (p.1, p.2) (elim c.in_err-misfit.ensures [
+      | inl w ↦ rw w.1 (short_state c.args.profile c.args.state.now c.args.slots.now known w.0)
+      | inr w ↦ rw w.1 (long_state c.args.profile c.args.state.now c.args.slots.now known (omega arith) w.0)
+    ])
 
-pub returns-then-state-gt-SIZE : goal.returns-then-state-gt-SIZE
-returns-then-state-gt-SIZE c =
-    long_state c.args.profile c.args.state.now c.args.slots.now (sym c.is_profile.ensures ∙ c.if-not-is_profile.false) c.if-state-lt-SIZE.false c.if-state-gt-SIZE.true
-
-pub returns-then-slots-lt-SLOTS : goal.returns-then-slots-lt-SLOTS
-returns-then-slots-lt-SLOTS c =
-    short_slots c.args.profile c.args.state.now c.args.slots.now (sym c.is_profile.ensures ∙ c.if-not-is_profile.false) c.if-state-lt-SIZE.false c.if-state-gt-SIZE.false c.if-slots-lt-SLOTS.true
-
-pub returns-then-slots-gt-SLOTS : goal.returns-then-slots-gt-SLOTS
-returns-then-slots-gt-SLOTS c =
-    long_slots c.args.profile c.args.state.now c.args.slots.now (sym c.is_profile.ensures ∙ c.if-not-is_profile.false) c.if-state-lt-SIZE.false c.if-state-gt-SIZE.false c.if-slots-lt-SLOTS.false c.if-slots-gt-SLOTS.true
+pub returns-in_err-misfit-2 : goal.returns-in_err-misfit-2
+returns-in_err-misfit-2 c =
+    let p = err_from_is_err_and c.from_residual-in_err-misfit-2.result c.from_residual-in_err-misfit-2.ensures.1 in
+    let known = (profile_told c.args.profile _ (sym c.try_from.ensures ∙ c.in-Ok.is)).0 in
+    rw (p.1, p.2) (elim c.in_err-misfit-2.ensures [
+      | inl w ↦ rw w.1 (short_slots c.args.profile c.args.state.now c.args.slots.now known (omega arith) (omega arith) w.0)
+      | inr w ↦ rw w.1 (long_slots c.args.profile c.args.state.now c.args.slots.now known (omega arith) (omega arith) (omega arith) w.0)
+    ])
 
 pub save-requires : goal.save-requires
 save-requires c =
@@ -32,4 +37,5 @@ save-requires c =
 
 pub returns : goal.returns
 returns c =
-    begin_ready c.args.profile c.args.state.now c.args.slots.now (sym c.is_profile.ensures ∙ c.if-not-is_profile.false) c.if-state-lt-SIZE.false c.if-state-gt-SIZE.false c.if-slots-lt-SLOTS.false _ _ _ _ c.if-slots-gt-SLOTS.false (c.fresh.ensures ∙ ap fresh_editor c.profile_of.ensures) c.fresh_in-history.ensures c.save.ensures
+    let known = profile_told c.args.profile _ (sym c.try_from.ensures ∙ c.in-Ok.is) in
+    begin_ready c.args.profile c.args.state.now c.args.slots.now known.0 (omega arith) (omega arith) (omega arith) _ _ _ _ (omega arith) (c.fresh.ensures ∙ ap fresh_editor known.1) c.fresh_in-history.ensures c.save.ensures

@@ -4,39 +4,31 @@ use native.Mathlib.Omega.{arith}
 use Rattle.std.proofs.Common.{rules}
 use Rattle.stream.proofs.pressing.press_some.Goals as goal
 
-pub loop-next-init : goal.loop-next-init
-loop-next-init c = keys_begin _ _ _ _ _ _ _ _ c.requires.ready c.requires.next_le_keys.0 c.requires.next_le_keys.2
+pub loop-k-init : goal.loop-k-init
+loop-k-init c = keys_begin _ _ _ _ _ _ _ _ c.requires.ready c.requires.next_le_keys.0 c.requires.next_le_keys.2
 
 pub overflow_sub-out : goal.overflow_sub-out
 overflow_sub-out c = search rules
 
 pub returns-then-out-printed-lt-KEY_ROOM : goal.returns-then-out-printed-lt-KEY_ROOM
 returns-then-out-printed-lt-KEY_ROOM c =
-    keys_wait _ _ _ _ _ _ _ _ _ _ _ c.loop-next.invariant c.requires.next_le_keys.1 c.loop-next-test.true _ c.waiting.ensures c.if-out-printed-lt-KEY_ROOM.true
+    keys_wait _ _ _ _ _ _ _ _ _ _ _ c.loop-k.invariant c.requires.next_le_keys.1 c.loop-k-test.true _ c.waiting.ensures c.if-out-printed-lt-KEY_ROOM.true
 
-pub bounds-line-next : goal.bounds-line-next
-bounds-line-next c =
+pub bounds-line-k : goal.bounds-line-k
+bounds-line-k c =
     search rules
 
 pub press_at-key-requires : goal.press_at-key-requires
 press_at-key-requires c =
-    (c.loop-next.invariant.ready.holds, omega arith)
-
-pub overflow_add-next : goal.overflow_add-next
-overflow_add-next c =
-    search rules
+    (c.loop-k.invariant.ready.holds, omega arith)
 
 pub returns-then-key : goal.returns-then-key
 returns-then-key c =
-    keys_end _ _ _ _ _ _ _ _ _ _ _ c.loop-next.invariant c.requires.next_le_keys.1 c.loop-next-test.true c.if-out-printed-lt-KEY_ROOM.false _ _ _ c.press_at-key.ensures c.if-key.true _ c.stopped.ensures
+    keys_end _ _ _ _ _ _ _ _ _ _ _ c.loop-k.invariant c.requires.next_le_keys.1 c.loop-k-test.true c.if-out-printed-lt-KEY_ROOM.false _ _ _ c.press_at-key.ensures c.if-key.true _ c.stopped.ensures
 
-pub loop-next-smaller : goal.loop-next-smaller
-loop-next-smaller c =
-    search rules
-
-pub loop-next-preserved : goal.loop-next-preserved
-loop-next-preserved c =
-    keys_go _ _ _ _ _ _ _ _ _ _ _ c.loop-next.invariant c.requires.next_le_keys.1 c.loop-next-test.true c.if-out-printed-lt-KEY_ROOM.false _ _ _ c.press_at-key.ensures c.if-key.false
+pub loop-k-preserved : goal.loop-k-preserved
+loop-k-preserved c =
+    keys_go _ _ _ _ _ _ _ _ _ _ _ c.loop-k.invariant c.requires.next_le_keys.1 c.loop-k-test.true c.if-out-printed-lt-KEY_ROOM.false _ _ _ c.press_at-key.ensures c.if-key.false
 
 pub returns : goal.returns
-returns c = keys_done _ _ _ _ _ _ _ _ _ _ _ c.loop-next.invariant c.requires.next_le_keys.1 c.loop-next-test.false _ c.settled.ensures
+returns c = keys_done _ _ _ _ _ _ _ _ _ _ _ c.loop-k.invariant c.requires.next_le_keys.1 c.loop-k-test.false _ c.settled.ensures

@@ -4,19 +4,20 @@ use native.Mathlib.Omega.{arith}
 use mathlib.Core.Path.{sym, ◌∙◌}
 use Rattle.std.proofs.Common.{rules}
 use Rattle.stream.proofs.stepping.take_piece.Goals as goal
+use Rattle.stream.proofs.stepping.take_piece.Goals.{then-is_busy-via-then-is_busy, then-is_busy-via-else-is_busy+then-out-printed-lt-KEY_ROOM}
 
 pub loop-took-init : goal.loop-took-init
 loop-took-init c = step_begins _ _ _ _ _ _ _ c.requires.0 c.requires.1
 
-pub returns-then-is_busy : goal.returns-then-is_busy
-returns-then-is_busy c =
-    step_busy _ _ _ _ _ _ _ _ _ _ _ c.loop-took.invariant (sym c.is_busy.ensures ∙ c.if-is_busy.true)
-
 pub overflow_sub-out : goal.overflow_sub-out
 overflow_sub-out c = search rules
 
-pub returns-then-out-printed-lt-KEY_ROOM : goal.returns-then-out-printed-lt-KEY_ROOM
-returns-then-out-printed-lt-KEY_ROOM c = step_full _ _ _ _ _ _ _ _ _ _ _ c.loop-took.invariant c.if-out-printed-lt-KEY_ROOM.true
+pub returns-then-is_busy : goal.returns-then-is_busy
+returns-then-is_busy c =
+    elim c.then-is_busy.branch [
+      | then-is_busy-via-then-is_busy w ↦ step_busy _ _ _ _ _ _ _ _ _ _ _ c.loop-took.invariant (sym c.is_busy.ensures ∙ w.if-is_busy.true)
+      | then-is_busy-via-else-is_busy+then-out-printed-lt-KEY_ROOM w ↦ step_full _ _ _ _ _ _ _ _ _ _ _ c.loop-took.invariant w.if-out-printed-lt-KEY_ROOM.true
+    ]
 
 pub take_bytes-more-requires : goal.take_bytes-more-requires
 take_bytes-more-requires c =

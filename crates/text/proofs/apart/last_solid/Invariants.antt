@@ -5,8 +5,8 @@ use mathlib.Core.Path.{◌≡◌}
 use lib.ListN.{length, drop}
 use Rattle.text.proofs.apart.last_solid.Given as goal
 
-abbrev pub invariant-loop-at : goal.invariant-loop-at
-invariant-loop-at l = (l.at ≤ length l.s) × (reach l.end l.at (solid_length (drop l.at l.s)) ≡ l.from + solid_length (drop l.from l.s))
+abbrev pub invariant-loop-seen : goal.invariant-loop-seen
+invariant-loop-seen l = (l.at ≤ length l.s) × (reach l.end l.at (solid_length (drop l.at l.s)) ≡ l.from + solid_length (drop l.from l.s))
 
-abbrev pub decreases-loop-at : goal.decreases-loop-at
-decreases-loop-at l = length l.s - l.at
+abbrev pub decreases-loop-seen : goal.decreases-loop-seen
+decreases-loop-seen l = length l.s - l.at

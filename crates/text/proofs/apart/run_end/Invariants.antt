@@ -6,8 +6,8 @@ use mathlib.Core.Path.{◌≡◌}
 use lib.ListN.{length, drop}
 use Rattle.text.proofs.apart.run_end.Given as goal
 
-abbrev pub invariant-loop-at : goal.invariant-loop-at
-invariant-loop-at l = (l.at ≤ length l.s) × (l.at + length (bytes_all (run_of l.is_white (pieces_of (drop l.at l.s)))) ≡ l.from + length (bytes_all (run_of l.is_white (pieces_of (drop l.from l.s)))))
+abbrev pub invariant-loop-seen : goal.invariant-loop-seen
+invariant-loop-seen l = (l.at ≤ length l.s) × (l.at + length (bytes_all (run_of l.is_white (pieces_of (drop l.at l.s)))) ≡ l.from + length (bytes_all (run_of l.is_white (pieces_of (drop l.from l.s)))))
 
-abbrev pub decreases-loop-at : goal.decreases-loop-at
-decreases-loop-at l = length l.s - l.at
+abbrev pub decreases-loop-seen : goal.decreases-loop-seen
+decreases-loop-seen l = length l.s - l.at

@@ -1,10 +1,50 @@
--- `text::space::is_white_space` meets its contract.
-use Rattle.text.proofs.Spaces.{low_is, none_in_a_gap}
-use mathlib.Core.Path.{sym, ◌∙◌}
+-- `text::space::is_white_space` meets its contract: its ranges are those of the list.
+use Rattle.std.proofs.Common.{rules, ◌≡◌, true, false}
+use mathlib.Core.Path.{◌∙◌}
+use Rattle.text.specs.Inner.{in_ranges}
+use Rattle.text.proofs.Spaces.{ranges_are}
 use Rattle.text.proofs.space.is_white_space.Goals as goal
 
-pub returns-then-code-lt133 : goal.returns-then-code-lt133
-returns-then-code-lt133 c = c.is_low_white.ensures ∙ low_is _ c.if-code-lt133.true
+pub returns-in_default : goal.returns-in_default
+unfolding in_ranges
+returns-in_default c = let e : false ≡ in_ranges c.args.code = search rules in e ∙ ranges_are c.args.code
 
-pub returns-then-is_in_a_gap : goal.returns-then-is_in_a_gap
-returns-then-is_in_a_gap c = sym (none_in_a_gap _ c.if-code-lt133.false (sym c.is_in_a_gap.ensures ∙ c.if-is_in_a_gap.true))
+pub returns-in_default-2 : goal.returns-in_default-2
+unfolding in_ranges
+returns-in_default-2 c = let e : false ≡ in_ranges c.args.code = search rules in e ∙ ranges_are c.args.code
+
+pub returns-in-9-to-13 : goal.returns-in-9-to-13
+unfolding in_ranges
+returns-in-9-to-13 c = let e : true ≡ in_ranges c.args.code = search rules in e ∙ ranges_are c.args.code
+
+pub returns-in-9-to-13-2 : goal.returns-in-9-to-13-2
+unfolding in_ranges
+returns-in-9-to-13-2 c = let e : true ≡ in_ranges c.args.code = search rules in e ∙ ranges_are c.args.code
+
+pub returns-then-code-gt12288 : goal.returns-then-code-gt12288
+unfolding in_ranges
+returns-then-code-gt12288 c = let e : false ≡ in_ranges c.args.code = search rules in e ∙ ranges_are c.args.code
+
+pub returns-in_default-matches-2 : goal.returns-in_default-matches-2
+unfolding in_ranges
+returns-in_default-matches-2 c = let e : false ≡ in_ranges c.args.code = search rules in e ∙ ranges_are c.args.code
+
+pub returns-in_default-matches-2-2 : goal.returns-in_default-matches-2-2
+unfolding in_ranges
+returns-in_default-matches-2-2 c = let e : false ≡ in_ranges c.args.code = search rules in e ∙ ranges_are c.args.code
+
+pub returns-in_default-matches-2-3 : goal.returns-in_default-matches-2-3
+unfolding in_ranges
+returns-in_default-matches-2-3 c = let e : false ≡ in_ranges c.args.code = search rules in e ∙ ranges_are c.args.code
+
+pub returns-in-133 : goal.returns-in-133
+unfolding in_ranges
+returns-in-133 c = let e : true ≡ in_ranges c.args.code = search rules in e ∙ ranges_are c.args.code
+
+pub returns-in-133-2 : goal.returns-in-133-2
+unfolding in_ranges
+returns-in-133-2 c = let e : true ≡ in_ranges c.args.code = search rules in e ∙ ranges_are c.args.code
+
+pub returns-in-133-3 : goal.returns-in-133-3
+unfolding in_ranges
+returns-in-133-3 c = let e : true ≡ in_ranges c.args.code = search rules in e ∙ ranges_are c.args.code

@@ -4,21 +4,20 @@ use native.Mathlib.Omega.{arith}
 use Prim.Native.Nat.{ℕ}
 use lib.ListN.{length-map}
 use mathlib.Core.Path.{sym, ◌∙◌}
-use borrow.Author.Tests.{not-true, not-false}
 use Rattle.tree.proofs.growing.add_frame.Goals as goal
 
 pub returns-then-not-has_room : goal.returns-then-not-has_room
 returns-then-not-has_room c =
     refused_room _ c.args.bytes.now c.args.buffer.now (sym c.has_room.ensures ∙ c.if-not-has_room.true)
 
-pub step_over-step-requires : goal.step_over-step-requires
-step_over-step-requires c =
+pub step_over-requires : goal.step_over-requires
+step_over-requires c =
     let room = room_told _ _ _ (sym c.has_room.ensures ∙ c.if-not-has_room.false) in
     (walk_sound c.args.walk (length-map c.args.walk.names (λ (x : ℕ). x) ∙ c.well_formed.0.1.1.1.0.1.0.1) room.deep, room.short)
 
-pub returns-then-not-step : goal.returns-then-not-step
-returns-then-not-step c =
-    refused_rule _ c.args.bytes.now c.args.buffer.now (sym c.has_room.ensures ∙ c.if-not-has_room.false) _ c.step_over-step.ensures (not-true _ c.if-not-step.true)
+pub returns-in_err-next : goal.returns-in_err-next
+returns-in_err-next c =
+    rw c.from_residual.ensures (refused_rule _ c.args.bytes.now c.args.buffer.now (sym c.has_room.ensures ∙ c.if-not-has_room.false) c.in_err-next.ensures)
 
 pub overflow_add-at : goal.overflow_add-at
 overflow_add-at c =
@@ -26,7 +25,7 @@ overflow_add-at c =
 
 pub returns-then-next-at : goal.returns-then-next-at
 returns-then-next-at c =
-    refused_end _ c.args.bytes.now c.args.buffer.now (sym c.has_room.ensures ∙ c.if-not-has_room.false) _ c.step_over-step.ensures (not-false _ c.if-not-step.false) (λ e. omega (arith, e, c.if-next-at.true))
+    refused_end _ c.args.bytes.now c.args.buffer.now (sym c.has_room.ensures ∙ c.if-not-has_room.false) _ c.in_ok-next.ensures (λ e. omega (arith, e, c.if-next-at.true))
 
 pub push-requires : goal.push-requires
 push-requires c =
@@ -34,4 +33,4 @@ push-requires c =
 
 pub returns : goal.returns
 returns c =
-    added _ c.args.bytes.now c.args.buffer.now (sym c.has_room.ensures ∙ c.if-not-has_room.false) _ c.step_over-step.ensures (not-false _ c.if-not-step.false) (omega (arith, c.if-next-at.false)) _ c.push.ensures.bytes
+    added _ c.args.bytes.now c.args.buffer.now (sym c.has_room.ensures ∙ c.if-not-has_room.false) _ c.in_ok-next.ensures (omega (arith, c.if-next-at.false)) _ c.push.ensures.bytes

@@ -1,17 +1,14 @@
--- `tree::walk::option_step` meets its contract: the first rule that is broken decides; an option that follows is passed.
-use Rattle.tree.proofs.Walks.{option_orphan, option_decides, step_refused, step_taken}
-use mathlib.Core.Bool.{true, false}
-use borrow.Author.Tests.{lt-ltb, le-ltb}
+-- `tree::walk::option_step` meets its contract: an option that may follow is passed.
+use Rattle.tree.proofs.Walks.{option_rule, none_more, some_more, option_more, step_refused, step_taken}
+use mathlib.Core.Path.{◌∙◌}
 use Rattle.tree.proofs.walk.option_step.Goals as goal
 
-pub returns-then-walk-eq0 : goal.returns-then-walk-eq0
-returns-then-walk-eq0 c =
-    λ image q d n l ds. step_refused _ _ _ _ c.refused.ensures (option_orphan image _ c.requires.0 q d n l ds c.if-walk-eq0.true)
-
-pub returns-then-walk-ge32 : goal.returns-then-walk-ge32
-returns-then-walk-ge32 c =
-    λ image q d n l ds. step_refused _ _ _ _ c.refused-then-walk-ge32.ensures (option_decides image _ c.requires.0 q d n l ds c.if-walk-eq0.false false (le-ltb _ _ c.if-walk-ge32.true))
+pub returns-in_err-options : goal.returns-in_err-options
+returns-in_err-options c =
+    λ image q d n l ds. c.from_residual.ensures ∙ step_refused _ _ (option_rule image _ c.requires.0 q d n l ds ∙ none_more _ _ c.in_err-options.ensures)
 
 pub returns : goal.returns
 returns c =
-    λ image q d n l ds. step_taken _ _ _ _ c.after_option.ensures (option_decides image _ c.requires.0 q d n l ds c.if-walk-eq0.false true (lt-ltb _ _ c.if-walk-ge32.false))
+    λ image q d n l ds.
+    let more = some_more c.args.walk c.args.walk.options _ c.in_ok-options.ensures in
+    step_taken _ _ _ (option_more c.args.walk c.args.size _ more.1) (option_rule image _ c.requires.0 q d n l ds ∙ more.0)

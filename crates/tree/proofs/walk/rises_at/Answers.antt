@@ -9,5 +9,5 @@ returns-then-walk-depth c =
 
 pub returns : goal.returns
 returns c =
-    compared _ _ _ _ _ c.is_less.ensures c.compare.ensures c.name_at.ensures
+    compared _ _ _ _ _ c.is_lt.ensures c.compare.ensures c.name_at.ensures
     ∙ rises_after c.args.image.now c.args.walk c.requires.1 _ _ c.if-walk-depth.false

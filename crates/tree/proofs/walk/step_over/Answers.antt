@@ -34,4 +34,4 @@ returns-in-Flag c =
 
 pub returns-in_default : goal.returns-in_default
 returns-in_default c =
-    by_nothing _ _ c.args.next.now _ _ c.frame_at.ensures c.in_default.in_default-own.keys4 c.refused.ensures
+    by_nothing _ _ c.args.next.now _ _ c.frame_at.ensures c.in_default.in_default-own.keys4 refl

@@ -1,22 +1,16 @@
 -- `words::step::is_ordinary` meets its contract.
-use Rattle.buffer.proofs.Choices.{then_is, else_is}
+use Rattle.std.proofs.Common.{arith}
+use Rattle.std.proofs.lemmas.Bool.Decides.{nat_tests}
 use Rattle.words.specs.Ordinary.{ordinary}
-use mathlib.Core.Path.{sym, ◌∙◌}
-use borrow.Author.Tests.{le-leb, lt-leb, eq-eqb, ne_eqb}
 use Rattle.words.proofs.step.is_ordinary.Goals as goal
-
-pub returns-then-byte-le32 : goal.returns-then-byte-le32
-unfolding ordinary
-returns-then-byte-le32 c = sym (then_is _ _ _ (le-leb _ _ c.if-byte-le32.true))
-
-pub returns-then-byte-ge127 : goal.returns-then-byte-ge127
-unfolding ordinary
-returns-then-byte-ge127 c = sym (else_is _ _ _ (lt-leb _ _ c.if-byte-le32.false) ∙ then_is _ _ _ (le-leb _ _ c.if-byte-ge127.true))
-
-pub returns-then-byte-eq34 : goal.returns-then-byte-eq34
-unfolding ordinary
-returns-then-byte-eq34 c = sym (else_is _ _ _ (lt-leb _ _ c.if-byte-le32.false) ∙ else_is _ _ _ (lt-leb _ _ c.if-byte-ge127.false) ∙ then_is _ _ _ (eq-eqb _ _ c.if-byte-eq34.true))
+use Rattle.words.proofs.step.is_ordinary.Goals.{in_default, in-0-to-32, in-0-to-32-2, in-0-to-32-3}
 
 pub returns : goal.returns
 unfolding ordinary
-returns c = sym (else_is _ _ _ (lt-leb _ _ c.if-byte-le32.false) ∙ else_is _ _ _ (lt-leb _ _ c.if-byte-ge127.false) ∙ else_is _ _ _ (ne_eqb _ _ c.if-byte-eq34.false))
+returns c =
+    elim c.match-matches.branch [
+      | in_default w ↦ rw w.matches-is (grind (arith, nat_tests))
+      | in-0-to-32 w ↦ rw w.matches-is (grind (arith, nat_tests))
+      | in-0-to-32-2 w ↦ rw w.matches-is (grind (arith, nat_tests))
+      | in-0-to-32-3 w ↦ rw w.matches-is (grind (arith, nat_tests))
+    ]

@@ -3,11 +3,11 @@ use Rattle.words.proofs.Runs.{reading_character, reading_on}
 use Rattle.text.proofs.Prefix.{no_character, codes_stop}
 use Rattle.text.proofs.Pieces.{character_fits}
 use native.Mathlib.Omega.{arith}
-use mathlib.Core.Path.{sym}
+use mathlib.Core.Path.{refl, sym}
 use Rattle.words.proofs.step.step_of.Goals as goal
 
 pub returns-in_default : goal.returns-in_default
-returns-in_default c = codes_stop _ _ (sym c.decode.ensures) (no_character _ c.in_default.not-Character)
+returns-in_default c = (refl, codes_stop _ _ (sym c.decode.ensures) (no_character _ c.in_default.not-Character))
 
 pub returns-in_default-role : goal.returns-in_default-role
 returns-in_default-role c =
@@ -20,9 +20,6 @@ overflow_add-at c =
 pub run_end-requires : goal.run_end-requires
 run_end-requires c =
     character_fits c.args.line.now c.args.scan.at _ _ (sym c.in-Character.ensures)
-
-pub overflow_sub-result : goal.overflow_sub-result
-overflow_sub-result c = omega (arith, c.run_end.ensures.reached.onward)
 
 pub returns : goal.returns
 returns c =

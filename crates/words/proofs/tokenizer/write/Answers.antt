@@ -2,7 +2,6 @@
 use Rattle.words.proofs.Laying.{laid_start, laid_turn, laid_whole, step_room, end_room}
 use Rattle.words.proofs.Standing.{prefix_ends}
 use Rattle.words.proofs.OpenWords.{step_less, closed_least}
-use Rattle.words.proofs.Runs.{step_goes, step_stops}
 use native.Mathlib.Omega.{arith}
 use mathlib.Core.Path.{refl, ◌∙◌}
 use Rattle.words.proofs.tokenizer.write.Goals as goal
@@ -15,12 +14,12 @@ step_of-requires c = c.loop-scan-test.true
 
 pub returns-in_default : goal.returns-in_default
 returns-in_default c =
-    let e = prefix_ends c.args.line.now c.loop-scan.scan c.loop-scan.invariant.1.standing c.loop-scan-test.true (step_stops _ _ _ c.step_of.ensures c.in_default.is) in
+    let e = prefix_ends c.args.line.now c.loop-scan.scan c.loop-scan.invariant.1.standing c.loop-scan-test.true c.in_default.ensures.1 in
     absurd (omega (arith, e, c.requires.line_value, c.loop-scan-test.true))
 
 pub put-requires : goal.put-requires
 put-requires c =
-    let r = step_goes c.args.line.now c.loop-scan.scan _ _ _ c.step_of.ensures c.in-Go.is in
+    let r = c.in-Ok.ensures in
     let k = step_room c.args.line.now c.args.out.now _ c.loop-scan.scan _ _ c.loop-scan.invariant.1 r c.requires.line_in_bounds in
     let w = closed_least c.loop-scan.scan.done c.loop-scan.scan.word in
     record {
@@ -30,17 +29,17 @@ put-requires c =
 
 pub advance-scan-requires : goal.advance-scan-requires
 advance-scan-requires c =
-    let r = step_goes c.args.line.now c.loop-scan.scan _ _ _ c.step_of.ensures c.in-Go.is in
+    let r = c.in-Ok.ensures in
     (c.loop-scan.invariant.1.standing.cost, omega (arith, r.fits, c.requires.line_len_bound))
 
 pub loop-scan-smaller : goal.loop-scan-smaller
 loop-scan-smaller c =
-    let r = step_goes c.args.line.now c.loop-scan.scan _ _ _ c.step_of.ensures c.in-Go.is in
-    step_less c.args.line.now c.loop-scan.scan _ c.in-Go.role _ c.advance-scan.ensures r.some r.fits
+    let r = c.in-Ok.ensures in
+    step_less c.args.line.now c.loop-scan.scan _ c.in-Ok.step.role _ c.advance-scan.ensures r.some r.fits
 
 pub loop-scan-preserved : goal.loop-scan-preserved
 loop-scan-preserved c =
-    let r = step_goes c.args.line.now c.loop-scan.scan _ _ _ c.step_of.ensures c.in-Go.is in
+    let r = c.in-Ok.ensures in
     (c.put.auto.out ∙ c.loop-scan.invariant.0, rw (c.advance-scan.ensures, c.put.ensures) (laid_turn _ _ _ _ _ _ c.loop-scan.invariant.1 r c.requires.line_in_bounds))
 
 pub end_word-requires : goal.end_word-requires

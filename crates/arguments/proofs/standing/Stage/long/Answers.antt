@@ -1,6 +1,7 @@
 -- `arguments::standing::Stage::long` meets its contract: the key and the value are parts of the words, and the lookup tells what the key means.
 use Prim.Native.Nat.{◌+◌, ◌-◌, ◌≤◌}
-use mathlib.Core.Path.{refl, sym}
+use Rattle.std.specs.Prelude.{Some}
+use mathlib.Core.Path.{refl, sym, ap, ◌∙◌}
 use lib.ListN.{length, take, drop}
 use lib.Seq.{length-take-le}
 use Rattle.buffer.specs.Numbers.{Bytes}
@@ -13,53 +14,53 @@ use Rattle.arguments.proofs.standing.Stage.long.Goals as goal
 
 pub slice_bounds-option_of-end : goal.slice_bounds-option_of-end
 slice_bounds-option_of-end c =
-    sym (length-take-le _ (take (c.args.end - c.args.start) (drop c.args.start c.args.words.now)) c.before_equals-equals.ensures.1)
+    sym (length-take-le _ (take (c.args.end - c.args.start) (drop c.args.start c.args.node.words.now)) c.before_equals-equals.ensures.1)
 
 pub returns-in_default : goal.returns-in_default
 returns-in_default c = (
   λ w.
-      long_valued_unknown c.args.words.now c.args.image.now (held c.args.options.now c.args.flags.now c.args.self) _ (definitions_at c.args.image.now c.args.from) w (take (c.args.end - c.args.start) (drop c.args.start c.args.words.now)) c.args.start _ c.before_equals-equals.ensures.0 _ (c.at.ensures.0 _ _ _ _) c.if-equals-name.true (no_option _ c.args.image.now c.args.from (sym c.in_default.ensures)) (piece_front c.args.words.now c.args.start c.args.end c.requires.1 c.requires.2 _ c.before_equals-equals.ensures.1) (λ rest. refl),
-  fit_as _ _ _ c.at.ensures.1 c.requires.3,
-  fit_as _ _ _ c.at.ensures.2 c.requires.4,
+      long_valued_unknown c.args.node.words.now c.args.node.image.now (held c.args.options.now c.args.flags.now c.args.self) _ (definitions_at c.args.node.image.now c.args.node.from) w (take (c.args.end - c.args.start) (drop c.args.start c.args.node.words.now)) c.args.start _ c.before_equals-equals.ensures.0 _ (c.at.ensures.0 _ _ _ _) c.if-equals-name.true (no_option _ c.args.node.image.now c.args.node.from (sym c.in_default.ensures)) (piece_front c.args.node.words.now c.args.start c.args.end c.requires.0 c.requires.1 _ c.before_equals-equals.ensures.1) (λ rest. refl),
+  fit_as _ _ _ c.at.ensures.1 c.requires.2,
+  fit_as _ _ _ c.at.ensures.2 c.requires.3,
 )
 
 pub returns-then-equals-name : goal.returns-then-equals-name
 unfolding Bytes
 returns-then-equals-name c = (
   λ w.
-      long_valued c.args.words.now c.args.image.now (held c.args.options.now c.args.flags.now c.args.self) _ (definitions_at c.args.image.now c.args.from) w (take (c.args.end - c.args.start) (drop c.args.start c.args.words.now)) c.args.start _ c.before_equals-equals.ensures.0 _ (c.with_option.ensures.0 _) c.if-equals-name.true (is_option_lem _ c.args.image.now c.args.from _ (λ i. (c.type_inv.image i).fits) (sym c.in-At.ensures)) (c.args.start + c.before_equals-equals.result + 1) (length (take (c.args.end - c.args.start) (drop c.args.start c.args.words.now)) - c.before_equals-equals.result - 1) (piece_front c.args.words.now c.args.start c.args.end c.requires.1 c.requires.2 _ c.before_equals-equals.ensures.1) (piece_after c.args.words.now c.args.start c.args.end c.requires.1 c.requires.2 _ c.if-equals-name.true) (λ rest. refl),
+      long_valued c.args.node.words.now c.args.node.image.now (held c.args.options.now c.args.flags.now c.args.self) _ (definitions_at c.args.node.image.now c.args.node.from) w (take (c.args.end - c.args.start) (drop c.args.start c.args.node.words.now)) c.args.start _ c.before_equals-equals.ensures.0 _ (c.with_option.ensures.0 _) c.if-equals-name.true (is_option_lem _ c.args.node.image.now c.args.node.from _ c.args.node.image_bytes (sym c.in-Some.ensures)) (c.args.start + c.before_equals-equals.result + 1) (length (take (c.args.end - c.args.start) (drop c.args.start c.args.node.words.now)) - c.before_equals-equals.result - 1) (piece_front c.args.node.words.now c.args.start c.args.end c.requires.0 c.requires.1 _ c.before_equals-equals.ensures.1) (piece_after c.args.node.words.now c.args.start c.args.end c.requires.0 c.requires.1 _ c.if-equals-name.true) (λ rest. refl),
   c.with_option.ensures.1,
-  fit_as _ _ _ c.with_option.ensures.2 c.requires.4,
+  fit_as _ _ _ c.with_option.ensures.2 c.requires.3,
 )
 
-pub returns-in-Flag : goal.returns-in-Flag
+pub returns-in-Some-Flag : goal.returns-in-Some-Flag
 unfolding Bytes
-returns-in-Flag c = (
+returns-in-Some-Flag c = (
   λ w.
-      let h : length (take (c.args.end - c.args.start) (drop c.args.start c.args.words.now)) ≤ c.before_equals-equals.result = c.if-equals-name.false in
-      let m = flag_meant (has_key (take (c.args.end - c.args.start) (drop c.args.start c.args.words.now))) c.args.image.now c.args.from _ (λ i. (c.type_inv.image i).fits) (sym c.in-Flag.ensures) in
-      long_flag c.args.words.now c.args.image.now (held c.args.options.now c.args.flags.now c.args.self) _ (definitions_at c.args.image.now c.args.from) w (take (c.args.end - c.args.start) (drop c.args.start c.args.words.now)) c.args.start _ c.before_equals-equals.ensures.0 _ (c.with_flag.ensures.0 _) _ h m.is (piece_whole c.args.words.now c.args.start c.args.end c.requires.1 c.requires.2 _ c.before_equals-equals.ensures.1 h) (λ rest. refl),
-  fit_as _ _ _ c.with_flag.ensures.2 c.requires.3,
+      let h : length (take (c.args.end - c.args.start) (drop c.args.start c.args.node.words.now)) ≤ c.before_equals-equals.result = c.if-equals-name.false in
+      let m = flag_meant (has_key (take (c.args.end - c.args.start) (drop c.args.start c.args.node.words.now))) c.args.node.image.now c.args.node.from _ c.args.node.image_bytes (sym c.in-Some-Flag.ensures ∙ ap Some c.in-Some-Flag.field-0-is) in
+      long_flag c.args.node.words.now c.args.node.image.now (held c.args.options.now c.args.flags.now c.args.self) _ (definitions_at c.args.node.image.now c.args.node.from) w (take (c.args.end - c.args.start) (drop c.args.start c.args.node.words.now)) c.args.start _ c.before_equals-equals.ensures.0 _ (c.with_flag.ensures.0 _) _ h m.is (piece_whole c.args.node.words.now c.args.start c.args.end c.requires.0 c.requires.1 _ c.before_equals-equals.ensures.1 h) (λ rest. refl),
+  fit_as _ _ _ c.with_flag.ensures.2 c.requires.2,
   c.with_flag.ensures.1,
 )
 
-pub returns-in-Option : goal.returns-in-Option
+pub returns-in-Some-Option : goal.returns-in-Some-Option
 unfolding Bytes
-returns-in-Option c = (
+returns-in-Some-Option c = (
   λ w.
-      let h : length (take (c.args.end - c.args.start) (drop c.args.start c.args.words.now)) ≤ c.before_equals-equals.result = c.if-equals-name.false in
-      let m = option_meant (has_key (take (c.args.end - c.args.start) (drop c.args.start c.args.words.now))) c.args.image.now c.args.from _ (λ i. (c.type_inv.image i).fits) (sym c.in-Option.ensures) in
-      long_option c.args.words.now c.args.image.now (held c.args.options.now c.args.flags.now c.args.self) _ (definitions_at c.args.image.now c.args.from) w (take (c.args.end - c.args.start) (drop c.args.start c.args.words.now)) c.args.start _ c.before_equals-equals.ensures.0 _ (c.at-in-Option.ensures.0 _ _ _ _) _ h m.is (piece_whole c.args.words.now c.args.start c.args.end c.requires.1 c.requires.2 _ c.before_equals-equals.ensures.1 h) (λ rest. refl),
-  fit_as _ _ _ c.at-in-Option.ensures.1 c.requires.3,
-  fit_as _ _ _ c.at-in-Option.ensures.2 c.requires.4,
+      let h : length (take (c.args.end - c.args.start) (drop c.args.start c.args.node.words.now)) ≤ c.before_equals-equals.result = c.if-equals-name.false in
+      let m = option_meant (has_key (take (c.args.end - c.args.start) (drop c.args.start c.args.node.words.now))) c.args.node.image.now c.args.node.from _ c.args.node.image_bytes (sym c.in-Some-Option.ensures ∙ ap Some c.in-Some-Option.field-0-is) in
+      long_option c.args.node.words.now c.args.node.image.now (held c.args.options.now c.args.flags.now c.args.self) _ (definitions_at c.args.node.image.now c.args.node.from) w (take (c.args.end - c.args.start) (drop c.args.start c.args.node.words.now)) c.args.start _ c.before_equals-equals.ensures.0 _ (c.at-in-Some-Option.ensures.0 _ _ _ _) _ h m.is (piece_whole c.args.node.words.now c.args.start c.args.end c.requires.0 c.requires.1 _ c.before_equals-equals.ensures.1 h) (λ rest. refl),
+  fit_as _ _ _ c.at-in-Some-Option.ensures.1 c.requires.2,
+  fit_as _ _ _ c.at-in-Some-Option.ensures.2 c.requires.3,
 )
 
-pub returns-in-Unknown : goal.returns-in-Unknown
-returns-in-Unknown c = (
+pub returns-in-None : goal.returns-in-None
+returns-in-None c = (
   λ w.
-      let h : length (take (c.args.end - c.args.start) (drop c.args.start c.args.words.now)) ≤ c.before_equals-equals.result = c.if-equals-name.false in
-      let m = nothing_meant (has_key (take (c.args.end - c.args.start) (drop c.args.start c.args.words.now))) c.args.image.now c.args.from (sym c.in-Unknown.ensures) in
-      long_unknown c.args.words.now c.args.image.now (held c.args.options.now c.args.flags.now c.args.self) _ (definitions_at c.args.image.now c.args.from) w (take (c.args.end - c.args.start) (drop c.args.start c.args.words.now)) c.args.start _ c.before_equals-equals.ensures.0 _ (c.at-in-Unknown.ensures.0 _ _ _ _) h m (piece_whole c.args.words.now c.args.start c.args.end c.requires.1 c.requires.2 _ c.before_equals-equals.ensures.1 h) (λ rest. refl),
-  fit_as _ _ _ c.at-in-Unknown.ensures.1 c.requires.3,
-  fit_as _ _ _ c.at-in-Unknown.ensures.2 c.requires.4,
+      let h : length (take (c.args.end - c.args.start) (drop c.args.start c.args.node.words.now)) ≤ c.before_equals-equals.result = c.if-equals-name.false in
+      let m = nothing_meant (has_key (take (c.args.end - c.args.start) (drop c.args.start c.args.node.words.now))) c.args.node.image.now c.args.node.from (sym c.in-None.ensures) in
+      long_unknown c.args.node.words.now c.args.node.image.now (held c.args.options.now c.args.flags.now c.args.self) _ (definitions_at c.args.node.image.now c.args.node.from) w (take (c.args.end - c.args.start) (drop c.args.start c.args.node.words.now)) c.args.start _ c.before_equals-equals.ensures.0 _ (c.at-in-None.ensures.0 _ _ _ _) h m (piece_whole c.args.node.words.now c.args.start c.args.end c.requires.0 c.requires.1 _ c.before_equals-equals.ensures.1 h) (λ rest. refl),
+  fit_as _ _ _ c.at-in-None.ensures.1 c.requires.2,
+  fit_as _ _ _ c.at-in-None.ensures.2 c.requires.3,
 )

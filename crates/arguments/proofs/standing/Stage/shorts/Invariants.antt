@@ -10,7 +10,7 @@ use Rattle.arguments.proofs.Walks.{ShortsAt}
 use Rattle.arguments.proofs.standing.Stage.shorts.Given as goal
 
 abbrev pub invariant-loop-at : goal.invariant-loop-at
-invariant-loop-at l = ((o : List ℕ) → ShortsAt l.words l.image (definitions_at l.image l.from) l.letters (held o l.initial.flags l.initial.stage) (held o l.flags l.stage) l.at) × Fit l.stage.flags l.flags × (l.stage.options ≡ l.initial.stage.options) × (l.at + well_formed_length (drop l.at l.letters) ≡ length l.letters)
+invariant-loop-at l = ((o : List ℕ) → ShortsAt l.node.words.now l.node.image.now (definitions_at l.node.image.now l.node.from) l.letters (held o l.initial.flags l.initial.stage) (held o l.flags l.stage) l.at) × Fit l.stage.flags l.flags × (l.stage.options ≡ l.initial.stage.options) × (l.at + well_formed_length (drop l.at l.letters) ≡ length l.letters)
 
 abbrev pub decreases-loop-at : goal.decreases-loop-at
 decreases-loop-at l = length l.letters - l.at

@@ -36,7 +36,7 @@ delete_key-requires c =
 pub returns-in-Nothing : goal.returns-in-Nothing
 returns-in-Nothing c =
     let good = good_parts c.args.self c.args.history c.args.slots.now c.requires.slots_value in
-    acted_alone c.args.self c.args.history c.args.slots.now c.args.prompt.now c.args.line.now c.args.screen.now _ _ c.in-Nothing.is _ _ good.1 (quiet_leaves c.args.prompt.now (state_of c.args.self c.args.history c.args.slots.now)) (quiet c.args.self c.args.history c.args.slots.now c.args.screen.now good.0)
+    rw c.answers.ensures (acted_alone c.args.self c.args.history c.args.slots.now c.args.prompt.now c.args.line.now c.args.screen.now _ _ c.in-Nothing.is _ _ good.1 (quiet_leaves c.args.prompt.now (state_of c.args.self c.args.history c.args.slots.now)) (quiet c.args.self c.args.history c.args.slots.now c.args.screen.now good.0))
 
 pub returns-in-Enter : goal.returns-in-Enter
 returns-in-Enter c =

@@ -10,7 +10,7 @@ use Rattle.editor.proofs.line.Editor.delete_key.Goals as goal
 
 pub returns-then-self-cursor : goal.returns-then-self-cursor
 returns-then-self-cursor c =
-    λ slots. delete_quiet c.args.self c.args.history slots c.args.screen.now c.requires.0 _ (omega arith)
+    λ slots. rw c.answers.ensures (delete_quiet c.args.self c.args.history slots c.args.screen.now c.requires.0 c.args.prompt.now (omega arith))
 
 pub overflow_add-cursor : goal.overflow_add-cursor
 overflow_add-cursor c =
@@ -18,12 +18,12 @@ overflow_add-cursor c =
 
 pub erase-self-requires : goal.erase-self-requires
 erase-self-requires c =
-    (moved_good c.args.self _ _ c.requires.0 (omega arith) c.moved-self.ensures, rw c.moved-self.ensures (omega arith))
+    (moved_good c.args.self _ _ c.requires.0 (omega arith) c.moved.ensures, rw c.moved.ensures (omega arith))
 
 pub redraw-requires : goal.redraw-requires
 redraw-requires c =
-    let g = good_line_lem c.args.self c.requires.0 in let n = (length_of_lem c.args.self g).1 in let t = g.short in let m = length_erased (line_of c.args.self) (c.args.self.cursor + 1) (omega arith) (omega arith) in let short : length (erased (line_of c.args.self) (c.args.self.cursor + 1)) ≤ 255 = omega arith in let f = held_fits _ (erased (line_of c.args.self) (c.args.self.cursor + 1)) _ _ _ (next_erased c.args.self _ _ c.moved-self.ensures c.erase-self.ensures) short in (f.0, f.1, c.requires.1)
+    let g = good_line_lem c.args.self c.requires.0 in let n = (length_of_lem c.args.self g).1 in let t = g.short in let m = length_erased (line_of c.args.self) (c.args.self.cursor + 1) (omega arith) (omega arith) in let short : length (erased (line_of c.args.self) (c.args.self.cursor + 1)) ≤ 255 = omega arith in let f = held_fits _ (erased (line_of c.args.self) (c.args.self.cursor + 1)) _ _ _ (next_erased c.args.self _ _ c.moved.ensures c.erase-self.ensures) short in (f.0, f.1, c.requires.1)
 
 pub returns : goal.returns
 returns c =
-    λ slots. delete_shown c.args.self c.args.history slots c.args.screen.now c.requires.0 _ _ _ c.args.prompt.now c.if-self-cursor.false (next_erased c.args.self _ _ c.moved-self.ensures c.erase-self.ensures) c.redraw.ensures
+    λ slots. delete_shown c.args.self c.args.history slots c.args.screen.now c.requires.0 _ _ _ c.args.prompt.now c.if-self-cursor.false (next_erased c.args.self _ _ c.moved.ensures c.erase-self.ensures) c.redraw.ensures

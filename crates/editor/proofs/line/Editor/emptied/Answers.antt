@@ -2,9 +2,9 @@
 use Rattle.editor.proofs.Lines.{editor}
 use Rattle.editor.specs.Line.{holding}
 use Rattle.editor.specs.declared.line.Editor.{Editor}
-use mathlib.Core.Path.{ap, ◌∙◌}
+use mathlib.Core.Path.{ap}
 use Rattle.editor.proofs.line.Editor.emptied.Goals as goal
 
 pub returns : goal.returns
 unfolding holding
-returns c = c.in_mode.ensures ∙ ap (λ (x : Editor). editor x.line x.length x.cursor c.args.self.mode x.profile) c.fresh-fresh.ensures
+returns c = ap (λ (x : Editor). editor x.line x.length x.cursor c.args.self.mode x.profile) c.fresh.ensures

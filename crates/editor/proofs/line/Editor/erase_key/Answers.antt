@@ -10,7 +10,7 @@ use Rattle.editor.proofs.line.Editor.erase_key.Goals as goal
 
 pub returns-then-self-eq0 : goal.returns-then-self-eq0
 returns-then-self-eq0 c =
-    λ slots. erase_quiet c.args.self c.args.history slots c.args.screen.now c.requires.0 _ c.if-self-eq0.true
+    λ slots. rw c.answers.ensures (erase_quiet c.args.self c.args.history slots c.args.screen.now c.requires.0 c.args.prompt.now c.if-self-eq0.true)
 
 pub redraw-requires : goal.redraw-requires
 redraw-requires c =

@@ -5,7 +5,7 @@ use Rattle.editor.proofs.line.Editor.go_to.Goals as goal
 
 pub returns-then-self-place : goal.returns-then-self-place
 returns-then-self-place c =
-    λ slots. go_quiet c.args.self c.args.history slots c.args.screen.now c.requires.0 _ c.args.place c.if-self-place.true
+    λ slots. rw c.answers.ensures (go_quiet c.args.self c.args.history slots c.args.screen.now c.requires.0 _ c.args.place c.if-self-place.true)
 
 pub redraw-requires : goal.redraw-requires
 redraw-requires c =

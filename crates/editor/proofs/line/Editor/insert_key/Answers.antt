@@ -10,7 +10,7 @@ use Rattle.editor.proofs.line.Editor.insert_key.Goals as goal
 
 pub returns-then-self-ge-LIMIT : goal.returns-then-self-ge-LIMIT
 returns-then-self-ge-LIMIT c =
-    λ slots. insert_dropped c.args.self c.args.history slots c.args.screen.now c.requires.0 _ _ (past_limit _ c.if-self-ge-LIMIT.true)
+    λ slots. rw c.answers.ensures (insert_dropped c.args.self c.args.history slots c.args.screen.now c.requires.0 c.args.prompt.now c.args.byte (past_limit _ c.if-self-ge-LIMIT.true))
 
 pub insert-self-requires : goal.insert-self-requires
 insert-self-requires c = (c.requires.0, in_limit _ c.if-self-ge-LIMIT.false)

@@ -8,6 +8,6 @@ pub returns-then-is_good_mode : goal.returns-then-is_good_mode
 unfolding good_editor
 returns-then-is_good_mode c = c.is_good_line.ensures ∙ sym (then_is _ _ _ (sym c.is_good_mode.ensures ∙ c.if-is_good_mode.true))
 
-pub returns : goal.returns
+pub returns-else-is_good_mode : goal.returns-else-is_good_mode
 unfolding good_editor
-returns c = sym (else_is _ _ _ (sym c.is_good_mode.ensures ∙ c.if-is_good_mode.false))
+returns-else-is_good_mode c = c.if-is_good_mode.false ∙ sym (else_is _ _ _ (sym c.is_good_mode.ensures ∙ c.if-is_good_mode.false))

@@ -1,19 +1,18 @@
 -- `editor::line::Editor::is_good_line` meets its contract.
 use Rattle.editor.proofs.Lines.{too_long, past_end, zeros_after}
-use native.Mathlib.Omega.{arith}
-use mathlib.Core.Path.{sym}
+use mathlib.Core.Path.{◌≡◌, sym}
+use lib.ListN.{length}
 use Rattle.editor.proofs.line.Editor.is_good_line.Goals as goal
+use Rattle.editor.proofs.line.Editor.is_good_line.Goals.{then-self-gt-LIMIT-via-then-self-gt-LIMIT, then-self-gt-LIMIT-via-else-self-gt-LIMIT+then-self}
 
-pub returns-then-length-gt-LIMIT : goal.returns-then-length-gt-LIMIT
-returns-then-length-gt-LIMIT c = sym (too_long c.args.self c.if-length-gt-LIMIT.true)
-
-pub returns-then-length-self : goal.returns-then-length-self
-returns-then-length-self c = sym (past_end c.args.self c.if-length-gt-LIMIT.false c.if-length-self.true)
-
-pub slice_bounds-greatest_byte-end : goal.slice_bounds-greatest_byte-end
-slice_bounds-greatest_byte-end c =
-    omega (arith, c.well_formed.0.1.1.0.1.0.1)
+pub returns-then-self-gt-LIMIT : goal.returns-then-self-gt-LIMIT
+returns-then-self-gt-LIMIT c =
+    elim c.then-self-gt-LIMIT.branch [
+      | then-self-gt-LIMIT-via-then-self-gt-LIMIT w ↦ sym (too_long c.args.self w.if-self-gt-LIMIT.true)
+      | then-self-gt-LIMIT-via-else-self-gt-LIMIT+then-self w ↦ sym (past_end c.args.self w.if-self-gt-LIMIT.false w.if-self.true)
+    ]
 
 pub returns : goal.returns
 returns c =
-    zeros_after c.args.self _ c.well_formed.0.1.1.0.1.0.1 c.if-length-gt-LIMIT.false c.if-length-self.false c.greatest_byte.ensures
+    let whole : length c.args.self.line ≡ 255 = c.well_formed.0.1.1.0.1.0.1 in
+    zeros_after c.args.self _ c.well_formed.0.1.1.0.1.0.1 c.if-self-gt-LIMIT.false c.if-self.false (rw whole at c.greatest_byte.ensures)

@@ -8,6 +8,6 @@ pub returns-then-is_good : goal.returns-then-is_good
 unfolding good_state
 returns-then-is_good c = c.is_good-then-is_good.ensures ∙ sym (then_is _ _ _ (sym c.is_good.ensures ∙ c.if-is_good.true))
 
-pub returns : goal.returns
+pub returns-else-is_good : goal.returns-else-is_good
 unfolding good_state
-returns c = sym (else_is _ _ _ (sym c.is_good.ensures ∙ c.if-is_good.false))
+returns-else-is_good c = c.if-is_good.false ∙ sym (else_is _ _ _ (sym c.is_good.ensures ∙ c.if-is_good.false))

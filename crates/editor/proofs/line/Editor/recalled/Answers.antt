@@ -1,23 +1,21 @@
--- `editor::line::Editor::recalled` meets its contract. The first i bytes are the text's.
-use Rattle.editor.proofs.Lines.{within_limit, emptied_line, recall_end}
-use Rattle.buffer.specs.Lend.{zeros}
-use Rattle.buffer.proofs.Zeros.{length_zeros}
-use Rattle.buffer.proofs.Lending.{copy_step}
-use native.Mathlib.Omega.{arith}
+-- `editor::line::Editor::recalled` meets its contract.
+use mathlib.Core.Path.{sym}
+use lib.Seq.{length-take-le}
+use Rattle.editor.proofs.Lines.{within_limit, blank_room, text_held}
 use Rattle.editor.proofs.line.Editor.recalled.Goals as goal
 
-pub loop-i-init : goal.loop-i-init
-loop-i-init c = (omega arith, emptied_line _ _ _ c.emptied-blank.ensures)
+pub slice_bounds-line-end : goal.slice_bounds-line-end
+slice_bounds-line-end c =
+    blank_room _ _ _ _ c.emptied.ensures (c.requires)
 
-pub bounds-line-i : goal.bounds-line-i
-bounds-line-i c = let h = within_limit _ c.requires in omega arith
+pub slice_bounds-copy_from_slice-end : goal.slice_bounds-copy_from_slice-end
+slice_bounds-copy_from_slice-end c =
+    sym (length-take-le _ c.emptied.result.line (blank_room _ _ _ _ c.emptied.ensures (c.requires)))
 
-pub loop-i-preserved : goal.loop-i-preserved
-loop-i-preserved c =
-    let h = within_limit _ (c.requires) in
-    let z = length_zeros 255 in
-    (omega arith, rw c.loop-i.invariant.1 (copy_step c.args.text.now (zeros 255) c.loop-i.i (omega arith) (omega arith)))
+pub copy_from_slice-requires : goal.copy_from_slice-requires
+copy_from_slice-requires c =
+    length-take-le _ c.emptied.result.line (blank_room _ _ _ _ c.emptied.ensures (c.requires))
 
 pub returns : goal.returns
 returns c =
-    recall_end c.args.text.now c.loop-i.line c.loop-i.i _ _ (within_limit _ (c.requires)) (omega arith) c.loop-i.invariant.1
+    text_held _ c.args.text.now _ _ _ (within_limit _ (c.requires)) c.emptied.ensures c.copy_from_slice.ensures.after

@@ -19,4 +19,4 @@ push-requires c =
 
 pub returns : goal.returns
 returns c =
-    save_written c.args.self _ _ _ c.args.out.now _ _ _ c.args.at _ _ _ c.mode_number.ensures c.profile_number.ensures c.progress_of-progress.ensures c.well_formed.0.1.1.0.1.0.1 c.requires.1 c.push-next.ensures c.push-last.ensures c.push.ensures
+    save_written c.args.self _ _ _ c.args.out.now _ _ _ c.args.at _ _ _ c.mode_number.ensures c.from.ensures c.progress_of-progress.ensures c.well_formed.0.1.1.0.1.0.1 c.requires.1 c.push-next.ensures c.push-last.ensures c.push.ensures

@@ -10,8 +10,8 @@ pub returns-then-self : goal.returns-then-self
 unfolding onward
 returns-then-self c = sym (else_is _ _ _ (le-ltb _ _ c.if-self.true))
 
-pub returns-then-self-place : goal.returns-then-self-place
-returns-then-self-place c = sym (onward_end _ c.if-self.false c.if-self-place.true)
+pub returns-then-place-self : goal.returns-then-place-self
+returns-then-place-self c = sym (onward_entry _ c.if-place-self.true)
 
-pub returns : goal.returns
-returns c = sym (onward_entry _ c.if-self-place.false)
+pub returns-else-place-self : goal.returns-else-place-self
+returns-else-place-self c = sym (onward_end _ c.if-self.false c.if-place-self.false)

@@ -9,4 +9,4 @@ push-requires c = c.requires.1
 
 pub returns : goal.returns
 returns c =
-    rw (← saved_bytes c.args.self) c.push.ensures
+    rw (← saved_bytes c.args.self _ c.requires.0.total c.to_be_bytes.ensures) c.push.ensures

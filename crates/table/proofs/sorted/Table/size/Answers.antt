@@ -3,12 +3,7 @@ use Rattle.table.proofs.TableMaps.{size_is}
 use native.Mathlib.Omega.{arith}
 use Rattle.table.proofs.sorted.Table.size.Goals as goal
 
-pub returns-then-self-lt-CAPACITY : goal.returns-then-self-lt-CAPACITY
-returns-then-self-lt-CAPACITY c =
-    let n = size_is c.args.self c.well_formed.0.1.1.1.0.1.0.1 in
-    (omega arith, omega arith)
-
-pub returns-else-self-lt-CAPACITY : goal.returns-else-self-lt-CAPACITY
-returns-else-self-lt-CAPACITY c =
+pub returns : goal.returns
+returns c =
     let n = size_is c.args.self c.well_formed.0.1.1.1.0.1.0.1 in
     (omega arith, omega arith)
