@@ -1,15 +1,17 @@
 -- Laws of the order by bytes, and of sameness.
-use Prim.Native.Nat.{ℕ, ◌<◌}
+use Prim.Native.Nat.{ℕ, ◌+◌, ◌<◌}
 use mathlib.Core.Path.{◌≡◌, refl, sym, ap, ◌∙◌}
 use mathlib.Core.Bool.{Bool, true, false, cond, ◌&&◌}
 use mathlib.Core.List.{List, [], ◌∷◌, ◌++◌}
 use lib.Dec.{ltb, eqb}
+use Rattle.std.specs.List.{fold, zip}
 use Rattle.std.specs.Ordering.{nat_cmp, ordering_then}
 use Rattle.std.specs.Cmp.Lexicographic.{slice_cmp, pointwise}
-use lib.ListN.{length}
+use lib.ListN.{length, drop, get_or}
 use Rattle.buffer.specs.Compare.{order, same_bytes}
 use Rattle.std.specs.declared.cmp.Ordering.{Ordering}
 use Rattle.std.specs.declared.cmp.Ordering.TheVariants.{Less, Equal, Greater}
+use Rattle.buffer.proofs.Lists.{drop_step}
 use Rattle.buffer.proofs.Choices.{then_is, else_is, true_is_not_false}
 use native.Mathlib.Nat.{le_refl}
 use native.Mathlib.Omega.{arith}
@@ -18,6 +20,16 @@ use borrow.Author.Tests.{lt-ltb, le-ltb, eq-eqb, eqb-true, ltb-true, ltb-false}
 -- two heads that do not decide are equal
 heads : (x y : ℕ) → ltb x y ≡ false → ltb y x ≡ false → x ≡ y
 heads x y p q = let h = ltb-false x y p in let k = ltb-false y x q in omega arith
+
+-- one step at a place inside both, and how the smaller byte there decides
+pub order_step : (a b : List ℕ) (i : ℕ) → i < length a → i < length b
+    → order (drop i a) (drop i b) ≡ cond (ltb (get_or a i 0) (get_or b i 0)) Less (cond (ltb (get_or b i 0) (get_or a i 0)) Greater (order (drop (i + 1) a) (drop (i + 1) b)))
+unfolding order
+order_step a b i ha hb = rw (drop_step a i 0, drop_step b i 0)
+
+module _ (a b : List ℕ) (i : ℕ) (ha : i < length a) (hb : i < length b) where
+  pub order_less : get_or a i 0 < get_or b i 0 → order (drop i a) (drop i b) ≡ Less
+  order_less h = order_step a b i ha hb ∙ then_is _ _ _ (lt-ltb _ _ h)
 
 -- the order is that of the library on lists of numbers
 pub order_cmp : (a b : List ℕ) → slice_cmp nat_cmp a b ≡ order a b
@@ -49,6 +61,23 @@ same_pointwise (x ∷ a) (y ∷ b) = by (eqb x y) (same_pointwise a b)
     by : (t : Bool) → pointwise eqb a b ≡ same_bytes a b → (t && pointwise eqb a b) ≡ cond t (same_bytes a b) false
     by true e = e
     by false e = refl
+
+-- and that of two texts of one length is a fold over their pairs, without an early exit
+folded : (a b : List ℕ) (s : Bool) → length a ≡ length b → fold (λ (t : Bool) (p : ℕ × ℕ). t && eqb p.0 p.1) s (zip a b) ≡ (s && same_bytes a b)
+unfolding same_bytes
+folded [] [] true h = refl
+folded [] [] false h = refl
+folded [] (y ∷ b) s h = absurd (omega arith)
+folded (x ∷ a) [] s h = absurd (omega arith)
+folded (x ∷ a) (y ∷ b) s h = folded a b (s && eqb x y) (omega arith) ∙ by s (eqb x y)
+  where
+    by : (s t : Bool) → ((s && t) && same_bytes a b) ≡ (s && cond t (same_bytes a b) false)
+    by true true = refl
+    by true false = refl
+    by false t = refl
+
+pub same_folded : (a b : List ℕ) → length a ≡ length b → fold (λ (t : Bool) (p : ℕ × ℕ). t && eqb p.0 p.1) true (zip a b) ≡ same_bytes a b
+same_folded a b h = folded a b true h
 
 -- sameness is equality
 pub same_is : (a b : List ℕ) → same_bytes a b ≡ true → a ≡ b

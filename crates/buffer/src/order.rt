@@ -18,9 +18,9 @@ pub fn same(a: &[u8], b: &[u8]) -> bool
     a == b
 }
 
-// As `same`, for long strings: many bytes are taken at a time.
+// As `same`, for long strings: by `&` and no early exit, so that the backend takes many bytes at a time.
 pub fn same_throughout(a: &[u8], b: &[u8]) -> bool
     ensures { result ≡ same_bytes a.now b.now }
 {
-    same(a, b)
+    a.len() == b.len() && a.iter().zip(b).fold(true, |same, (x, y)| same & (x == y))
 }

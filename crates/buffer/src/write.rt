@@ -7,9 +7,10 @@ pub fn copy(src: &[u8], out: &mut [u8]) -> usize
     requires { length src.now ≤ length out.old }
     ensures { Written src.now out.old result out.new }
 {
-    let n = src.len();
-    out[..n].copy_from_slice(src);
-    n
+    for (i, byte) in src.iter().enumerate() {
+        out[i] = *byte;
+    }
+    src.len()
 }
 
 // Writes src at the place `at` of out and returns the place after it.

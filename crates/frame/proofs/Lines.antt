@@ -9,8 +9,6 @@ use lib.Dec.{ltb, eqb}
 use lib.ListN.{length, take, drop, get_or, length-append}
 use lib.Seq.{take-suc, take-length, take_at, get_or_at}
 use borrow.Author.Tests.{le-ltb, lt-ltb, ne_eqb, eqb-true, eqb-false, ltb-false}
-use types.Run.{OneOf, miss}
-use denote.Enum.Declared.{tag_of}
 use Rattle.buffer.specs.Write.{over, Written, Pushed, over_if_fits}
 use Rattle.buffer.proofs.Choices.{then_is, else_is}
 use Rattle.std.specs.Cmp.Lexicographic.{pointwise}

@@ -125,7 +125,8 @@ fn flag_head(s: &[u8]) -> Head
     }
 }
 
-// The head of the first frame of s.
+// The head of the first frame of s. In line: a call would pass the answer through memory, and each caller takes it apart at once.
+#[inline(always)]
 pub fn head_of(s: &[u8]) -> Head
     ensures { result ≡ head_first s.now }
 {

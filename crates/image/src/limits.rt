@@ -100,7 +100,8 @@ fn fair_node(s: &[u8], depth: usize, texts: Lengths) -> bool
     }
 }
 
-// Whether what options and flags have in common is within its limits; p is the place of the name's length byte.
+// Whether what options and flags have in common is within its limits; p is the place of the name's length byte. In line, for each of the two.
+#[inline(always)]
 fn is_definable(s: &[u8], p: usize, short: usize, texts: Lengths) -> bool
     requires { (p ≤ 3) × Small texts }
     ensures { result ≡ defined_in s.now p short texts }

@@ -15,7 +15,7 @@ use Rattle.table.specs.Inner.{part_of}
 use Rattle.arguments.specs.Arguments.{Found}
 use Rattle.parse.specs.Commands.{Outcome, parsed, fault}
 use Rattle.parse.specs.Answer.{told_in, named_as, outcome_answer, outcome_leaves}
-use Rattle.parse.specs.Inner.{Telling, outcome_by, outcome_in, number_of, dashes_of, text_of}
+use Rattle.parse.specs.Inner.{Telling, outcome_by, outcome_in, fault_number, fault_dashes, fault_text}
 use Rattle.parse.specs.declared.judging.Judged.{Judged}
 use Rattle.frame.specs.Series.{texts_in}
 use Rattle.tree.specs.Trails.{image_part}
@@ -27,7 +27,7 @@ use Rattle.parse.specs.declared.judging.Fault.TheVariants.{NoWords, UnknownComma
 
 -- WHAT WAS JUDGED is told in its parts: a fault, or a report
 module _ (words part : List ℕ) (path : List (List ℕ)) (found : Found) where
-  fault_told : (f : Fault) → fault (number_of f) (dashed (dashes_of f) (text_of words part f)) ≡ outcome_by words part path found (Err f)
+  fault_told : (f : Fault) → fault (fault_number f) (dashed (fault_dashes f) (fault_text words part f)) ≡ outcome_by words part path found (Err f)
   unfolding dashed
   fault_told NoWords = refl
   fault_told (UnknownCommand word) = refl
@@ -45,12 +45,12 @@ module _ (words image rest : List ℕ) (j : Judged) where
   abbrev found : Found
   found = found_of words part rest j.scan
 
-  pub fault_in : (f : Fault) (dashes : ℕ) (text : List ℕ) → j.verdict ≡ Err f → dashes ≡ dashes_of f → text ≡ text_of words part f
-      → fault (number_of f) (dashed dashes text) ≡ outcome_in words image rest j
+  pub fault_in : (f : Fault) (dashes : ℕ) (text : List ℕ) → j.verdict ≡ Err f → dashes ≡ fault_dashes f → text ≡ fault_text words part f
+      → fault (fault_number f) (dashed dashes text) ≡ outcome_in words image rest j
   unfolding outcome_in
   fault_in f dashes text v d t =
-      ap (λ (n : ℕ). fault (number_of f) (dashed n text)) d
-      ∙ ap (λ (s : List ℕ). fault (number_of f) (dashed (dashes_of f) s)) t
+      ap (λ (n : ℕ). fault (fault_number f) (dashed n text)) d
+      ∙ ap (λ (s : List ℕ). fault (fault_number f) (dashed (fault_dashes f) s)) t
       ∙ fault_told words part path found f
       ∙ sym (ap (outcome_by words part path found) v)
 
@@ -62,7 +62,7 @@ module _ (words image rest : List ℕ) (j : Judged) where
 part_short : (s : List ℕ) (start n : ℕ) → length (part_of s start n) ≤ length s
 part_short s start n = rw (length-take, length-drop) (omega arith)
 
-pub text_short : (words part : List ℕ) (f : Fault) → length words ≤ 32768 → length part ≤ 32768 → length (text_of words part f) ≤ 32768
+pub text_short : (words part : List ℕ) (f : Fault) → length words ≤ 32768 → length part ≤ 32768 → length (fault_text words part f) ≤ 32768
 text_short words part NoWords h g = omega arith
 text_short words part (UnknownCommand word) h g = let k = part_short words word.start word.length in omega arith
 text_short words part (UnknownOption told) h g = let k = part_short words told.start told.length in omega arith

@@ -1,5 +1,5 @@
 -- What only contracts of inner calls cite. How the code holds what a line says: a verdict, the command's place in the image and in the words, and the scan.
-use Rattle.std.specs.Prelude.{ℕ, ◌*◌, ◌≤◌, ◌≡◌, List, length, take, drop, Ok, Err, Result, ⊤, Option}
+use Rattle.std.specs.Prelude.{ℕ, ◌*◌, ◌≤◌, ◌≡◌, List, [], length, take, drop, Ok, Err, Result, ⊤, Option}
 use Rattle.std.proofs.Math.Option.{Option as Maybe, none, some}
 use Rattle.frame.specs.Limits.{line_limit, frames_limit}
 use Rattle.frame.specs.Series.{texts_in, AllFrames}
@@ -45,26 +45,39 @@ outcome_in words image rest j =
     outcome_by words (image_part image j.place) (texts_in (take j.place.at words)) (found_of words (image_part image j.place) rest j.scan) j.verdict
 
 -- the number and the text of a fault, the text in its dashes and the part after them
-abbrev pub number_of : Fault → ℕ
-number_of NoWords = 4
-number_of (UnknownCommand word) = 4
-number_of (UnknownOption told) = 5
-number_of (MissingValue told) = 6
-number_of (MissingRequired name) = 7
+abbrev pub fault_number : Fault → ℕ
+fault_number NoWords = 4
+fault_number (UnknownCommand word) = 4
+fault_number (UnknownOption told) = 5
+fault_number (MissingValue told) = 6
+fault_number (MissingRequired name) = 7
 
-abbrev pub dashes_of : Fault → ℕ
-dashes_of NoWords = 0
-dashes_of (UnknownCommand word) = 0
-dashes_of (UnknownOption told) = told.dashes
-dashes_of (MissingValue told) = told.dashes
-dashes_of (MissingRequired name) = 0
+abbrev pub fault_dashes : Fault → ℕ
+fault_dashes NoWords = 0
+fault_dashes (UnknownCommand word) = 0
+fault_dashes (UnknownOption told) = told.dashes
+fault_dashes (MissingValue told) = told.dashes
+fault_dashes (MissingRequired name) = 0
 
-abbrev pub text_of : List ℕ → List ℕ → Fault → List ℕ
-text_of words part NoWords = empty_command
-text_of words part (UnknownCommand word) = part_of words word.start word.length
-text_of words part (UnknownOption told) = part_of words told.start told.length
-text_of words part (MissingValue told) = part_of words told.start told.length
-text_of words part (MissingRequired name) = part_of part name.start name.length
+abbrev pub fault_text : List ℕ → List ℕ → Fault → List ℕ
+fault_text words part NoWords = empty_command
+fault_text words part (UnknownCommand word) = part_of words word.start word.length
+fault_text words part (UnknownOption told) = part_of words told.start told.length
+fault_text words part (MissingValue told) = part_of words told.start told.length
+fault_text words part (MissingRequired name) = part_of part name.start name.length
+
+-- the same of a verdict: where it has no fault 0, no dashes and no text
+abbrev pub number_of : Result ⊤ Fault → ℕ
+number_of (Ok u) = 0
+number_of (Err f) = fault_number f
+
+abbrev pub dashes_of : Result ⊤ Fault → ℕ
+dashes_of (Ok u) = 0
+dashes_of (Err f) = fault_dashes f
+
+abbrev pub text_of : List ℕ → List ℕ → Result ⊤ Fault → List ℕ
+text_of words part (Ok u) = []
+text_of words part (Err f) = fault_text words part f
 
 -- words parted at a place: frames before it, and from it on words as they are split
 pub record Parted (words : List ℕ) (at : ℕ) : Type 0 where

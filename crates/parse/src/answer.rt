@@ -1,7 +1,7 @@
 // Why a line has no report.
 ghost use Rattle.std.specs.Prelude.{◌≡◌, Err};
 ghost use Rattle.parse.specs.Answer.{fault_answer};
-ghost use Rattle.parse.specs.Inner.{number_of};
+ghost use Rattle.parse.specs.Inner.{fault_number};
 ghost use Rattle.parse.specs.declared.answer.ParseRefusal.TheVariants.{BadTree, NoRoom};
 
 use super::judging::Fault;
@@ -43,7 +43,7 @@ impl From<TooShort> for ParseRefusal {
 
 // The refusal of a line with a fault, whose frame was written, so many bytes.
 pub fn refusal_of(fault: Fault, length: usize) -> ParseRefusal
-    ensures { Err result ≡ fault_answer (number_of fault) length }
+    ensures { Err result ≡ fault_answer (fault_number fault) length }
 {
     match fault {
         Fault::NoWords | Fault::UnknownCommand(_) => ParseRefusal::UnknownCommand(length),

@@ -32,8 +32,8 @@ fn tell<'a>(
     let node = &image[judged.place.start..judged.place.end];
     let verdict = judged.verdict;
     if let Err(fault) = verdict {
-        let text = text_of(words, node, b"empty command", fault);
-        let length = write_fault(dashes_of(fault), text, out)?;
+        let text = text_of(words, node, b"empty command", verdict);
+        let length = write_fault(dashes_of(verdict), text, out)?;
         return Err(refusal_of(fault, length));
     }
     let length = write_report(

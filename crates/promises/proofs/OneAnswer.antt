@@ -52,6 +52,8 @@ use Rattle.rissemat.specs.Calls.{WordsCall, QuoteCall, FreshWithCall, FreshCall,
 use Rattle.tree.specs.declared.walk.Walk.{Walk}
 use Rattle.tree.specs.Growth.{Grows}
 use Rattle.tree.proofs.OneFrameMore.{one_answer as one_frame_lem}
+use Rattle.session.specs.declared.running.Printing.{Printing}
+use Rattle.session.specs.declared.running.PrintRefusal.{PrintRefusal}
 use Rattle.session.specs.Calls.{TakingLine, PressingKey, RefusingLine}
 use Rattle.session.specs.declared.standing.Session.{Session}
 use Rattle.session.specs.declared.taking.Took.{Took}
@@ -202,5 +204,5 @@ pub press_key_lem : (h : Session) (image slots : List ℕ) (byte : ℕ) (out : L
     → PressingKey h image slots byte out r l o → PressingKey h image slots byte out q l' o' → (r.answer ≡ q.answer) × (r.session ≡ q.session) × (l ≡ l') × (o ≡ o')
 press_key_lem = one_press
 
-pub refuse : (number : ℕ) (out : List ℕ) (r q : Result ℕ TooShort) (o o' : List ℕ) → RefusingLine number out r o → RefusingLine number out q o' → (r ≡ q) × (o ≡ o')
+pub refuse : (number : ℕ) (out : List ℕ) (r q : Result Printing PrintRefusal) (o o' : List ℕ) → RefusingLine number out r o → RefusingLine number out q o' → (r ≡ q) × (o ≡ o')
 refuse = one_refusal

@@ -6,13 +6,13 @@ use mathlib.Core.Bool.{true, false}
 use mathlib.Core.List.{List}
 use lib.ListN.{length}
 use Rattle.buffer.proofs.Choices.{then_is}
-use Rattle.buffer.specs.Showing.{number as shown_number, value as shown_value}
-use Rattle.buffer.specs.declared.show.TooShort.{TooShort}
 use Rattle.tree.specs.Rules.{check_tree}
 use Rattle.history.specs.Journal.{no_entries, slots_of as journal_slots}
 use Rattle.editor.specs.Answer.{good_state}
 use Rattle.keys.specs.declared.standing.Profile.{Profile}
 use Rattle.session.specs.Lines.{Standing, beginning, take_line, press_key}
+use Rattle.session.specs.declared.running.Printing.{Printing}
+use Rattle.session.specs.declared.running.PrintRefusal.{PrintRefusal}
 use Rattle.session.specs.Calls.{fresh, TakingLine, image_of, is_enter, tree_before, Laid, Kept, PressingKey, RefusingLine}
 use Rattle.session.specs.Held.{Holds}
 use Rattle.session.specs.Sizes.{key_room}
@@ -64,8 +64,8 @@ module _ (h : Session) (line image frame : List ℕ) (r : Took) (image' frame' :
       (p.read ∙ image_narrow h line image frame early w l _ _ _)
 
 -- REFUSE: 9
-pub refuse_9 : (n : ℕ) (out : List ℕ) (r : Result ℕ TooShort) (out' : List ℕ) → RefusingLine n out r out' → length out < 7 → (shown_number r ≡ 9) × (shown_value r ≡ 7) × (out' ≡ out)
-refuse_9 n out r out' p e = (ap shown_number (p.short e).0, ap shown_value (p.short e).0, (p.short e).1)
+pub refuse_9 : (n : ℕ) (out : List ℕ) (r : Result Printing PrintRefusal) (out' : List ℕ) → RefusingLine n out r out' → length out < 7 → (number r ≡ 9) × (value r ≡ 7) × (out' ≡ out)
+refuse_9 n out r out' p e = (ap number (p.short e).0, ap value (p.short e).0, (p.short e).1)
 
 -- FROM FRESH: a session that is held stays held, and each line and each key is answered as the definitions say
 pub begins : (profile : Profile) (image : List ℕ) → Holds (beginning profile) (fresh profile) image (journal_slots no_entries)

@@ -1,4 +1,6 @@
 // A line of output, gathered in memory of its own and printed at its end; and bytes put one after the other at a place of a buffer.
+use buffer::part;
+use frame::write_line;
 use std::fmt;
 use std::io::Print;
 
@@ -27,37 +29,43 @@ impl<const N: usize> Line<N> {
         let _ = rt.write_all(self.text());
     }
 
-    // Prints the line and its end, if all was put that should be and a byte is left beside the end's; a line that doesn't fit is told.
-    pub fn print(&self, rt: &impl Print, put: fmt::Result) {
-        let _ = match put {
-            Ok(()) if self.length < N.saturating_sub(1) => rt.write_all(self.text()),
-            _ => rt.write_all(b"an answer is longer than the line's buffer"),
-        };
-        let _ = rt.write_all(b"\n");
+    // Prints the line and its end by one write, if all was put that should be and a byte is left beside the end's; a line that doesn't fit is told.
+    pub fn print(&mut self, rt: &impl Print, put: fmt::Result) {
+        let end = self.length;
+        if put.is_err() || end >= N.saturating_sub(1) {
+            let _ = rt.write_all(b"an answer is longer than the line's buffer\n");
+            return;
+        }
+        self.length = put_all(b"\n", &mut self.bytes, end);
+        let _ = rt.write_all(self.text());
     }
 }
 
 impl<const N: usize> fmt::Write for Line<N> {
     fn write_str(&mut self, s: &str) -> fmt::Result {
-        for byte in s.as_bytes() {
-            if self.length >= N {
-                return Err(fmt::Error);
-            }
-            self.bytes[self.length] = *byte;
-            self.length += 1;
+        let at = self.length;
+        self.length = put_all(s.as_bytes(), &mut self.bytes, at);
+        if self.length.saturating_sub(at) < s.len() {
+            return Err(fmt::Error);
         }
         Ok(())
     }
 }
 
-// Bytes as digits in hexadecimal, two each.
+// How many bytes are put at a time.
+const PIECE: usize = 64;
+
+// Bytes as digits in hexadecimal, two each: those of house lines without their ends.
 #[derive(Clone, Copy)]
 pub struct Digits<'a>(pub &'a [u8]);
 
 impl<'a> fmt::Display for Digits<'a> {
     fn fmt<W: fmt::Write>(&self, f: &mut fmt::Formatter<W>) -> fmt::Result {
-        for byte in self.0 {
-            write!(f, "{byte:02x}")?;
+        for piece in self.0.chunks(PIECE) {
+            let mut line = [0u8; 2 * PIECE + 1];
+            let end = write_line(piece, &mut line).map_err(|_| fmt::Error)?;
+            let digits = part(&line, 0, end.saturating_sub(1));
+            f.write_str(str::from_utf8(digits).map_err(|_| fmt::Error)?)?;
         }
         Ok(())
     }
@@ -78,12 +86,10 @@ impl<'a> fmt::Display for Bytes<'a> {
 
 // Puts bytes at a place of a buffer and returns the place after them. A full buffer takes no more.
 pub fn put_all(bytes: &[u8], buffer: &mut [u8], at: usize) -> usize {
-    let mut end = at;
-    for byte in bytes {
-        if end < buffer.len() {
-            buffer[end] = *byte;
-            end += 1;
-        }
-    }
-    end
+    let Some(room) = buffer.get_mut(at..) else {
+        return at;
+    };
+    let n = bytes.len().min(room.len());
+    room[..n].copy_from_slice(&bytes[..n]);
+    at + n
 }

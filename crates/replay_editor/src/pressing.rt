@@ -18,11 +18,9 @@ fn shown(answer: Result<Pressed, KeyRefusal>) -> usize {
 
 // Writes bytes in hexadecimal, after a comma if they are not the first.
 fn write_part(rt: &impl Print, bytes: &[u8], number: usize) {
-    if number > 0 {
-        let _ = rt.write_all(b",");
-    }
     let mut part = Line::<1024>::new();
-    let _ = write!(part, "{}", Digits(bytes));
+    let comma = if number > 0 { "," } else { "" };
+    let _ = write!(part, "{comma}{}", Digits(bytes));
     part.print_part(rt);
 }
 

@@ -5,7 +5,8 @@ use buffer::{part, same};
 use keys::Profile;
 use replay::hex::read_hex;
 use replay::input::each_line;
-use replay::line::Bytes;
+use replay::line::{Bytes, Line};
+use std::fmt::Write;
 use std::io::{Input, Print};
 
 // Whether a way prints a text. An answer that fills its buffer is longer than a text that does not.
@@ -20,18 +21,25 @@ fn differing(profile: Profile, session: &[u8], text: &[u8]) -> Option<usize> {
     (1..WAYS).find(|way| !prints(*way, profile, session, text))
 }
 
+// Writes a text, by one write.
+fn write_text(rt: &impl Print, text: &[u8]) {
+    let mut line = Line::<262146>::new();
+    let put = write!(line, "{}", Bytes(text));
+    line.print(rt, put);
+}
+
 // Answers a session. What it prints has to be shorter than the buffer: what fills it may be cut, and is told.
 fn answer(rt: &impl Print, profile: Profile, session: &[u8]) {
     let mut answer = [0u8; 131072];
     let n = replay_by(0, profile, session, &mut answer);
     let text = part(&answer, 0, n);
-    let _ = if answer.len() <= n {
-        rt.write_all(b"an answer is longer than its buffer\n")
+    if answer.len() <= n {
+        let _ = rt.write_all(b"an answer is longer than its buffer\n");
     } else if let Some(way) = differing(profile, session, text) {
-        println!(rt; "differs {way}")
+        let _ = println!(rt; "differs {way}");
     } else {
-        println!(rt; "{}", Bytes(text))
-    };
+        write_text(rt, text);
+    }
 }
 
 // Answers a session's digits. A session has at most 16,384 bytes: one that is longer is told.

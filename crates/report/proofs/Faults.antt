@@ -31,6 +31,9 @@ unfolding fault_of frame_of text_of dashed
 fault_pieces dashes n text e =
     rw (number_two (length (replicate dashes 0x2D ++ text)), sym (e ∙ sym (length_dashed dashes text)))
 
+dashes_of_lem : (n m : ℕ) → n ≡ m → replicate {A = ℕ} n 0x2D ≡ replicate m 0x2D
+dashes_of_lem n m e = ap (λ (k : ℕ). replicate {A = ℕ} k 0x2D) e
+
 -- dashes in front of what stood after them
 pub dashes_written : (dashes : ℕ) (out left : List ℕ) → dashes ≤ length out → left ≡ replicate (length (take dashes out)) 0x2D
     → Written (replicate dashes 0x2D) out dashes (left ++ drop dashes out)
@@ -38,7 +41,7 @@ unfolding over
 dashes_written dashes out left h e =
     let l = length-replicate {A = ℕ} dashes 0x2D in
     let n : length (take dashes out) ≡ dashes = rw length-take (omega arith) in
-    record { count = sym l; bytes = rw (e, n, l) refl }
+    record { count = sym l; bytes = rw (e ∙ dashes_of_lem _ _ n, l) refl }
 
 -- the pieces written one after the other are the frame
 pub fault_written : (dashes n : ℕ) (text out : List ℕ) → n ≡ dashes + length text → 3 + n ≤ length out

@@ -9,11 +9,13 @@ use borrow.Rule.Slice.PartMut.{put_mid}
 use Rattle.buffer.specs.Write.{Written, Pushed}
 use Rattle.buffer.proofs.Writing.{pushed_front}
 use Rattle.frame.specs.Text.{text_of}
+use Rattle.frame.specs.Framed.{frame_of}
+use Rattle.frame.proofs.Frames.{length_frame_of}
 use Rattle.frame.specs.Series.{runs}
 use Rattle.table.specs.Inner.{key_of, value_of, entries, map_of, size_of}
 use Rattle.table.specs.declared.sorted.Table.{Table}
 use Rattle.table.proofs.TableMaps.{at_place, at_end}
-use Rattle.report.specs.Report.{option_frame}
+use Rattle.report.specs.Report.{option_frame, flag_frame}
 use Rattle.report.specs.Pairs.{Short}
 use Rattle.report.proofs.Ahead.{Ahead, ahead_room, ahead_lent, ahead_turn, ahead_first, runs_more, runs_none, count_turn}
 
@@ -23,6 +25,14 @@ pub option_kind : (k v out : List ℕ) (r : ℕ) (left : List ℕ) → length (o
 unfolding option_frame
 option_kind k v out r left fits p =
     ahead_first (option_frame (k, v)) out fits (0x12 ∷ []) (text_of 2 k ++ text_of 2 v) r left refl (pushed_front (0x12 ∷ []) out left r p)
+
+length_flag : (k v : List ℕ) → length (flag_frame (k, v)) ≡ 3 + length k
+unfolding flag_frame
+length_flag k v = length_frame_of 0x13 k
+
+-- a flag's frame has its key alone, and is as long for any kind
+pub flag_any : (k v out : List ℕ) → length (flag_frame (k, v)) ≤ length out → (kind : ℕ) → length (frame_of kind k) ≤ length out
+flag_any k v out h kind = let l = length_flag k v in let m = length_frame_of kind k in omega arith
 
 -- an entry has 16 bits for the length of its key and 13 for that of its value
 module _ (words image : List ℕ) (e : ℕ) where

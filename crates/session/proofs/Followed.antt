@@ -29,7 +29,6 @@ use Rattle.session.specs.Prints.{prompt, turn_prints, key_prints, turn_ends, key
 use Rattle.session.specs.Lines.{Form, tree, keys, formless, form_of, form_by, line_form, Standing, with_image, with_keys as keyed_now, Taking, grown, pressing, refused, take_form, take_line}
 use Rattle.session.specs.Calls.{with_walk, with_keys, refusing, took_by, image_by, TakingLine, image_of, is_enter, tree_before, Kept, PressingKey, RefusingLine}
 use Rattle.session.specs.Sizes.{key_room}
-use Rattle.buffer.specs.declared.show.TooShort.{TooShort}
 use Rattle.session.specs.declared.running.Printing.{Printing}
 use Rattle.session.specs.declared.running.PrintRefusal.{PrintRefusal}
 use Rattle.session.specs.declared.running.PrintRefusal.TheVariants.{BadTree, BadState, NoRoom}
@@ -177,12 +176,12 @@ pub one_line : (h : Session) (line image frame : List ℕ) (r q : Took) (i f i' 
     → (r ≡ q) × (i ≡ i') × (f ≡ f')
 one_line h line image frame r q i f i' f' a b = (a.answer ∙ sym b.answer, a.built ∙ sym b.built, a.read ∙ sym b.read)
 
-pub one_refusal : (number : ℕ) (out : List ℕ) (r q : Result ℕ TooShort) (o o' : List ℕ) → RefusingLine number out r o → RefusingLine number out q o' → (r ≡ q) × (o ≡ o')
+pub one_refusal : (number : ℕ) (out : List ℕ) (r q : Result Printing PrintRefusal) (o o' : List ℕ) → RefusingLine number out r o → RefusingLine number out q o' → (r ≡ q) × (o ≡ o')
 one_refusal number out r q o o' a b = by (ltb (length out) 7) refl
   where
     by : (t : Bool) → ltb (length out) 7 ≡ t → (r ≡ q) × (o ≡ o')
     by true e = let x = a.short (ltb-true _ _ e) in let y = b.short (ltb-true _ _ e) in (x.0 ∙ sym y.0, x.1 ∙ sym y.1)
-    by false e = let x = a.told (ltb-false _ _ e) in let y = b.told (ltb-false _ _ e) in (x.0 ∙ sym y.0, x.1 ∙ sym y.1)
+    by false e = let x = a.told (ltb-false _ _ e) in let y = b.told (ltb-false _ _ e) in (x.answer ∙ sym y.answer, x.bytes ∙ sym y.bytes)
 
 module _ (h : Session) (image slots : List ℕ) (byte : ℕ) (out : List ℕ) (r q : Pressing) (l o l' o' : List ℕ)
     (a : PressingKey h image slots byte out r l o) (b : PressingKey h image slots byte out q l' o') where

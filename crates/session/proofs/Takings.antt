@@ -16,7 +16,6 @@ use Rattle.frame.specs.House.{ends_in_lF, digits_of, read_digits, read_house, ho
 use Rattle.frame.specs.declared.house.HouseRefusal.{HouseRefusal}
 use Rattle.frame.specs.declared.house.HouseRefusal.TheVariants.{Unended, Empty, TooLong, Odd, NoDigit, Short}
 use Rattle.frame.proofs.Lines.{house_told, line_count}
-use Rattle.image.specs.Reading.{read_first}
 use Rattle.tree.specs.declared.walk.Walk.{Walk}
 use Rattle.tree.proofs.Walks.{none_taken, one_taken}
 use Rattle.tree.specs.Growth.{admits, Grows}

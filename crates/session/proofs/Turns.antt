@@ -43,7 +43,7 @@ use Rattle.session.specs.Calls.{with_state, with_key, image_of, turn_in, tree_be
 use Rattle.session.specs.Sizes.{key_room}
 use Rattle.session.specs.declared.running.Printing.{Printing}
 use Rattle.session.specs.declared.running.PrintRefusal.{PrintRefusal}
-use Rattle.session.specs.declared.running.Printing.TheVariants.{Goes}
+use Rattle.session.specs.declared.running.Printing.TheVariants.{Goes, Ends}
 use Rattle.session.specs.declared.running.PrintRefusal.TheVariants.{BadTree, BadState, NoRoom}
 use Rattle.session.specs.declared.standing.Session.{Session}
 use Rattle.session.proofs.Printings.{line_alone, lines_both, shown_some}
@@ -299,7 +299,12 @@ bad_size : (number : ℕ) → length (house_line (frame_of (bad_line number))) �
 unfolding frame_of wide
 bad_size number = let l = length_house_line (frame_of (bad_line number)) in omega arith
 
-pub refusal_told : (number : ℕ) (out left : List ℕ) (r : Result ℕ TooShort) → HouseWritten (frame_of (bad_line number)) out r left → RefusingLine number out r left
+-- what it answers, by what writing its line does
+abbrev pub as_last : Result ℕ TooShort → Result Printing PrintRefusal
+as_last (Ok n) = Ok (Ends n)
+as_last (Err short) = Err (NoRoom short.needed)
+
+pub refusal_told : (number : ℕ) (out left : List ℕ) (r : Result ℕ TooShort) → HouseWritten (frame_of (bad_line number)) out r left → RefusingLine number out (as_last r) left
 unfolding write_house over_if_fits
 refusal_told number out left r w =
     let size : length (house_line (frame_of (bad_line number))) ≡ 7 = bad_size number in
@@ -307,8 +312,11 @@ refusal_told number out left r w =
     record {
       short = λ l.
           let lacks : ltb (length out) (length (house_line (frame_of (bad_line number)))) ≡ true = lt-ltb _ _ (omega arith) in
-          (w.answer ∙ then_is _ _ _ lacks ∙ ap (λ (n : ℕ). Err (record { needed = n })) size, w.bytes ∙ then_is _ _ _ lacks);
+          (ap as_last (w.answer ∙ then_is _ _ _ lacks) ∙ ap (λ (n : ℕ). Err (NoRoom n)) size, w.bytes ∙ then_is _ _ _ lacks);
       told = λ m.
           let fits : ltb (length out) (length (house_line (frame_of (bad_line number)))) ≡ false = le-ltb _ _ (omega arith) in
-          (w.answer ∙ else_is _ _ _ fits ∙ ap (λ (x : List ℕ). Ok (length x)) (sym alone), w.bytes ∙ else_is _ _ _ fits ∙ ap (λ (x : List ℕ). over x out) (sym alone));
+          record {
+            answer = ap as_last (w.answer ∙ else_is _ _ _ fits) ∙ ap (λ (x : List ℕ). Ok (Ends (length x))) (sym alone);
+            bytes = w.bytes ∙ else_is _ _ _ fits ∙ ap (λ (x : List ℕ). over x out) (sym alone);
+          };
     }

@@ -1,7 +1,6 @@
 -- What the calls of a session answer and leave, by the parts in which the code holds one (STANDARD 2.3, 10.19, 11.12).
 use Rattle.std.specs.Prelude.{ℕ, ◌+◌, ◌≤◌, ◌<◌, ◌≡◌, Bool, true, false, cond, List, [], ◌∷◌, eqb, ltb, length, take, Ok, Err, Result, ⊤}
 use Rattle.buffer.specs.Write.{over, over_at}
-use Rattle.buffer.specs.declared.show.TooShort.{TooShort}
 use Rattle.frame.specs.House.{house_leaves}
 use Rattle.image.specs.Frames.{Frame}
 use Rattle.image.specs.Reading.{read_first}
@@ -126,6 +125,6 @@ pub record PressingKey (h : Session) (image slots : List ℕ) (byte : ℕ) (out 
       → Prints h (frames_of (image_of h image)) (turn_in h slots byte) out r slots' out'
 
 -- the 2F of a line, which is the last that is printed (10.19)
-pub record RefusingLine (number : ℕ) (out : List ℕ) (r : Result ℕ TooShort) (out' : List ℕ) : Type 0 where
-  pub short : length out < 7 → (r ≡ Err (record { needed = 7 })) × (out' ≡ out)
-  pub told : 7 ≤ length out → (r ≡ Ok (length (lines_of (bad_line number ∷ [])))) × (out' ≡ over (lines_of (bad_line number ∷ [])) out)
+pub record RefusingLine (number : ℕ) (out : List ℕ) (r : Result Printing PrintRefusal) (out' : List ℕ) : Type 0 where
+  pub short : length out < 7 → (r ≡ Err (NoRoom 7)) × (out' ≡ out)
+  pub told : 7 ≤ length out → Laid (bad_line number ∷ []) true out r out'

@@ -11,7 +11,7 @@ ghost use Rattle.session.specs.Sizes.{screen_room, key_room};
 use super::printing::{head, print, print_screen};
 use super::running::{PrintRefusal, Printing, run_line};
 use super::standing::Session;
-use buffer::{TooShort, part};
+use buffer::part;
 use editor::{Editor, KeyAnswer, KeyRefusal, Pressed};
 use frame::write_line;
 use tree::{BadFrame, check_tree};
@@ -155,8 +155,11 @@ pub fn press(session: Session, image: &[u8], slots: &mut [u8], byte: u8, out: &m
 }
 
 // Prints what a line that is refused prints, by its number: it is the last.
-pub fn refuse(number: usize, out: &mut [u8]) -> Result<usize, TooShort>
+pub fn refuse(number: usize, out: &mut [u8]) -> Result<Printing, PrintRefusal>
     ensures { RefusingLine number out.old result out.new }
 {
-    write_line(&head(0x2F, number), out)
+    match write_line(&head(0x2F, number), out) {
+        Ok(n) => Ok(Printing::Ends(n)),
+        Err(short) => Err(PrintRefusal::NoRoom(short.needed)),
+    }
 }

@@ -19,7 +19,7 @@ use Rattle.arguments.specs.Arguments.{Found}
 use Rattle.arguments.specs.Inner.{found_of}
 use Rattle.parse.specs.Commands.{parsed, parse_words}
 use Rattle.parse.specs.Answer.{told_in}
-use Rattle.parse.specs.Inner.{outcome_in, number_of, dashes_of, text_of}
+use Rattle.parse.specs.Inner.{outcome_in, fault_number, fault_dashes, fault_text}
 use Rattle.parse.specs.declared.judging.Fault.{Fault}
 use Rattle.parse.specs.declared.judging.Fault.TheVariants.{NoWords, UnknownCommand, UnknownOption, MissingValue, MissingRequired}
 use Rattle.parse.specs.declared.judging.Judged.{Judged}
@@ -30,7 +30,7 @@ use Rattle.std.specs.Prelude.{Some, None, Ok, Err}
 use Rattle.shell.proofs.Handlers.{execute_top}
 
 -- the message of a fault is that of its number
-error_told : (f : Fault) → error_of f ≡ fault_message (number_of f)
+error_told : (f : Fault) → error_of f ≡ fault_message (fault_number f)
 unfolding fault_message
 error_told NoWords = refl
 error_told (UnknownCommand word) = refl
@@ -39,7 +39,7 @@ error_told (MissingValue told) = refl
 error_told (MissingRequired name) = refl
 
 -- after dashes stands a part of the words
-pub dashed_short : (words part : List ℕ) (f : Fault) → (dashes_of f ≡ 0 → ⊥) → length (text_of words part f) ≤ length words
+pub dashed_short : (words part : List ℕ) (f : Fault) → (fault_dashes f ≡ 0 → ⊥) → length (fault_text words part f) ≤ length words
 dashed_short words part NoWords k = absurd (k refl)
 dashed_short words part (UnknownCommand word) k = absurd (k refl)
 dashed_short words part (UnknownOption told) k = rw (length-take, length-drop) (omega arith)
@@ -58,12 +58,12 @@ module _ (words image rest : List ℕ) (j : Judged) (handler : ℕ) where
 
   -- A FAULT
   module _ (f : Fault) (v : j.verdict ≡ Err f) (number dashes : ℕ) (told : ParseError) (t : List ℕ)
-      (n : number ≡ number_of f) (d : dashes ≡ dashes_of f) (e : t ≡ text_of words part f) (m : told ≡ error_of f) where
+      (n : number ≡ fault_number f) (d : dashes ≡ fault_dashes f) (e : t ≡ fault_text words part f) (m : told ≡ error_of f) where
     pub fault_carried : text number (message told (dashed dashes t)) ≡ carried handler (outcome_in words image rest j)
     unfolding carried
     fault_carried =
         ap (λ (x : ParseError). text number (message x (dashed dashes t))) (m ∙ error_told f)
-        ∙ ap (λ (x : ℕ). text x (message (fault_message (number_of f)) (dashed dashes t))) n
+        ∙ ap (λ (x : ℕ). text x (message (fault_message (fault_number f)) (dashed dashes t))) n
         ∙ ap (carried handler) (fault_in words image rest j f dashes t v d e)
 
     -- without dashes

@@ -37,10 +37,10 @@ fn tell_fault<'a>(
     ensures { FaultTold words.now image.now judged out.old result out.new }
 {
     let told = error_of(fault);
-    let number = number_of(fault);
-    let dashes = dashes_of(fault);
+    let number = number_of(Err(fault));
+    let dashes = dashes_of(Err(fault));
     let node = &image[judged.place.start..judged.place.end];
-    let text = text_of(words, node, b"empty command", fault);
+    let text = text_of(words, node, b"empty command", Err(fault));
     if dashes == 0 {
         let length = show_message(told, text, out)?;
         return Ok(Ran::Text { number, length });

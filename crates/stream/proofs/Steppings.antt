@@ -1,6 +1,4 @@
 -- A step over a piece: bytes taken line after line, until the piece is taken, there is no room, or keys wait.
-use Rattle.std.specs.Prelude.{Ok, Result, IsOk}
-use Rattle.std.proofs.Common.{rules}
 use Prim.Native.Nat.{ℕ, ◌+◌, ◌-◌, ◌≤◌, ◌<◌}
 use mathlib.Core.Path.{◌≡◌, refl, sym, ap, ◌∙◌}
 use mathlib.Core.Bool.{Bool, true, false, cond}
@@ -15,9 +13,8 @@ use Rattle.buffer.proofs.Choices.{then_is, else_is, true_is_not_false}
 use Rattle.buffer.proofs.Lending.{length_over_at, over_at_front, over_at_nothing}
 use Rattle.frame.specs.House.{ends_in_lF}
 use Rattle.session.specs.Prints.{Printed, bad_line, lines_of}
-use Rattle.session.specs.Calls.{RefusingLine}
 use Rattle.session.specs.Sizes.{key_room}
-use Rattle.buffer.specs.declared.show.TooShort.{TooShort}
+use Rattle.buffer.specs.Write.{Written}
 use Rattle.stream.specs.Bytes.{line_room}
 use Rattle.stream.specs.Moves.{Stand, reads, waits, closed, Move, size, line_move, Went, stays, printed, take_some, resume, step_by, press_some}
 use Rattle.stream.specs.Held.{reading, busy_with, standing_of, keys_of, stand_of, Ready, Sound, Stepped, last_of, Finished}
@@ -294,17 +291,12 @@ module _ (s : Stream) (out : List ℕ) where
   unfolding last_of
   last_none e h = nothing_more (else_is _ _ _ e ∙ then_is _ _ _ (eq-eqb s.held 0 h))
 
-  module _ (room : 7 ≤ length out) (r : Result ℕ TooShort) (out' : List ℕ) (p : RefusingLine (s.session.lines + 1) out r out') where
-    pub last_ok : IsOk r
-    last_ok = rw (p.told room).0 (search rules)
-
-    pub last_bad : busy_with s ≡ false → (s.held ≡ 0 → ⊥) → (n : ℕ) → r ≡ Ok n → Finished (last_of s) out n out'
+  module _ (n : ℕ) (out' : List ℕ) (p : Written (lines_of (bad_line (s.session.lines + 1) ∷ [])) out n out') where
+    pub last_bad : busy_with s ≡ false → (s.held ≡ 0 → ⊥) → Finished (last_of s) out n out'
     unfolding last_of
-    last_bad e h n q =
-        let told = sym q ∙ (p.told room).0 in
-        let count : n ≡ size (bad_line (s.session.lines + 1) ∷ []) = cc in
+    last_bad e h =
         rw (else_is (busy_with s) [] (cond (eqb s.held 0) [] (bad_line (s.session.lines + 1) ∷ [])) e ∙ else_is _ _ _ (ne_eqb s.held 0 h))
-        (record { printed = count; bytes = (p.told room).1 })
+        (record { printed = p.count; bytes = p.bytes })
 
 -- no second answer: what a step took, printed and left of its buffer, and where the stream stands then
 pub one_step : (w : Went) (piece out : List ℕ) (r q : Step) (l i s o l' i' s' o' : List ℕ) → Stepped w piece out r l i s o → Stepped w piece out q l' i' s' o'

@@ -1,6 +1,4 @@
 -- A whole line given to the session: each thing that a line can be is the move that the definition makes of it.
-use Rattle.std.specs.Prelude.{Ok, Result, IsOk}
-use Rattle.std.proofs.Common.{rules}
 use Prim.Native.Nat.{ℕ, ◌+◌, ◌-◌, ◌≤◌, ◌<◌}
 use mathlib.Core.Path.{◌≡◌, refl, sym, ap, ◌∙◌}
 use mathlib.Core.List.{List, [], ◌∷◌}
@@ -14,8 +12,7 @@ use Rattle.buffer.specs.Write.{over, over_at, Written}
 use Rattle.buffer.proofs.Lending.{rest_lent, rest_written, length_over, over_at_nothing}
 use Rattle.session.specs.Prints.{bad_line, lines_of}
 use Rattle.session.specs.Lines.{Standing, Taking, grown, pressing, refused, take_line}
-use Rattle.session.specs.Calls.{RefusingLine}
-use Rattle.buffer.specs.declared.show.TooShort.{TooShort}
+use Rattle.buffer.specs.Write.{Written}
 use Rattle.session.specs.declared.standing.Session.{Session}
 use Rattle.session.specs.declared.taking.Taken.TheVariants.{Tree, Keys, BadLine}
 use Rattle.session.specs.declared.taking.Took.{Took}
@@ -32,26 +29,20 @@ use Rattle.stream.proofs.Making.{written_fits}
 use Rattle.stream.proofs.Standings.{holds_standing, holds_own, stands_stopped, stands_settled, sound_stopped, sound_settled}
 
 -- the 2F of a line, where the rest of a buffer is lent
-module _ (h : Session) (number : ℕ) (out : List ℕ) (at : ℕ) (room : at + 7 ≤ length out) (r : Result ℕ TooShort) (e : List ℕ)
-    (p : RefusingLine number (take (length out - at) (drop at out)) r e) where
-  lent : 7 ≤ length (take (length out - at) (drop at out))
-  lent = rw (rest_lent out at) (rw (length-drop at out) (omega arith))
+pub room_lent : (out : List ℕ) (at : ℕ) → at + 7 ≤ length out → 7 ≤ length (take (length out - at) (drop at out))
+room_lent out at room = rw (rest_lent out at) (rw (length-drop at out) (omega arith))
 
-  ends_so : (n : ℕ) → r ≡ Ok n → size (bad_line number ∷ []) ≡ n
-  ends_so n q = let k = sym (p.told lent).0 ∙ q in cc
-
+module _ (h : Session) (number : ℕ) (out : List ℕ) (at : ℕ) (room : at + 7 ≤ length out) (n : ℕ) (e : List ℕ)
+    (p : Written (lines_of (bad_line number ∷ [])) (take (length out - at) (drop at out)) n e) where
   bytes : put_mid at (length out - at) out e ≡ over_at (lines_of (bad_line number ∷ [])) out at
-  bytes = rest_written _ out e at (omega arith) (p.told lent).1
+  bytes = rest_written _ out e at (omega arith) p.bytes
 
-  pub refuse_ok : IsOk r
-  refuse_ok = rw (p.told lent).0 (search rules)
-
-  module _ (back : length (put_mid at (length out - at) out e) ≡ length out) (n : ℕ) (q : r ≡ Ok n) where
+  module _ (back : length (put_mid at (length out - at) out e) ≡ length out) where
     pub refuse_fits : at + n ≤ length out
-    refuse_fits = let s = ends_so n q in let f = written_fits (lines_of (bad_line number ∷ [])) out (put_mid at (length out - at) out e) at (omega arith) bytes back in omega arith
+    refuse_fits = let s = p.count in let f = written_fits (lines_of (bad_line number ∷ [])) out (put_mid at (length out - at) out e) at (omega arith) bytes back in omega arith
 
     pub refuse_made : (s : Stream) → s ≡ stopped h → Refuses h number out at (record { stream = s; printed = at + n }) (put_mid at (length out - at) out e)
-    refuse_made s k = record { stream = k; place = ap (λ (m : ℕ). at + m) (sym (ends_so n q)); bytes = bytes; outs = back }
+    refuse_made s k = record { stream = k; place = ap (λ (m : ℕ). at + m) p.count; bytes = bytes; outs = back }
 
 -- keys put into the buffer for a line
 module _ (keys line : List ℕ) (n : ℕ) (line' : List ℕ) (w : Written keys line n line') (few : length keys ≤ 512) (whole : length line ≡ line_room) where

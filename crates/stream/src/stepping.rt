@@ -6,9 +6,9 @@ ghost use Rattle.stream.specs.Inner.{Resumed, TakesPiece};
 
 use super::pressing::press_some;
 use super::standing::{Printout, Step, Stream};
-use super::taking::take_bytes;
+use super::taking::{print_last, take_bytes};
 use buffer::rest;
-use session::{KEY_ROOM, refuse};
+use session::KEY_ROOM;
 
 // Presses the keys that wait.
 fn resume_keys(
@@ -97,5 +97,5 @@ pub fn finish(stream: Stream, out: &mut [u8]) -> usize
     if stream.is_busy() || stream.held == 0 {
         return 0;
     }
-    refuse(stream.session.lines + 1, out).unwrap()
+    print_last(stream.session.lines + 1, out)
 }

@@ -1,5 +1,7 @@
 // Bytes taken up to the end of a line, and the line given to the session.
-ghost use Rattle.std.specs.Prelude.{◌≡◌, false, ◌+◌, ◌<◌, ◌≤◌, length, take};
+ghost use Rattle.std.specs.Prelude.{◌≡◌, [], ◌∷◌, false, ◌+◌, ◌<◌, ◌≤◌, length, take};
+ghost use Rattle.buffer.specs.Write.{Written};
+ghost use Rattle.session.specs.Prints.{bad_line, lines_of};
 ghost use Rattle.session.specs.Sizes.{last_line, frame_room, key_room};
 ghost use Rattle.stream.specs.Held.{busy_with, Ready, Sound};
 ghost use Rattle.stream.specs.Inner.{PressedSome, LineRead, Refuses, LineMoved, TakesBytes};
@@ -8,7 +10,7 @@ use super::holding::hold;
 use super::pressing::press_some;
 use super::standing::{Printout, Step, Stream};
 use buffer::{copy, part, rest};
-use session::{Session, Taken, Took, refuse, take_line};
+use session::{Printing, Session, Taken, Took, refuse, take_line};
 
 // Room for the frame of a line.
 fn blank_frame() -> [u8; Session::FRAME_ROOM]
@@ -17,12 +19,23 @@ fn blank_frame() -> [u8; Session::FRAME_ROOM]
     [0; Session::FRAME_ROOM]
 }
 
-// Prints the 2F of a line at a place: it is the last that is printed.
+// Prints the 2F of a line, which is the last that is printed, and returns how many bytes that is.
+pub(super) fn print_last(number: usize, out: &mut [u8]) -> usize
+    requires { 7 ≤ length out.old }
+    ensures { Written (lines_of (bad_line number ∷ [])) out.old result out.new }
+{
+    match refuse(number, out) {
+        Ok(Printing::Ends(n)) => n,
+        _ => 0,
+    }
+}
+
+// The same at a place.
 fn refuse_at(session: Session, number: usize, out: &mut [u8], at: usize) -> Printout
     requires { at + 7 ≤ length out.old }
     ensures { Refuses session number out.old at result out.new }
 {
-    let n = refuse(number, &mut out[at..]).unwrap();
+    let n = print_last(number, &mut out[at..]);
     Printout {
         stream: Stream::stopped(session),
         printed: at + n,

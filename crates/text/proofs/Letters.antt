@@ -18,7 +18,7 @@ use Rattle.text.specs.Inner.{length_of, letter_head}
 use Rattle.text.specs.Decoding.{within, second, later, decode_two, decode_three, decode_four, table, decode_first, letter, letter_of, letter_first, codes_in, well_formed_length}
 use Rattle.text.proofs.TableRows.{two_is, two_not, three_is, three_not, three_cut, four_is, four_not, four_cut, four_cut_last, row_ascii, row_none, row_two, row_three, row_four, row_past, decode_at, decode_end}
 use Rattle.text.proofs.Encoding.{below_or_not, second_in, second_least, after_E0, after_F0, within_has}
-use Rattle.text.proofs.Spaces.{gap, none_in_a_gap}
+use Rattle.text.proofs.Spaces.{wide_gap, none_in_a_gap}
 use Rattle.text.proofs.Pieces.{character_some, character_fits}
 use Rattle.text.proofs.Prefix.{codes_stop, prefix_turn, prefix_none}
 
@@ -205,8 +205,8 @@ letter_from code h = by (ltb code 0xC0) refl h
     by true e q = absurd (true_is_not_false (sym q))
     by false e q = ltb-false code 0xC0 e
 
-letter_gap : (code : ℕ) → letter code ≡ true → gap code ≡ true
-unfolding letter gap
+letter_gap : (code : ℕ) → letter code ≡ true → wide_gap code ≡ true
+unfolding letter wide_gap
 letter_gap code h = grind (arith, tests)
 
 pub none_is_not_some : (n : ℕ) → None ≡ Some n → ⊥

@@ -46,15 +46,15 @@ same_test true false e = cc
 same_test false true e = cc
 
 -- where there is no white space past A0, but for five numbers that stand alone and two runs
-unfoldable pub gap : ℕ → Bool
-gap code = (leb 0xA1 code && ltb code 0x1680) || (leb 0x1681 code && ltb code 0x2000) || (leb 0x2060 code && ltb code 0x3000) || leb 0x3001 code
+unfoldable pub wide_gap : ℕ → Bool
+wide_gap code = (leb 0xA1 code && ltb code 0x1680) || (leb 0x1681 code && ltb code 0x2000) || (leb 0x2060 code && ltb code 0x3000) || leb 0x3001 code
 
-pub none_in_a_gap : (code : ℕ) → gap code ≡ true → is_white_space code ≡ false
-unfolding is_white_space white_space gap
-none_in_a_gap code k = among_not (λ n. not (gap n)) code white_space refl (ap not k)
+pub none_in_a_gap : (code : ℕ) → wide_gap code ≡ true → is_white_space code ≡ false
+unfolding is_white_space white_space wide_gap
+none_in_a_gap code k = among_not (λ n. not (wide_gap n)) code white_space refl (ap not k)
 
-no_range_in_a_gap : (code : ℕ) → gap code ≡ true → in_ranges code ≡ false
-unfolding gap in_ranges
+no_range_in_a_gap : (code : ℕ) → wide_gap code ≡ true → in_ranges code ≡ false
+unfolding wide_gap in_ranges
 no_range_in_a_gap code k = grind (arith, tests)
 
 -- the code points by their ranges, and in the list: from a place on, where they are few
@@ -66,11 +66,11 @@ same_from start n code h l m =
     ∙ same_test _ _ (below_passes (λ k. beq (in_ranges (start + k)) (is_white_space (start + k))) n (code - start) h (omega arith))
     ∙ ap is_white_space e
 
-apart : (code : ℕ) → gap code ≡ true → in_ranges code ≡ is_white_space code
+apart : (code : ℕ) → wide_gap code ≡ true → in_ranges code ≡ is_white_space code
 apart code k = no_range_in_a_gap code k ∙ sym (none_in_a_gap code k)
 
 pub ranges_are : (code : ℕ) → in_ranges code ≡ is_white_space code
-unfolding in_ranges is_white_space white_space among gap
+unfolding in_ranges is_white_space white_space among wide_gap
 ranges_are code =
     below 0xA1 (λ (h : code < 0xA1). same_from 0 0xA1 code refl (omega arith) h)
     (λ (h : 0xA1 ≤ code). below 0x1680 (λ (k : code < 0x1680). apart code (grind (arith, tests)))

@@ -1,15 +1,24 @@
--- `buffer::write::copy` meets its contract.
-use mathlib.Core.Path.{refl, ap}
-use mathlib.Core.List.{List, ◌++◌}
-use Prim.Native.Nat.{ℕ}
-use lib.ListN.{length, drop}
-use Rattle.buffer.specs.Write.{over}
+-- `buffer::write::copy` meets its contract. The buffer holds the bytes passed, then its old ones.
+use Rattle.buffer.proofs.Lending.{copy_step, copy_end}
+use native.Mathlib.Omega.{arith}
+use Prim.Native.Nat.{◌<◌}
+use mathlib.Core.Path.{refl, ◌∙◌}
+use lib.ListN.{length, length-set}
 use Rattle.buffer.proofs.write.copy.Goals as goal
 
+pub bounds-out-i : goal.bounds-out-i
+bounds-out-i c = omega (arith, c.requires)
+
+pub loop-i-preserved : goal.loop-i-preserved
+loop-i-preserved c =
+    let pre = c.requires in
+    let loop = c.loop-i in
+    let h : loop.i < length c.args.out.now = omega (arith, pre) in
+    (simp length-set loop.invariant.0, rw loop.invariant.1 (copy_step c.args.src.now c.args.out.now loop.i (omega arith) h))
+
 pub returns : goal.returns
-unfolding over
 returns c =
     record {
       count = refl;
-      bytes = ap (λ (s : List ℕ). s ++ drop (length c.args.src.now) c.args.out.now) c.copy_from_slice.ensures.after;
+      bytes = c.loop-i.invariant.1 ∙ copy_end c.args.src.now c.args.out.now c.loop-i.i (omega arith) (omega arith);
     }

@@ -3,7 +3,6 @@ use Rattle.std.proofs.lemmas.Result.{err_from_is_err_and}
 use Rattle.frame.proofs.Lines.{ended_some, house_told, refusal_keeps}
 use Rattle.frame.specs.House.{read_house, digits_of, house_leaves}
 use Rattle.frame.specs.Hex.{unhex}
-use native.Mathlib.Omega.{arith}
 use mathlib.Core.Path.{◌≡◌, sym, ◌∙◌}
 use Rattle.std.specs.Prelude.{Ok, Err, length}
 use Rattle.frame.proofs.house.read_line.Goals as goal

@@ -7,7 +7,7 @@ use lib.Seq.{length-take-le}
 use Rattle.tree.specs.Trails.{image_part}
 use Rattle.tree.proofs.Trails.{part_most}
 use Rattle.arguments.specs.Inner.{found_of}
-use Rattle.parse.specs.Inner.{text_of}
+use Rattle.parse.specs.Inner.{fault_text}
 use Rattle.parse.proofs.OutcomesTold.{text_short, fault_in, report_in, told_whole, untold}
 use Rattle.parse.proofs.Lines.{told_same}
 use Rattle.parse.specs.Answer.{told_in}
@@ -28,7 +28,7 @@ slice_bounds-node-end c =
 pub write_fault-requires : goal.write_fault-requires
 write_fault-requires c =
     let m = part_most c.args.image.now c.args.judged.place in
-    let t : length (text_of c.args.words.now (image_part c.args.image.now c.args.judged.place) c.in-Err.fault) ≤ 32768 = text_short c.args.words.now (image_part c.args.image.now c.args.judged.place) c.in-Err.fault (omega arith) (omega arith) in
+    let t : length (fault_text c.args.words.now (image_part c.args.image.now c.args.judged.place) c.in-Err.fault) ≤ 32768 = text_short c.args.words.now (image_part c.args.image.now c.args.judged.place) c.in-Err.fault (omega arith) (omega arith) in
     let e = ap length c.text_of-text.ensures in
     omega arith
 

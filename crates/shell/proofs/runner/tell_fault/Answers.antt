@@ -6,7 +6,7 @@ use lib.ListN.{length}
 use Rattle.tree.proofs.Trails.{part_most}
 use Rattle.tree.specs.Trails.{image_part}
 use Rattle.parse.proofs.OutcomesTold.{text_short}
-use Rattle.parse.specs.Inner.{text_of}
+use Rattle.parse.specs.Inner.{fault_text}
 use Rattle.shell.proofs.WrittenAnswers.{said_same, said_shown, unshown}
 use Rattle.shell.proofs.JudgedCarried.{dashed_short, fault_carried, plain_carried}
 use Rattle.shell.proofs.runner.tell_fault.Goals as goal
@@ -14,7 +14,7 @@ use Rattle.shell.proofs.runner.tell_fault.Goals as goal
 pub show_message-requires : goal.show_message-requires
 show_message-requires c =
     let m = part_most c.args.image.now c.args.judged.place in
-    let t : length (text_of c.args.words.now (image_part c.args.image.now c.args.judged.place) c.args.fault) ≤ 32768 = text_short c.args.words.now (image_part c.args.image.now c.args.judged.place) c.args.fault (omega arith) (omega arith) in
+    let t : length (fault_text c.args.words.now (image_part c.args.image.now c.args.judged.place) c.args.fault) ≤ 32768 = text_short c.args.words.now (image_part c.args.image.now c.args.judged.place) c.args.fault (omega arith) (omega arith) in
     let e = ap length c.text_of-text.ensures in
     omega arith
 

@@ -1,5 +1,5 @@
 -- `stepping::finish` meets its contract.
-use Rattle.stream.proofs.Steppings.{last_busy, last_none, last_ok, last_bad}
+use Rattle.stream.proofs.Steppings.{last_busy, last_none, last_bad}
 use mathlib.Core.Path.{sym, ◌∙◌}
 use Rattle.std.proofs.Common.{rules}
 use Rattle.stream.proofs.stepping.finish.Goals as goal
@@ -15,10 +15,6 @@ returns-then-is_busy c =
 pub overflow_add-stream : goal.overflow_add-stream
 overflow_add-stream c = search rules
 
-pub unwrap-requires : goal.unwrap-requires
-unwrap-requires c =
-    last_ok c.args.stream _ c.requires.1 _ _ c.refuse.ensures
-
 pub returns : goal.returns
 returns c =
-    last_bad c.args.stream _ c.requires.1 _ _ c.refuse.ensures (sym c.is_busy.ensures ∙ c.if-is_busy.false) c.if-stream-eq0.false _ c.unwrap.ensures
+    last_bad c.args.stream _ _ _ c.print_last.ensures (sym c.is_busy.ensures ∙ c.if-is_busy.false) c.if-stream-eq0.false
