@@ -22,15 +22,18 @@ pub length_saved : (h : History) → length (saved_of h) ≡ saved_size
 unfolding saved_of saved_size
 length_saved h = let n = length_number 2 h.total in let a = length-append (number_bytes 2 h.total) (h.first ∷ []) in omega arith
 
--- the total's bytes as the code makes them
-pub saved_bytes : (h : History) (two : List ℕ) → h.total ≤ 65535 → two ≡ h.total / 256 % 256 ∷ h.total % 256 ∷ []
-    → h.count ∷ h.place ∷ get_or two 0 0 ∷ get_or two 1 0 ∷ h.first ∷ [] ≡ saved_of h
+-- the total's bytes, and as the code makes them
+pub saved_bytes : (h : History) → h.count ∷ h.place ∷ h.total / 256 ∷ h.total % 256 ∷ h.first ∷ [] ≡ saved_of h
 unfolding saved_of
-saved_bytes h two fits q =
+saved_bytes h = ap (λ (l : List ℕ). h.count ∷ h.place ∷ (l ++ (h.first ∷ []))) (sym (number_two h.total))
+
+pub saved_two : (h : History) (two : List ℕ) → h.total ≤ 65535 → two ≡ h.total / 256 % 256 ∷ h.total % 256 ∷ []
+    → h.count ∷ h.place ∷ get_or two 0 0 ∷ get_or two 1 0 ∷ h.first ∷ [] ≡ saved_of h
+saved_two h two fits q =
     let high : h.total / 256 % 256 ≡ h.total / 256 = omega arith in
     ap (λ (l : List ℕ). h.count ∷ h.place ∷ get_or l 0 0 ∷ get_or l 1 0 ∷ h.first ∷ []) q
     ∙ ap (λ (b : ℕ). h.count ∷ h.place ∷ b ∷ h.total % 256 ∷ h.first ∷ []) high
-    ∙ ap (λ (l : List ℕ). h.count ∷ h.place ∷ (l ++ (h.first ∷ []))) (sym (number_two h.total))
+    ∙ saved_bytes h
 
 pub saved_in_lem : (h : History) → saved_in (saved_of h) ≡ h
 unfolding saved_in saved_of

@@ -12,7 +12,6 @@ use Rattle.buffer.specs.Write.{over, over_at, Written}
 use Rattle.buffer.proofs.Lending.{rest_lent, rest_written, length_over, over_at_nothing}
 use Rattle.session.specs.Prints.{bad_line, lines_of}
 use Rattle.session.specs.Lines.{Standing, Taking, grown, pressing, refused, take_line}
-use Rattle.buffer.specs.Write.{Written}
 use Rattle.session.specs.declared.standing.Session.{Session}
 use Rattle.session.specs.declared.taking.Taken.TheVariants.{Tree, Keys, BadLine}
 use Rattle.session.specs.declared.taking.Took.{Took}

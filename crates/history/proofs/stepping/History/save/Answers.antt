@@ -1,6 +1,6 @@
 -- `history::stepping::History::save` meets its contract.
 use Rattle.history.specs.Saved.{saved_size}
-use Rattle.history.proofs.Saved.{saved_bytes}
+use Rattle.history.proofs.Saved.{saved_two}
 use Rattle.history.proofs.stepping.History.save.Goals as goal
 
 pub push-requires : goal.push-requires
@@ -9,4 +9,4 @@ push-requires c = c.requires.1
 
 pub returns : goal.returns
 returns c =
-    rw (← saved_bytes c.args.self _ c.requires.0.total c.to_be_bytes.ensures) c.push.ensures
+    rw (← saved_two c.args.self _ c.requires.0.total c.to_be_bytes.ensures) c.push.ensures
