@@ -15,10 +15,11 @@ pub struct Step {
 }
 
 // Whether a byte is an ASCII character that is taken anywhere: neither white space nor a control nor `"` nor `\`.
+#[tactic(auto, unfolding(crate::specs::Ordinary::ordinary))]
 fn is_ordinary(byte: u8) -> bool
     ensures { result ≡ ordinary byte }
 {
-    !matches!(byte, 0..=0x20 | 0x22 | 0x5C | 0x7F..)
+    (0x21..0x7F).contains(&byte) && byte != 0x22 && byte != 0x5C
 }
 
 // The length of the character at a place if it is taken anywhere, as far as its bytes show it without a decoder: an ordinary
